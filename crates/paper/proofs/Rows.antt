@@ -1,0 +1,77 @@
+-- A chain of checks gives exactly the numbers of its rows: a test that tells its row's condition gives that row, and chains follow rows.
+-- Assumes nothing.
+use Prim.Native.Nat.{ℕ, zero, suc, _<_, _≤_}
+use mathlib.Core.Path.{_≡_, refl, sym, _∙_}
+use mathlib.Core.Bool.{Bool, true, false, not, _&&_, _||_, true≢false}
+use native.Mathlib.Omega.{arith}
+use lib.Dec.{leb, ltb, eqb}
+use borrow.Author.Tests.{ltb-true, leb-true, lt-ltb, le-leb, not-true, leb-false, lt-leb}
+use Rattle.paper.specs.Checks.{refuse, _orElse_}
+use Rattle.paper.specs.Exactly.{When, _andThen_, earlier, later, Exactly}
+use Rattle.paper.specs.Limits.{Within, within, unitsMost, sizeFault, SizeJudged}
+use Rattle.paper.specs.Refusals.{outOfRange}
+use Rattle.paper.proofs.Cases.{byBool, byFault}
+use Rattle.paper.proofs.Chain.{orElse-some, orElse-none}
+
+-- a test holds exactly where the condition does
+pub record Tells (test : Bool) (Fault : Type 0) : Type 0 where
+  pub holds : test ≡ true → Fault
+  pub told : Fault → test ≡ true
+
+module _ {test : Bool} {Fault : Type 0} (tells : Tells test Fault) where
+  pub tells-false : test ≡ false → Fault → ⊥
+  tells-false e f = let both : true ≡ false = sym (tells .told f) ∙ e in absurd (true≢false both)
+
+  pub tells-not : Tells (not test) (Fault → ⊥)
+  tells-not = record { holds = λ e. tells-false (not-true test e); told = untold }
+    where
+      untold : (Fault → ⊥) → not test ≡ true
+      untold f = byBool test (λ e. absurd (f (tells .holds e))) (λ e. rw e)
+
+  pub row : (number : ℕ) → Exactly (When number Fault) (refuse test number)
+  row number = byBool test (λ e. rw e (record { judged = When.given (tells .holds e); only = given-only e })) (λ e. rw e (record { judged = When.passed (tells-false e); only = passed-only e }))
+    where
+      given-only : test ≡ true → (k : ℕ) → When number Fault k → number ≡ k
+      given-only e k (When.given f) = refl
+      given-only e k (When.passed f) = absurd (f (tells .holds e))
+
+      passed-only : test ≡ false → (k : ℕ) → When number Fault k → 0 ≡ k
+      passed-only e k (When.given f) = absurd (tells-false e f)
+      passed-only e k (When.passed f) = refl
+
+pub rows : (First Next : ℕ → Type 0) {fault next : ℕ} → Exactly First fault → Exactly Next next → Exactly (First andThen Next) (fault orElse next)
+rows First Next {fault} {next} first second =
+    record
+      { judged =
+          byFault fault
+          (λ none. rw none (later (rw none at (first .judged)) (second .judged)))
+          (λ some. rw (orElse-some fault next some) (earlier some (first .judged)))
+      ; only = only-one
+      }
+  where
+    only-one : (k : ℕ) → (First andThen Next) k → (fault orElse next) ≡ k
+    only-one k (earlier some f) = let e : fault ≡ k = first .only k f in orElse-some fault next (λ none. some (sym e ∙ none)) ∙ e
+    only-one k (later f g) = orElse-none fault next (first .only 0 f) ∙ second .only k g
+
+pub tells-lt : (a b : ℕ) → Tells (ltb a b) (a < b)
+tells-lt a b = record { holds = ltb-true a b; told = lt-ltb a b }
+
+pub tells-le : (a b : ℕ) → Tells (leb a b) (a ≤ b)
+tells-le a b = record { holds = leb-true a b; told = le-leb a b }
+
+pub tells-both : {s t : Bool} {F G : Type 0} → Tells s F → Tells t G → Tells (s && t) (F × G)
+tells-both {s} {t} f g = record { holds = λ e. (f .holds (and-left s t e), g .holds (and-right s t e)); told = λ h. rw (f .told (h .0), g .told (h .1)) }
+  where
+    and-left : (a b : Bool) → (a && b) ≡ true → a ≡ true
+    and-left true b e = refl
+    and-left false b e = e
+
+    and-right : (a b : Bool) → (a && b) ≡ true → b ≡ true
+    and-right true b e = e
+    and-right false b e = absurd (true≢false (sym e))
+
+pub tells-within : (least most number : ℕ) → Tells (within least most number) (Within least most number)
+tells-within least most number = tells-both (tells-le least number) (tells-le number most)
+
+pub size-exactly : (n : ℕ) → Exactly (SizeJudged n) (sizeFault n)
+size-exactly n = row (tells-not (tells-within 1 unitsMost n)) outOfRange

@@ -1,0 +1,5 @@
+pub mod Refusals
+pub mod Checks
+pub mod Exactly
+pub mod Limits
+pub mod Answers

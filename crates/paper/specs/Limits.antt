@@ -1,0 +1,83 @@
+-- The paper's limits and sizes, "Numbers", "List page" and "Sector image", and the range of N.
+use Prim.Native.Nat.{ℕ, _+_, _*_, _≤_}
+use mathlib.Core.Bool.{Bool, not, _&&_}
+use lib.Dec.{leb}
+use Rattle.paper.specs.Refusals.{outOfRange}
+use Rattle.paper.specs.Checks.{refuse}
+use Rattle.paper.specs.Exactly.{When}
+
+-- sectors of a drive, or units of any other space
+abbrev pub unitsMost : ℕ
+unitsMost = 16777216
+
+abbrev pub cylindersMost : ℕ
+cylindersMost = 4096
+
+abbrev pub headsMost : ℕ
+headsMost = 64
+
+-- sectors of a track
+abbrev pub sectorsLeast : ℕ
+sectorsLeast = 2
+
+abbrev pub sectorsMost : ℕ
+sectorsMost = 64
+
+-- entries of a list
+abbrev pub listMost : ℕ
+listMost = 4096
+
+-- spares of a revectored drive
+abbrev pub sparesMost : ℕ
+sparesMost = 1024
+
+-- descriptors of a table block
+abbrev pub tableBlock : ℕ
+tableBlock = 128
+
+-- data bytes of a sector
+abbrev pub dataSize : ℕ
+dataSize = 512
+
+-- header and code of a sector image, in bytes
+abbrev pub imageExtra : ℕ
+imageExtra = 18
+
+-- bytes of a page that are no entries
+abbrev pub pageFrame : ℕ
+pageFrame = 14
+
+-- bytes of an entry in a page
+abbrev pub entrySize : ℕ
+entrySize = 4
+
+-- bytes of the longest page
+abbrev pub pageMost : ℕ
+pageMost = pageFrame + entrySize * listMost
+
+-- the highest kind of a page
+abbrev pub kindMost : ℕ
+kindMost = 1
+
+-- bytes that the listing program takes
+abbrev pub listingMost : ℕ
+listingMost = 16398
+
+-- where the code of a sector starts
+abbrev pub startCode : ℕ
+startCode = 0x5a3c
+
+-- a number lies in a range, both ends included
+abbrev pub Within : ℕ → ℕ → ℕ → Type 0
+Within least most number = (least ≤ number) × (number ≤ most)
+
+abbrev pub within : ℕ → ℕ → ℕ → Bool
+within least most number = leb least number && leb number most
+
+-- N is 1 to the most units, else refusal 1
+abbrev pub sizeFault : ℕ → ℕ
+sizeFault n = refuse (not (within 1 unitsMost n)) outOfRange
+
+-- exactly when 1 is given for an N
+abbrev pub SizeJudged : ℕ → ℕ → Type 0
+SizeJudged n = When outOfRange (Within 1 unitsMost n → ⊥)
