@@ -1,3 +1,4 @@
 pub mod Cases
 pub mod Chain
 pub mod Rows
+pub mod Kept

@@ -3,3 +3,4 @@ pub mod Checks
 pub mod Exactly
 pub mod Limits
 pub mod Answers
+pub mod Promise

@@ -1,0 +1,26 @@
+-- The union of two lists, each entry once, and the places of a room that a list fills. An entry is in a list by a test.
+use Prim.Native.Nat.{ℕ}
+use mathlib.Core.Bool.{Bool, false, _||_}
+use mathlib.Core.List.{List, [], _∷_, _++_}
+use lib.ListN.{length, drop}
+use lib.Dec.{eqb, ltb}
+use Rattle.paper.specs.Checks.{pick}
+
+-- whether a number is an entry of a list
+unfoldable pub isIn : List ℕ → ℕ → Bool
+isIn [] s = false
+isIn (x ∷ a) s = eqb x s || isIn a s
+
+-- the entry x and then the rest of its list, merged into a list: the smaller goes first, equals go once
+unfoldable pub into : ℕ → (List ℕ → List ℕ) → List ℕ → List ℕ
+into x rest [] = x ∷ rest []
+into x rest (y ∷ b) = pick (ltb x y) (x ∷ rest (y ∷ b)) (pick (eqb x y) (x ∷ rest b) (y ∷ into x rest b))
+
+-- the union of two rising lists, each entry once
+unfoldable pub union : List ℕ → List ℕ → List ℕ
+union [] b = b
+union (x ∷ a) b = into x (union a) b
+
+-- a room whose first places hold a list, and the rest what it held
+abbrev pub written : List ℕ → List ℕ → List ℕ
+written list room = list ++ drop (length list) room

@@ -1,0 +1,142 @@
+// Defect lists: the check of a list over any size of space, and the union of two lists.
+ghost use mathlib.Core.Path.{_≡_};
+ghost use Prim.Native.Nat.{_+_, _<_, _≤_};
+ghost use lib.ListN.{length};
+ghost use Rattle.lists.specs.Proper.{boundFault, placeFault, listFault, spaceFault};
+ghost use Rattle.lists.specs.Union.{union, written};
+ghost use Rattle.lists.specs.Merging.{Takes};
+
+use paper::{LIST_MOST, TOO_LONG, NOT_RISING, OUTSIDE};
+
+// Refusal 4 for an entry that is not below the size of its space, else 0.
+fn bound_fault(n: u32, entry: u32) -> u32
+    ensures { λ r. ⌜ r ≡ boundFault n entry ⌝ }
+{
+    if n <= entry {
+        return OUTSIDE;
+    }
+    0
+}
+
+// What is wrong at one place of a list: 3 before 4, 0 for nothing.
+fn place_fault(n: u32, list: &[u32], i: usize) -> u32
+    requires { ⌜ i < length (now list) ⌝ }
+    ensures { λ r. ⌜ r ≡ placeFault n (now (list .entry)) i ⌝ }
+{
+    if i == 0 {
+        return bound_fault(n, list[i]);
+    }
+    if list[i] <= list[i - 1] {
+        return NOT_RISING;
+    }
+    bound_fault(n, list[i])
+}
+
+// The list's check: 2, then the lowest place at fault, 3 before 4; 0 for a proper list. Only other crates call this.
+pub fn list_fault(n: u32, list: &[u32]) -> u32
+    ensures { λ r. ⌜ r ≡ listFault n (now (list .entry)) ⌝ }
+{
+    if LIST_MOST < list.len() {
+        return TOO_LONG;
+    }
+    let mut i = 0;
+    while i < list.len() {
+        let fault = place_fault(n, list, i);
+        if fault != 0 {
+            return fault;
+        }
+        i += 1;
+    }
+    0
+}
+
+// The size N and then a list over it: 1, then the list's own check. Only other crates call this.
+pub fn space_fault(n: u32, list: &[u32]) -> u32
+    ensures { λ r. ⌜ r ≡ spaceFault n (now (list .entry)) ⌝ }
+{
+    let fault = paper::size_fault(n);
+    if fault != 0 {
+        return fault;
+    }
+    list_fault(n, list)
+}
+
+// The next entry of a union, and how many entries of each list lie before the one after it.
+pub struct Taken {
+    pub entry: u32,
+    pub left: usize,
+    pub right: usize,
+}
+
+// One step of a merge: the smaller of the two entries that stand next, taken from both lists where it stands in both.
+fn take(a: &[u32], b: &[u32], i: usize, j: usize) -> Taken
+    requires { ⌜ (i ≤ length (now a)) × (j ≤ length (now b)) × (i + j < length (now a) + length (now b)) ⌝ }
+    ensures { λ r. ⌜ Takes (now (a .entry)) (now (b .entry)) i j r ⌝ }
+{
+    if i == a.len() {
+        return Taken {
+            entry: b[j],
+            left: i,
+            right: j + 1,
+        };
+    }
+    if j == b.len() {
+        return Taken {
+            entry: a[i],
+            left: i + 1,
+            right: j,
+        };
+    }
+    if a[i] < b[j] {
+        return Taken {
+            entry: a[i],
+            left: i + 1,
+            right: j,
+        };
+    }
+    if a[i] == b[j] {
+        return Taken {
+            entry: a[i],
+            left: i + 1,
+            right: j + 1,
+        };
+    }
+    Taken {
+        entry: b[j],
+        left: i,
+        right: j + 1,
+    }
+}
+
+// How many entries the union of two lists has. Only other crates call this.
+pub fn union_length(a: &[u32], b: &[u32]) -> usize
+    ensures { λ r. ⌜ r ≡ length (union (now (a .entry)) (now (b .entry))) ⌝ }
+{
+    let mut i = 0;
+    let mut j = 0;
+    let mut count = 0;
+    while i + j < a.len() + b.len() {
+        let next = take(a, b, i, j);
+        i = next.left;
+        j = next.right;
+        count += 1;
+    }
+    count
+}
+
+// Writes the union of two lists into the first places of the room, which has that many, and leaves the rest. Only other crates call this.
+pub fn merge(a: &[u32], b: &[u32], room: &mut [u32])
+    requires { ⌜ length (union (now a) (now b)) ≤ length (now room) ⌝ }
+    ensures { λ r. ⌜ now (room .exit) ≡ written (union (now (a .entry)) (now (b .entry))) (now (room .entry)) ⌝ }
+{
+    let mut i = 0;
+    let mut j = 0;
+    let mut count = 0;
+    while i + j < a.len() + b.len() {
+        let next = take(a, b, i, j);
+        room[count] = next.entry;
+        i = next.left;
+        j = next.right;
+        count += 1;
+    }
+}

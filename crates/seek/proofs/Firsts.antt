@@ -1,0 +1,89 @@
+-- The laws of a search: what it finds passes, nothing before it does, and only it is so; and the same for faults.
+-- Assumes nothing.
+use Prim.Native.Nat.{ℕ, zero, suc, _+_, _<_, _≤_}
+use mathlib.Core.Path.{_≡_, refl, sym, _∙_, ap}
+use mathlib.Core.Bool.{Bool, true, false, true≢false}
+use native.Mathlib.Omega.{arith}
+use Rattle.paper.specs.Checks.{pick, _orElse_}
+use Rattle.paper.proofs.Cases.{byBool, byLt, byEq, byFault}
+use Rattle.paper.proofs.Chain.{orElse-some, orElse-none, orElse-first, orElse-next}
+use Rattle.seek.specs.First.{firstBelow, firstFault}
+
+-- the only number below n that passes with none before it
+pub first-is :
+    (passes : ℕ → Bool) (n s : ℕ) → s < n → passes s ≡ true → ((k : ℕ) → k < s → passes k ≡ false) → firstBelow passes n ≡ s
+unfolding firstBelow
+first-is passes zero s h here before = absurd (omega arith)
+first-is passes (suc n) zero h here before = rw here
+first-is passes (suc n) (suc s) h here before =
+    rw (before 0 (omega arith))
+    (ap suc (first-is (λ k. passes (suc k)) n s (omega arith) here (λ k l. before (suc k) (omega arith))))
+
+pub first-none : (passes : ℕ → Bool) (n : ℕ) → ((k : ℕ) → k < n → passes k ≡ false) → firstBelow passes n ≡ n
+unfolding firstBelow
+first-none passes zero none = refl
+first-none passes (suc n) none =
+    rw (none 0 (omega arith)) (ap suc (first-none (λ k. passes (suc k)) n (λ k l. none (suc k) (omega arith))))
+
+pub first-alike :
+    (first second : ℕ → Bool) (n : ℕ) → ((k : ℕ) → k < n → first k ≡ second k) → firstBelow first n ≡ firstBelow second n
+unfolding firstBelow
+first-alike first second zero alike = refl
+first-alike first second (suc n) alike =
+    rw (alike 0 (omega arith))
+    (ap (λ (k : ℕ). pick (second 0) 0 (suc k))
+    (first-alike (λ k. first (suc k)) (λ k. second (suc k)) n (λ k l. alike (suc k) (omega arith))))
+
+module _ (fault : ℕ → ℕ) where
+  -- no fault below n
+  pub fault-none : (n : ℕ) → ((k : ℕ) → k < n → fault k ≡ 0) → firstFault fault n ≡ 0
+  unfolding firstFault
+  fault-none zero none = refl
+  fault-none (suc n) none = rw (fault-none n (λ k l. none k (omega arith))) (none n (omega arith))
+
+  pub fault-clean : (n : ℕ) → firstFault fault n ≡ 0 → (k : ℕ) → k < n → fault k ≡ 0
+  unfolding firstFault
+  fault-clean zero e k h = absurd (omega arith)
+  fault-clean (suc n) e k h =
+      byEq k n
+      (λ same. ap fault same ∙ orElse-next (firstFault fault n) (fault n) e)
+      (λ other. fault-clean n (orElse-first (firstFault fault n) (fault n) e) k (omega arith))
+
+  -- the fault of the lowest place at fault
+  pub fault-at : (n s : ℕ) → s < n → (fault s ≡ 0 → ⊥) → ((k : ℕ) → k < s → fault k ≡ 0) → firstFault fault n ≡ fault s
+  unfolding firstFault
+  fault-at zero s h some before = absurd (omega arith)
+  fault-at (suc n) s h some before =
+      byEq s n
+      (λ same. rw (orElse-none (firstFault fault n) (fault n) (fault-none n (λ k l. before k (omega arith)))) (ap fault (sym same)))
+      (λ other.
+        let e : firstFault fault n ≡ fault s = fault-at n s (omega arith) some before in
+        orElse-some (firstFault fault n) (fault n) (λ none. some (sym e ∙ none)) ∙ e)
+
+  -- where there is a fault, there is a lowest place at fault
+  pub record Lowest (n : ℕ) : Type 0 where
+    pub place : ℕ
+    pub below : place < n
+    pub before : (k : ℕ) → k < place → fault k ≡ 0
+    pub here : firstFault fault n ≡ fault place
+
+  pub fault-found : (n : ℕ) → (firstFault fault n ≡ 0 → ⊥) → Lowest n
+  unfolding firstFault
+  fault-found zero some = absurd (some refl)
+  fault-found (suc n) some =
+      byFault (firstFault fault n)
+      (λ none.
+        record
+          { place = n
+          ; below = omega arith
+          ; before = fault-clean n none
+          ; here = orElse-none (firstFault fault n) (fault n) none
+          })
+      (λ found.
+        let l : Lowest n = fault-found n found in
+        record
+          { place = l .place
+          ; below = omega (arith, l .below)
+          ; before = l .before
+          ; here = orElse-some (firstFault fault n) (fault n) found ∙ l .here
+          })

@@ -1,0 +1,1 @@
+// Searches, bounded "for all" and counts over numbers: definitions and laws alone.

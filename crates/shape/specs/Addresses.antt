@@ -1,0 +1,55 @@
+-- Document 01, "Numbers": the sector number of cylinder, head and sector, and back.
+use Prim.Native.Nat.{ℕ, _+_, _*_, _/_, _%_, _<_, _≤_}
+use mathlib.Core.Bool.{Bool, not, _&&_}
+use lib.Dec.{ltb, leb}
+use Rattle.paper.specs.Checks.{refuse, _orElse_}
+use Rattle.paper.specs.Refusals.{noSuchSector}
+use Rattle.paper.specs.Exactly.{When, _andThen_}
+use Rattle.shape.specs.declared.Shape.{Shape}
+use Rattle.shape.specs.declared.Address.{Address}
+use Rattle.shape.specs.Shapes.{sizeOf, shapeFault, ShapeJudged}
+
+-- sector number = (cylinder × H + head) × S + sector
+abbrev pub sectorAt : Shape → ℕ → ℕ → ℕ → ℕ
+sectorAt shape cylinder head sector = (cylinder * shape .heads + head) * shape .sectors + sector
+
+-- the address of a sector number; divisions drop the remainder
+abbrev pub addressAt : Shape → ℕ → Address
+addressAt shape sector =
+    record
+      { cylinder = sector / shape .sectors / shape .heads
+      ; head = sector / shape .sectors % shape .heads
+      ; sector = sector % shape .sectors
+      }
+
+-- cylinder, head and sector are each below their bound
+pub record OnDrive (shape : Shape) (cylinder head sector : ℕ) : Type 0 where
+  pub cylinder-below : cylinder < shape .cylinders
+  pub head-below : head < shape .heads
+  pub sector-below : sector < shape .sectors
+
+abbrev pub onDrive : Shape → ℕ → ℕ → ℕ → Bool
+onDrive shape cylinder head sector = ltb cylinder (shape .cylinders) && (ltb head (shape .heads) && ltb sector (shape .sectors))
+
+abbrev pub placeFault : Shape → ℕ → ℕ → ℕ → ℕ
+placeFault shape cylinder head sector = refuse (not (onDrive shape cylinder head sector)) noSuchSector
+
+-- checks 1, 6 for cylinder, head and sector
+abbrev pub addressFault : Shape → ℕ → ℕ → ℕ → ℕ
+addressFault shape cylinder head sector = shapeFault shape orElse placeFault shape cylinder head sector
+
+-- checks 1, 6 for a sector number
+abbrev pub sectorFault : Shape → ℕ → ℕ
+sectorFault shape sector = shapeFault shape orElse refuse (leb (sizeOf shape) sector) noSuchSector
+
+-- exactly when 6 is given for cylinder, head and sector
+abbrev pub PlaceJudged : Shape → ℕ → ℕ → ℕ → ℕ → Type 0
+PlaceJudged shape cylinder head sector = When noSuchSector (OnDrive shape cylinder head sector → ⊥)
+
+-- exactly when `shape::sector_of` gives each number
+abbrev pub SectorOfJudged : Shape → ℕ → ℕ → ℕ → ℕ → Type 0
+SectorOfJudged shape cylinder head sector = ShapeJudged shape andThen PlaceJudged shape cylinder head sector
+
+-- exactly when `shape::address_of` gives each number
+abbrev pub AddressOfJudged : Shape → ℕ → ℕ → Type 0
+AddressOfJudged shape sector = ShapeJudged shape andThen When noSuchSector (sizeOf shape ≤ sector)

@@ -1,0 +1,3 @@
+pub mod Shapes
+pub mod Addresses
+pub mod Promises

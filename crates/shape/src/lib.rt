@@ -1,0 +1,117 @@
+// The shape of a drive: its check, and sector number ↔ cylinder, head, sector.
+ghost use mathlib.Core.Path.{_≡_};
+ghost use Prim.Native.Nat.{_<_};
+ghost use Rattle.shape.specs.Shapes.{Shaped, sizeOf, shapeFault};
+ghost use Rattle.shape.specs.Addresses.{OnDrive, sectorAt, addressAt, placeFault};
+ghost use Rattle.shape.specs.Promises.{SectorOf, AddressOf};
+
+use paper::{Placed, CYLINDERS_MOST, HEADS_MOST, SECTORS_LEAST, SECTORS_MOST, OUT_OF_RANGE, NO_SUCH_SECTOR};
+
+pub struct Shape {
+    pub cylinders: u32,
+    pub heads: u32,
+    pub sectors: u32,
+}
+
+pub struct Address {
+    pub cylinder: u32,
+    pub head: u32,
+    pub sector: u32,
+}
+
+// Where a sector or a block lies, as an address.
+pub enum Located {
+    At(Address),
+    Refused(u32),
+}
+
+// Refusal 1 for a shape number outside its range, else 0. Only other crates call this.
+pub fn shape_fault(shape: Shape) -> u32
+    ensures { λ r. ⌜ r ≡ shapeFault shape ⌝ }
+{
+    if !paper::within(1, CYLINDERS_MOST, shape.cylinders) {
+        return OUT_OF_RANGE;
+    }
+    if !paper::within(1, HEADS_MOST, shape.heads) {
+        return OUT_OF_RANGE;
+    }
+    if !paper::within(SECTORS_LEAST, SECTORS_MOST, shape.sectors) {
+        return OUT_OF_RANGE;
+    }
+    0
+}
+
+// N, the sectors of a drive. Only other crates call this.
+pub fn size_of(shape: Shape) -> u32
+    requires { ⌜ Shaped shape ⌝ }
+    ensures { λ r. ⌜ r ≡ sizeOf shape ⌝ }
+{
+    shape.cylinders * shape.heads * shape.sectors
+}
+
+// The sector number of an address on the drive. Only other crates call this.
+pub fn sector_at(shape: Shape, cylinder: u32, head: u32, sector: u32) -> u32
+    requires { ⌜ Shaped shape ⌝ }
+    requires { ⌜ OnDrive shape cylinder head sector ⌝ }
+    ensures { λ r. ⌜ r ≡ sectorAt shape cylinder head sector ⌝ }
+{
+    (cylinder * shape.heads + head) * shape.sectors + sector
+}
+
+// The address of a sector number: every address that a call answers is made here. Only other crates call this.
+pub fn address_at(shape: Shape, sector: u32) -> Address
+    requires { ⌜ Shaped shape ⌝ }
+    ensures { λ r. ⌜ r ≡ addressAt shape sector ⌝ }
+{
+    let track = sector / shape.sectors;
+    Address {
+        cylinder: track / shape.heads,
+        head: track % shape.heads,
+        sector: sector % shape.sectors,
+    }
+}
+
+// Refusal 6 for a cylinder, head or sector that is not below its bound, else 0. Only other crates call this.
+pub fn place_fault(shape: Shape, cylinder: u32, head: u32, sector: u32) -> u32
+    ensures { λ r. ⌜ r ≡ placeFault shape cylinder head sector ⌝ }
+{
+    if shape.cylinders <= cylinder {
+        return NO_SUCH_SECTOR;
+    }
+    if shape.heads <= head {
+        return NO_SUCH_SECTOR;
+    }
+    if shape.sectors <= sector {
+        return NO_SUCH_SECTOR;
+    }
+    0
+}
+
+// Cylinder, head and sector to sector number. Checks 1, 6.
+pub fn sector_of(shape: Shape, cylinder: u32, head: u32, sector: u32) -> Placed
+    ensures { λ r. ⌜ SectorOf shape cylinder head sector r ⌝ }
+{
+    let fault = shape_fault(shape);
+    if fault != 0 {
+        return Placed::Refused(fault);
+    }
+    let fault = place_fault(shape, cylinder, head, sector);
+    if fault != 0 {
+        return Placed::Refused(fault);
+    }
+    Placed::At(sector_at(shape, cylinder, head, sector))
+}
+
+// Sector number to cylinder, head and sector. Checks 1, 6.
+pub fn address_of(shape: Shape, sector: u32) -> Located
+    ensures { λ r. ⌜ AddressOf shape sector r ⌝ }
+{
+    let fault = shape_fault(shape);
+    if fault != 0 {
+        return Located::Refused(fault);
+    }
+    if size_of(shape) <= sector {
+        return Located::Refused(NO_SUCH_SECTOR);
+    }
+    Located::At(address_at(shape, sector))
+}
