@@ -87,22 +87,24 @@ fn take(a: &[u32], b: &[u32], i: usize, j: usize) -> Taken
             right: j,
         };
     }
-    if a[i] < b[j] {
+    let x = a[i];
+    let y = b[j];
+    if x < y {
         return Taken {
-            entry: a[i],
+            entry: x,
             left: i + 1,
             right: j,
         };
     }
-    if a[i] == b[j] {
+    if x == y {
         return Taken {
-            entry: a[i],
+            entry: x,
             left: i + 1,
             right: j + 1,
         };
     }
     Taken {
-        entry: b[j],
+        entry: y,
         left: i,
         right: j + 1,
     }

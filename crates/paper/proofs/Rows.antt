@@ -75,3 +75,13 @@ tells-within least most number = tells-both (tells-le least number) (tells-le nu
 
 pub size-exactly : (n : ℕ) → Exactly (SizeJudged n) (sizeFault n)
 size-exactly n = row (tells-not (tells-within 1 unitsMost n)) outOfRange
+
+-- what a passed check shows of N
+pub size-shows : (n : ℕ) → sizeFault n ≡ 0 → Within 1 unitsMost n
+size-shows n none =
+    byBool (within 1 unitsMost n)
+    (λ inside. tells-within 1 unitsMost n .holds inside)
+    (λ beyond. absurd (omega (arith, rw beyond at none)))
+
+pub size-passes : (n : ℕ) → Within 1 unitsMost n → sizeFault n ≡ 0
+size-passes n inside = rw (tells-within 1 unitsMost n .told inside)

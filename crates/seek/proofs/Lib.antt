@@ -1,2 +1,3 @@
+pub mod Drops
 pub mod Counts
 pub mod Firsts

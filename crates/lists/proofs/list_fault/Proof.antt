@@ -1,46 +1,51 @@
+-- `lists::list_fault` meets its contract. The loop's invariant: no place passed is at fault. So the first fault found is that of the lowest place.
+-- Assumes nothing.
+use Prim.Native.Nat.{ℕ, _≤_, _<_, _-_}
+use mathlib.Core.Path.{_≡_, sym, _∙_}
+use native.Mathlib.Omega.{arith}
+use lib.ListN.{length}
+use denote.Ref.{now}
+use borrow.Author.Count.{below-none, below-more}
+use borrow.Author.Tests.{lt-ltb, le-ltb}
+use Rattle.lists.specs.Proper.{placeFault}
+use Rattle.seek.proofs.Firsts.{fault-at, fault-none}
 use Rattle.lists.proofs.list_fault.Statement.{statement}
 use Rattle.lists.proofs.list_fault.Tie as tie
-use Rattle.lists.proofs.list_fault.Reads as reads
-use Rattle.lists.proofs.list_fault.Lts as lts
-use Rattle.lists.proofs.place_fault.Reads as place-fault-reads
 
 abbrev Inv-loop : tie.InvT-loop
-Inv-loop n list i₀ i = ?
+Inv-loop n list i₀ i = (i ≤ length list) × ((k : ℕ) → k < i → placeFault n list k ≡ 0)
 
 abbrev μ-loop : tie.MeasureT-loop
-μ-loop n list i₀ i = ?
+μ-loop n list i₀ i = length list - i
 
--- src/lib.rt:40:9
 returns : tie.Need-returns Inv-loop μ-loop
-returns c = ?
+returns c = rw (lt-ltb _ _ (c .if1 .taken))
 
--- src/lib.rt:43:5
 loop-holds : tie.Need-loop-holds Inv-loop μ-loop
-loop-holds c = ?
+loop-holds c = (omega arith, λ k h. absurd (omega arith))
 
--- src/lib.rt:44:13
 place-fault-requires : tie.Need-place-fault-requires Inv-loop μ-loop
-place-fault-requires c κs = ?
+place-fault-requires c κs = c .loop-test .taken
 
--- src/lib.rt:46:13
 returns-2 : tie.Need-returns-2 Inv-loop μ-loop
-returns-2 c = ?
+returns-2 c =
+    rw (le-ltb _ _ (c .before .before .before .before .if1 .left))
+    (c .before .place-fault .ensures
+    ∙ sym (fault-at (placeFault (c .before .before .before .before .before .before .args .n) (now (c .before .before .before .before .before .before .args .list))) _ (c .before .before .before .loop .i) (c .before .before .loop-test .taken) (λ none. c .if2 .taken (c .before .place-fault .ensures ∙ none)) (c .before .before .before .loop .inv .1)))
 
--- src/lib.rt:48:9
 add-i : tie.Need-add-i Inv-loop μ-loop
-add-i c = ?
+add-i c = omega arith
 
--- src/lib.rt:43:5
 loop-less : tie.Need-loop-less Inv-loop μ-loop
-loop-less c = ?
+loop-less c = omega arith
 
--- src/lib.rt:43:5
 loop-again : tie.Need-loop-again Inv-loop μ-loop
-loop-again c = ?
+loop-again c = (omega arith, below-more _ _ (c .before .before .before .loop .inv .1) (sym (c .before .place-fault .ensures) ∙ c .if2 .left))
 
--- src/lib.rt:36:1
 returns-3 : tie.Need-returns-3 Inv-loop μ-loop
-returns-3 c = ?
+returns-3 c =
+    rw (le-ltb _ _ (c .before .before .if1 .left))
+    (sym (fault-none (placeFault (c .before .before .before .before .args .n) (now (c .before .before .before .before .args .list))) _ (λ k h. c .before .loop .inv .1 k (omega arith))))
 
 pub list-fault-spec : {M : Type 1} → statement M
 list-fault-spec =

@@ -1,58 +1,57 @@
+-- `lists::merge` meets its contract. The loop's invariant: what is written and then what is left of the union are the union, and the room beyond what is written is as it was.
+-- Assumes nothing.
+use Prim.Native.Nat.{_≤_, _-_, _+_}
+use mathlib.Core.Path.{_≡_, refl, sym, _∙_, ap}
+use mathlib.Core.List.{List, [], _∷_, _++_}
+use native.Mathlib.Omega.{arith}
+use lib.ListN.{length, drop, take}
+use denote.Ref.{now}
+use Rattle.lists.specs.Union.{union}
+use Rattle.lists.proofs.Steps.{step-ends}
+use Rattle.lists.proofs.Filling.{Filled, filled-none, filled-more, filled-all}
 use Rattle.lists.proofs.merge.Statement.{statement}
 use Rattle.lists.proofs.merge.Tie as tie
-use Rattle.lists.proofs.merge.Reads as reads
-use Rattle.lists.proofs.merge.Lts as lts
-use Rattle.lists.proofs.take.Reads as take-reads
 
 abbrev Inv-loop : tie.InvT-loop
-Inv-loop a b room₀ i₀ j₀ count₀ room i j count = ?
+Inv-loop a b room₀ i₀ j₀ count₀ room i j count =
+    (i ≤ length a) × (j ≤ length b) × Filled (union a b) (union (drop i a) (drop j b)) room₀ room count
 
 abbrev μ-loop : tie.MeasureT-loop
-μ-loop a b room₀ i₀ j₀ count₀ room i j count = ?
+μ-loop a b room₀ i₀ j₀ count₀ room i j count = length a + length b - (i + j)
 
--- src/lib.rt:135:5
 loop-holds : tie.Need-loop-holds Inv-loop μ-loop
-loop-holds c = ?
+loop-holds c = (omega arith, omega arith, filled-none _ _ (c .before .before .before .pre))
 
--- src/lib.rt:135:11
 add-loop : tie.Need-add-loop Inv-loop μ-loop
-add-loop c = ?
+add-loop c = omega arith
 
--- src/lib.rt:135:19
 add-loop-2 : tie.Need-add-loop-2 Inv-loop μ-loop
-add-loop-2 c = ?
+add-loop-2 c = omega arith
 
--- src/lib.rt:136:13
 take-requires : tie.Need-take-requires Inv-loop μ-loop
-take-requires c κs = ?
+take-requires c κs = (omega arith, omega arith, omega arith)
 
--- src/lib.rt:137:9
 mul-room : tie.Need-mul-room Inv-loop μ-loop
-mul-room c = ?
+mul-room c = omega (arith, c .before .before .loop .inv .2 .fits, ap length (c .take .ensures .next))
 
--- src/lib.rt:137:9
 slice-write-room : tie.Need-slice-write-room Inv-loop μ-loop
-slice-write-room c = ?
+slice-write-room c = omega (arith, c .before .before .loop .inv .2 .fits, c .before .before .loop .inv .2 .same-length, ap length (c .take .ensures .next))
 
--- src/lib.rt:140:9
 add-count : tie.Need-add-count Inv-loop μ-loop
-add-count c = ?
+add-count c = omega (arith, c .before .before .loop .inv .2 .fits, ap length (c .take .ensures .next))
 
--- src/lib.rt:135:5
 loop-less : tie.Need-loop-less Inv-loop μ-loop
-loop-less c = ?
+loop-less c = omega arith
 
--- src/lib.rt:135:5
 loop-again : tie.Need-loop-again Inv-loop μ-loop
-loop-again c = ?
+loop-again c = (omega arith, omega arith, filled-more _ _ (c .take .ensures .next) (c .before .before .loop .inv .2))
 
--- src/lib.rt:128:1
 same-length : tie.Need-same-length Inv-loop μ-loop
-same-length c = ?
+same-length c = c .before .loop .inv .2 .same-length
 
--- src/lib.rt:128:1
 returns : tie.Need-returns Inv-loop μ-loop
-returns c = ?
+returns c =
+    filled-all (step-ends (now (c .before .before .before .before .before .args .a)) (now (c .before .before .before .before .before .args .b)) (c .before .loop .i) (c .before .loop .j) (omega arith) (omega arith)) (c .before .loop .inv .2)
 
 pub merge-spec : {M : Type 1} → statement M
 merge-spec =

@@ -1,46 +1,45 @@
+-- `lists::union_length` meets its contract. The loop's invariant: the entries counted and those of the union still to come are all of its entries.
+-- Assumes nothing.
+use Prim.Native.Nat.{_≤_, _-_, _+_}
+use mathlib.Core.Path.{_≡_, refl, sym, _∙_, ap}
+use native.Mathlib.Omega.{arith}
+use lib.ListN.{length, drop}
+use denote.Ref.{now}
+use Rattle.lists.specs.Union.{union}
+use Rattle.lists.proofs.Steps.{step-ends}
 use Rattle.lists.proofs.union_length.Statement.{statement}
 use Rattle.lists.proofs.union_length.Tie as tie
-use Rattle.lists.proofs.union_length.Reads as reads
-use Rattle.lists.proofs.union_length.Lts as lts
-use Rattle.lists.proofs.take.Reads as take-reads
 
 abbrev Inv-loop : tie.InvT-loop
-Inv-loop a b i₀ j₀ count₀ i j count = ?
+Inv-loop a b i₀ j₀ count₀ i j count =
+    (i ≤ length a) × (j ≤ length b) × (count ≤ i + j) × (length (union a b) ≡ count + length (union (drop i a) (drop j b)))
 
 abbrev μ-loop : tie.MeasureT-loop
-μ-loop a b i₀ j₀ count₀ i j count = ?
+μ-loop a b i₀ j₀ count₀ i j count = length a + length b - (i + j)
 
--- src/lib.rt:118:5
 loop-holds : tie.Need-loop-holds Inv-loop μ-loop
-loop-holds c = ?
+loop-holds c = (omega arith, omega arith, omega arith, omega arith)
 
--- src/lib.rt:118:11
 add-loop : tie.Need-add-loop Inv-loop μ-loop
-add-loop c = ?
+add-loop c = omega arith
 
--- src/lib.rt:118:19
 add-loop-2 : tie.Need-add-loop-2 Inv-loop μ-loop
-add-loop-2 c = ?
+add-loop-2 c = omega arith
 
--- src/lib.rt:119:13
 take-requires : tie.Need-take-requires Inv-loop μ-loop
-take-requires c κs = ?
+take-requires c κs = (omega arith, omega arith, omega arith)
 
--- src/lib.rt:122:9
 add-count : tie.Need-add-count Inv-loop μ-loop
-add-count c = ?
+add-count c = omega arith
 
--- src/lib.rt:118:5
 loop-less : tie.Need-loop-less Inv-loop μ-loop
-loop-less c = ?
+loop-less c = omega arith
 
--- src/lib.rt:118:5
 loop-again : tie.Need-loop-again Inv-loop μ-loop
-loop-again c = ?
+loop-again c = (omega arith, omega arith, omega arith, omega (arith, ap length (c .take .ensures .next)))
 
--- src/lib.rt:112:1
 returns : tie.Need-returns Inv-loop μ-loop
-returns c = ?
+returns c = omega (arith, ap length (step-ends (now (c .before .before .before .before .args .a)) (now (c .before .before .before .before .args .b)) (c .before .loop .i) (c .before .loop .j) (omega arith) (omega arith)))
 
 pub union-length-spec : {M : Type 1} → statement M
 union-length-spec =

@@ -1,0 +1,6 @@
+pub mod Risings
+pub mod Members
+pub mod Unions
+pub mod Filling
+pub mod Steps
+pub mod Exact
