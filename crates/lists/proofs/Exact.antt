@@ -15,9 +15,8 @@ use Rattle.paper.specs.Exactly.{Exactly}
 use Rattle.paper.proofs.Cases.{byBool, byLt, byFault}
 use Rattle.paper.proofs.Chain.{orElse-first, orElse-next}
 use Rattle.paper.proofs.Rows.{Tells, row, rows, tells-lt, size-exactly, size-shows}
-use Rattle.seek.specs.First.{firstFault}
 use Rattle.seek.proofs.Firsts.{Lowest, fault-none, fault-clean, fault-at, fault-found}
-use Rattle.lists.specs.Proper.{Proper, risesAt, placeFault, listFault, spaceFault, SoundAt, SoundBefore, LowestFault, ListJudged, SpaceJudged}
+use Rattle.lists.specs.Proper.{Proper, risesAt, placeFault, placesFault, listFault, spaceFault, SoundAt, SoundBefore, LowestFault, ListJudged, SpaceJudged}
 
 -- the entry at a place is greater than the one before it, where there is one
 abbrev Rises : List ℕ → ℕ → Type 0
@@ -26,12 +25,12 @@ Rises a i = (before : ℕ) → suc before ≡ i → getD a before 0 < getD a i 0
 rises-tells : (a : List ℕ) (i : ℕ) → Tells (risesAt a i) (Rises a i)
 rises-tells a zero = record { holds = λ e before first. absurd (omega arith); told = λ h. refl }
 rises-tells a (suc i) =
-    record
-      { holds = λ e before one.
+    record {
+      holds = λ e before one.
           let same : before ≡ i = omega arith in
-          rw same (ltb-true (getD a i 0) (getD a (suc i) 0) (rw (eqb·suc-zero i, last) at e))
-      ; told = λ h. rw (eqb·suc-zero i, last) (lt-ltb (getD a i 0) (getD a (suc i) 0) (h i refl))
-      }
+          rw same (ltb-true (getD a i 0) (getD a (suc i) 0) (rw (eqb·suc-zero i, last) at e));
+      told = λ h. rw (eqb·suc-zero i, last) (lt-ltb (getD a i 0) (getD a (suc i) 0) (h i refl));
+    }
   where
     last : suc i - 1 ≡ i
     last = omega arith
@@ -50,9 +49,9 @@ module _ (n : ℕ) (a : List ℕ) (i : ℕ) where
   sound-fault none =
       byBool (risesAt a i)
       (λ rises.
-        byLt (getD a i 0) n
-        (λ inside. record { rises = rises-tells a i .holds rises; inside = inside })
-        (λ strays. absurd (omega (arith, fault-strays rises strays))))
+      byLt (getD a i 0) n
+      (λ inside. record { rises = rises-tells a i .holds rises; inside = inside })
+      (λ strays. absurd (omega (arith, fault-strays rises strays))))
       (λ falls. absurd (omega (arith, fault-falls falls)))
 
 module _ (n : ℕ) (a : List ℕ) where
@@ -70,27 +69,27 @@ module _ (n : ℕ) (a : List ℕ) where
   lowest-at i h before some =
       byBool (risesAt a i)
       (λ rises.
-        byLt (getD a i 0) n
-        (λ inside. absurd (some (fault-sound n a i (record { rises = rises-tells a i .holds rises; inside = inside }))))
-        (λ strays. rw (fault-strays n a i rises strays) (LowestFault.strays i h before (rises-tells a i .holds rises) strays)))
+      byLt (getD a i 0) n
+      (λ inside. absurd (some (fault-sound n a i (record { rises = rises-tells a i .holds rises; inside = inside }))))
+      (λ strays. rw (fault-strays n a i rises strays) (LowestFault.strays i h before (rises-tells a i .holds rises) strays)))
       (λ falls. rw (fault-falls n a i falls) (falls-at i h before falls))
 
-  lowest-judged : LowestFault n a (firstFault (placeFault n a) (length a))
+  lowest-judged : LowestFault n a (placesFault n a)
   lowest-judged =
-      byFault (firstFault (placeFault n a) (length a))
+      byFault (placesFault n a)
       (λ none. rw none (LowestFault.sound (λ j h. sound-fault n a j (fault-clean (placeFault n a) (length a) none j h))))
       (λ some.
-        let lowest : Lowest (placeFault n a) (length a) = fault-found (placeFault n a) (length a) some in
-        rw (lowest .here)
-        (lowest-at (lowest .place) (lowest .below)
-        (λ j h. sound-fault n a j (lowest .before j h))
-        (λ none. some (lowest .here ∙ none))))
+      let lowest : Lowest (placeFault n a) (length a) = fault-found (placeFault n a) (length a) some in
+      rw (lowest .here)
+      (lowest-at (lowest .place) (lowest .below)
+      (λ j h. sound-fault n a j (lowest .before j h))
+      (λ none. some (lowest .here ∙ none))))
 
-  lowest-is : (i : ℕ) → i < length a → SoundBefore n a i → (k : ℕ) → (k ≡ 0 → ⊥) → placeFault n a i ≡ k → firstFault (placeFault n a) (length a) ≡ k
+  lowest-is : (i : ℕ) → i < length a → SoundBefore n a i → (k : ℕ) → (k ≡ 0 → ⊥) → placeFault n a i ≡ k → placesFault n a ≡ k
   lowest-is i h before k some here =
       fault-at (placeFault n a) (length a) i h (λ none. some (sym here ∙ none)) (λ j l. fault-sound n a j (before j l)) ∙ here
 
-  lowest-only : (k : ℕ) → LowestFault n a k → firstFault (placeFault n a) (length a) ≡ k
+  lowest-only : (k : ℕ) → LowestFault n a k → placesFault n a ≡ k
   lowest-only k (LowestFault.falls i h before more) =
       lowest-is (suc i) h before notRising (λ e. omega arith)
       (fault-falls n a (suc i)
@@ -99,12 +98,13 @@ module _ (n : ℕ) (a : List ℕ) where
       lowest-is i h before outside (λ e. omega arith) (fault-strays n a i (rises-tells a i .told rises) strays)
   lowest-only k (LowestFault.sound all) = fault-none (placeFault n a) (length a) (λ j h. fault-sound n a j (all j h))
 
+  -- 3 and 4 are given for the places of a list exactly when the paper says so
+  pub places-exactly : Exactly (LowestFault n a) (placesFault n a)
+  places-exactly = record { judged = lowest-judged; only = lowest-only }
+
   -- 2, 3 and 4 are given for a list exactly when the paper says so
   pub list-exactly : Exactly (ListJudged n a) (listFault n a)
-  list-exactly =
-      rows _ _
-      (row (tells-lt listMost (length a)) tooLong)
-      (record { judged = lowest-judged; only = lowest-only })
+  list-exactly = rows _ _ (row (tells-lt listMost (length a)) tooLong) places-exactly
 
   -- 1 to 4 are given for N and a list exactly when the paper says so
   pub space-exactly : Exactly (SpaceJudged n a) (spaceFault n a)
@@ -113,19 +113,23 @@ module _ (n : ℕ) (a : List ℕ) where
   -- a list that passes is proper, and a proper list passes
   pub list-shows : listFault n a ≡ 0 → Proper n a
   list-shows none =
-      record
-        { short =
+      record {
+        short =
             byLt listMost (length a)
             (λ long. absurd (omega (arith, rw (lt-ltb listMost (length a) long) at none)))
-            (λ short. short)
-        ; rising = λ i h. sound (suc i) h .rises i refl
-        ; inside = λ i h. sound i h .inside
-        }
+            (λ short. short);
+        rising = λ i h. sound (suc i) h .rises i refl;
+        inside = λ i h. sound i h .inside;
+      }
     where
       sound : (i : ℕ) → i < length a → SoundAt n a i
       sound i h =
           sound-fault n a i
-          (fault-clean (placeFault n a) (length a) (orElse-next (refuse (ltb listMost (length a)) tooLong) (firstFault (placeFault n a) (length a)) none) i h)
+          (fault-clean (placeFault n a) (length a) (orElse-next (refuse (ltb listMost (length a)) tooLong) (placesFault n a) none) i h)
+
+  -- places with no fault rise and lie inside
+  pub places-show : placesFault n a ≡ 0 → (i : ℕ) → i < length a → SoundAt n a i
+  places-show none i h = sound-fault n a i (fault-clean (placeFault n a) (length a) none i h)
 
   pub list-passes : Proper n a → listFault n a ≡ 0
   list-passes proper =
@@ -134,10 +138,10 @@ module _ (n : ℕ) (a : List ℕ) where
     where
       sound : (i : ℕ) → i < length a → SoundAt n a i
       sound i h =
-          record
-            { rises = λ before one. rw (← one) (proper .rising before (rw (← one) at h))
-            ; inside = proper .inside i h
-            }
+          record {
+            rises = λ before one. rw (← one) (proper .rising before (rw (← one) at h));
+            inside = proper .inside i h;
+          }
 
   pub space-size : spaceFault n a ≡ 0 → Within 1 unitsMost n
   space-size none = size-shows n (orElse-first (sizeFault n) (listFault n a) none)

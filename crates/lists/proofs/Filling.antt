@@ -22,14 +22,14 @@ filled-none list before h = record { same-length = refl; fits = omega arith; don
 module _ {list left before room : List ℕ} {count : ℕ} where
   pub filled-more : (x : ℕ) (rest : List ℕ) → left ≡ x ∷ rest → Filled list left before room count → Filled list rest before (set room count x) (count + 1)
   filled-more x rest next filled =
-      record
-        { same-length = length-set room count x ∙ filled .same-length
-        ; fits = omega (arith, filled .fits, ap length next)
-        ; done = filled .done ∙ rw (next, add-one count, take-suc-set room count x below) (sym (append-assoc (take count room) (x ∷ []) rest))
-        ; beyond =
+      record {
+        same-length = length-set room count x ∙ filled .same-length;
+        fits = omega (arith, filled .fits, ap length next);
+        done = filled .done ∙ rw (next, add-one count, take-suc-set room count x below) (sym (append-assoc (take count room) (x ∷ []) rest));
+        beyond =
             drop-set-lt (count + 1) room count x (omega arith)
-            ∙ (sym (drop-drop 1 count room) ∙ (ap (λ (l : List ℕ). drop 1 l) (filled .beyond) ∙ drop-drop 1 count before))
-        }
+            ∙ (sym (drop-drop 1 count room) ∙ (ap (λ (l : List ℕ). drop 1 l) (filled .beyond) ∙ drop-drop 1 count before));
+      }
     where
       below : count < length room
       below = omega (arith, filled .fits, ap length next, filled .same-length)

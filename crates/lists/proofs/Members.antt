@@ -37,8 +37,8 @@ member-stands (x ∷ a) s e =
     byEq x s
     (λ same. record { place = 0; below = omega arith; is = same })
     (λ other.
-      let there : Stands a s = member-stands a s (sym (in-there x a s other) ∙ e) in
-      record { place = suc (there .place); below = omega (arith, there .below); is = there .is })
+    let there : Stands a s = member-stands a s (sym (in-there x a s other) ∙ e) in
+    record { place = suc (there .place); below = omega (arith, there .below); is = there .is })
 
 pub entry-in : (a : List ℕ) (i : ℕ) → i < length a → isIn a (getD a i 0) ≡ true
 entry-in [] i h = absurd (omega arith)
@@ -61,8 +61,8 @@ pub not-in-above : (x : ℕ) (a : List ℕ) (s : ℕ) → s ≤ x → Above x a 
 not-in-above x a s h above =
     byBool (isIn a s)
     (λ e.
-      let stands : Stands a s = member-stands a s e in
-      absurd (omega (arith, above (stands .place) (stands .below), stands .is)))
+    let stands : Stands a s = member-stands a s e in
+    absurd (omega (arith, above (stands .place) (stands .below), stands .is)))
     (λ e. e)
 
 pub members-above : (x : ℕ) (a : List ℕ) → ((s : ℕ) → isIn a s ≡ true → x < s) → Above x a
@@ -96,6 +96,6 @@ same-members (x ∷ a) (y ∷ b) rising-a rising-b alike =
     rest-alike first s =
         byEq x s
         (λ same.
-          not-in-above x a s (omega arith) (rising-above x a rising-a)
-          ∙ sym (not-in-above y b s (omega arith) (rising-above y b rising-b)))
+        not-in-above x a s (omega arith) (rising-above x a rising-a)
+        ∙ sym (not-in-above y b s (omega arith) (rising-above y b rising-b)))
         (λ other. sym (in-there x a s other) ∙ (alike s ∙ in-there y b s (λ e. other (first ∙ e))))

@@ -57,9 +57,9 @@ module _ (x : ℕ) (a : List ℕ) (rest : (b : List ℕ) (s : ℕ) → isIn (uni
       byLt x y
       (λ less. rw (union-less x a y b less, rest (y ∷ b) s) (sym (or-assoc (eqb x s) (isIn a s) (eqb y s || isIn b s))))
       (λ over.
-        byEq x y
-        (λ same. rw (union-same x a y b same, rest b s, ← same) (or-twice (eqb x s) (isIn a s) (isIn b s)))
-        (λ other. rw (union-more x a y b (omega arith), in-into b s) (or-swap (eqb y s) (eqb x s || isIn a s) (isIn b s))))
+      byEq x y
+      (λ same. rw (union-same x a y b same, rest b s, ← same) (or-twice (eqb x s) (isIn a s) (isIn b s)))
+      (λ other. rw (union-more x a y b (omega arith), in-into b s) (or-swap (eqb y s) (eqb x s || isIn a s) (isIn b s))))
 
 -- the members of a union are those of either list
 pub in-union : (a b : List ℕ) (s : ℕ) → isIn (union a b) s ≡ (isIn a s || isIn b s)
@@ -88,22 +88,22 @@ module _ (x : ℕ) (a : List ℕ) (rising : Rising (x ∷ a)) (rest : (b : List 
   rising-into (y ∷ b) rising-b =
       byLt x y
       (λ less.
-        rw (union-less x a y b less)
-        (rising-cons x (union a (y ∷ b))
-        (above-union x a (y ∷ b) (rising-above x a rising) (above-first less))
-        (rest (y ∷ b) rising-b)))
+      rw (union-less x a y b less)
+      (rising-cons x (union a (y ∷ b))
+      (above-union x a (y ∷ b) (rising-above x a rising) (above-first less))
+      (rest (y ∷ b) rising-b)))
       (λ over.
-        byEq x y
-        (λ same.
-          rw (union-same x a y b same)
-          (rising-cons x (union a b)
-          (above-union x a b (rising-above x a rising) (above-weaker x y b (omega arith) (rising-above y b rising-b)))
-          (rest b (rising-tail y b rising-b))))
-        (λ other.
-          rw (union-more x a y b (omega arith))
-          (rising-cons y (union (x ∷ a) b)
-          (above-union y (x ∷ a) b (above-own (omega arith)) (rising-above y b rising-b))
-          (rising-into b (rising-tail y b rising-b)))))
+      byEq x y
+      (λ same.
+      rw (union-same x a y b same)
+      (rising-cons x (union a b)
+      (above-union x a b (rising-above x a rising) (above-weaker x y b (omega arith) (rising-above y b rising-b)))
+      (rest b (rising-tail y b rising-b))))
+      (λ other.
+      rw (union-more x a y b (omega arith))
+      (rising-cons y (union (x ∷ a) b)
+      (above-union y (x ∷ a) b (above-own (omega arith)) (rising-above y b rising-b))
+      (rising-into b (rising-tail y b rising-b)))))
     where
       above-first : x < y → Above x (y ∷ b)
       above-first less zero h = less
@@ -135,8 +135,8 @@ union-assoc a b c rising-a rising-b rising-c =
     rising-a
     (rising-union b c rising-b rising-c)
     (λ s.
-      rw (in-union (union a b) c s, in-union a b s, in-union b c s)
-      (or-assoc (isIn a s) (isIn b s) (isIn c s)))
+    rw (in-union (union a b) c s, in-union a b s, in-union b c s)
+    (or-assoc (isIn a s) (isIn b s) (isIn c s)))
 
 -- lengths: no longer than both together, no shorter than either
 length-into : (x : ℕ) (a : List ℕ) → ((b : List ℕ) → length (union a b) ≤ length a + length b) → (b : List ℕ) → length (union (x ∷ a) b) ≤ suc (length a) + length b
@@ -145,9 +145,9 @@ length-into x a rest (y ∷ b) =
     byLt x y
     (λ less. rw (union-less x a y b less) (omega (arith, rest (y ∷ b))))
     (λ over.
-      byEq x y
-      (λ same. rw (union-same x a y b same) (omega (arith, rest b)))
-      (λ other. rw (union-more x a y b (omega arith)) (omega (arith, length-into x a rest b))))
+    byEq x y
+    (λ same. rw (union-same x a y b same) (omega (arith, rest b)))
+    (λ other. rw (union-more x a y b (omega arith)) (omega (arith, length-into x a rest b))))
 
 pub union-longest : (a b : List ℕ) → length (union a b) ≤ length a + length b
 union-longest [] b = rw (union-none b) (omega arith)
@@ -159,9 +159,9 @@ right-into x a rest (y ∷ b) =
     byLt x y
     (λ less. rw (union-less x a y b less) (omega (arith, rest (y ∷ b))))
     (λ over.
-      byEq x y
-      (λ same. rw (union-same x a y b same) (omega (arith, rest b)))
-      (λ other. rw (union-more x a y b (omega arith)) (omega (arith, right-into x a rest b))))
+    byEq x y
+    (λ same. rw (union-same x a y b same) (omega (arith, rest b)))
+    (λ other. rw (union-more x a y b (omega arith)) (omega (arith, right-into x a rest b))))
 
 pub union-holds : (a b : List ℕ) → length b ≤ length (union a b)
 union-holds [] b = rw (union-none b) (omega arith)

@@ -36,9 +36,13 @@ boundFault n entry = refuse (leb n entry) outside
 abbrev pub placeFault : ℕ → List ℕ → ℕ → ℕ
 placeFault n a i = refuse (not (risesAt a i)) notRising orElse boundFault n (getD a i 0)
 
+-- the fault of the lowest place at fault
+abbrev pub placesFault : ℕ → List ℕ → ℕ
+placesFault n a = firstFault (placeFault n a) (length a)
+
 -- the check of a list: its length, then the lowest place at fault
 abbrev pub listFault : ℕ → List ℕ → ℕ
-listFault n a = refuse (ltb listMost (length a)) tooLong orElse firstFault (placeFault n a) (length a)
+listFault n a = refuse (ltb listMost (length a)) tooLong orElse placesFault n a
 
 -- N, then a list over N
 abbrev pub spaceFault : ℕ → List ℕ → ℕ

@@ -5,8 +5,10 @@ ghost use lib.ListN.{length};
 ghost use Rattle.lists.specs.Proper.{boundFault, placeFault, listFault, spaceFault};
 ghost use Rattle.lists.specs.Union.{union, written};
 ghost use Rattle.lists.specs.Merging.{Takes};
-
-use paper::{LIST_MOST, TOO_LONG, NOT_RISING, OUTSIDE};
+use paper::LIST_MOST;
+use paper::NOT_RISING;
+use paper::OUTSIDE;
+use paper::TOO_LONG;
 
 // Refusal 4 for an entry that is not below the size of its space, else 0.
 fn bound_fault(n: u32, entry: u32) -> u32

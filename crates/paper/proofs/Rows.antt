@@ -41,13 +41,13 @@ module _ {test : Bool} {Fault : Type 0} (tells : Tells test Fault) where
 
 pub rows : (First Next : ℕ → Type 0) {fault next : ℕ} → Exactly First fault → Exactly Next next → Exactly (First andThen Next) (fault orElse next)
 rows First Next {fault} {next} first second =
-    record
-      { judged =
+    record {
+      judged =
           byFault fault
           (λ none. rw none (later (rw none at (first .judged)) (second .judged)))
-          (λ some. rw (orElse-some fault next some) (earlier some (first .judged)))
-      ; only = only-one
-      }
+          (λ some. rw (orElse-some fault next some) (earlier some (first .judged)));
+      only = only-one;
+    }
   where
     only-one : (k : ℕ) → (First andThen Next) k → (fault orElse next) ≡ k
     only-one k (earlier some f) = let e : fault ≡ k = first .only k f in orElse-some fault next (λ none. some (sym e ∙ none)) ∙ e
@@ -76,12 +76,13 @@ tells-within least most number = tells-both (tells-le least number) (tells-le nu
 pub size-exactly : (n : ℕ) → Exactly (SizeJudged n) (sizeFault n)
 size-exactly n = row (tells-not (tells-within 1 unitsMost n)) outOfRange
 
--- what a passed check shows of N
+-- a check that gives no number shows what its test tells
+pub passed-shows : {test : Bool} {Fact : Type 0} → Tells test Fact → (number : ℕ) → 0 < number → refuse (not test) number ≡ 0 → Fact
+passed-shows {test} tells number some none =
+    byBool test (tells .holds) (λ e. let zero-given : number ≡ 0 = rw e at none in absurd (omega arith))
+
 pub size-shows : (n : ℕ) → sizeFault n ≡ 0 → Within 1 unitsMost n
-size-shows n none =
-    byBool (within 1 unitsMost n)
-    (λ inside. tells-within 1 unitsMost n .holds inside)
-    (λ beyond. absurd (omega (arith, rw beyond at none)))
+size-shows n = passed-shows (tells-within 1 unitsMost n) outOfRange (omega arith)
 
 pub size-passes : (n : ℕ) → Within 1 unitsMost n → sizeFault n ≡ 0
 size-passes n inside = rw (tells-within 1 unitsMost n .told inside)

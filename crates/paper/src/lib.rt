@@ -5,39 +5,71 @@ ghost use Rattle.paper.specs.Refusals.{outOfRange, tooLong, notRising, o
 ghost use Rattle.paper.specs.Limits.{unitsMost, cylindersMost, headsMost, sectorsLeast, sectorsMost, listMost, sparesMost, tableBlock, dataSize, imageExtra, pageFrame, entrySize, pageMost, kindMost, listingMost, startCode, within, sizeFault};
 
 pub const OUT_OF_RANGE: u32 = 1;
+
 pub const TOO_LONG: u32 = 2;
+
 pub const NOT_RISING: u32 = 3;
+
 pub const OUTSIDE: u32 = 4;
+
 pub const NO_SUCH_BLOCK: u32 = 5;
+
 pub const NO_SUCH_SECTOR: u32 = 6;
+
 pub const NO_ROOM: u32 = 7;
+
 pub const BAD_PAGE: u32 = 8;
+
 pub const STRAY_CURSOR: u32 = 9;
+
 pub const BAD_OPTION: u32 = 10;
+
 pub const BAD_TABLE: u32 = 11;
+
 pub const ALREADY_REPLACED: u32 = 12;
+
 pub const NO_SPARE: u32 = 13;
+
 pub const WRONG_LENGTH: u32 = 14;
+
 pub const NO_ADDRESS: u32 = 15;
+
 pub const OTHER_BLOCK: u32 = 16;
+
 pub const FORCED_ERROR: u32 = 17;
+
 pub const BAD_CODE: u32 = 18;
 
 pub const UNITS_MOST: u32 = 16_777_216;
+
 pub const CYLINDERS_MOST: u32 = 4_096;
+
 pub const HEADS_MOST: u32 = 64;
+
 pub const SECTORS_LEAST: u32 = 2;
+
 pub const SECTORS_MOST: u32 = 64;
+
 pub const LIST_MOST: usize = 4_096;
+
 pub const SPARES_MOST: u32 = 1_024;
+
 pub const TABLE_BLOCK: usize = 128;
+
 pub const DATA_SIZE: usize = 512;
+
 pub const IMAGE_EXTRA: usize = 18;
+
 pub const PAGE_FRAME: usize = 14;
+
 pub const ENTRY_SIZE: usize = 4;
+
 pub const PAGE_MOST: usize = PAGE_FRAME + ENTRY_SIZE * LIST_MOST;
+
 pub const KIND_MOST: u32 = 1;
+
 pub const LISTING_MOST: usize = 16_398;
+
 pub const START_CODE: u16 = 0x5A3C;
 
 // Each refusal number of the code is that of the definitions.
@@ -60,8 +92,7 @@ fn refusals_agree()
     ensures { λ r. do ⌜ (← ⟦OTHER_BLOCK⟧ .entry) ≡ otherBlock ⌝ }
     ensures { λ r. do ⌜ (← ⟦FORCED_ERROR⟧ .entry) ≡ forcedError ⌝ }
     ensures { λ r. do ⌜ (← ⟦BAD_CODE⟧ .entry) ≡ badCode ⌝ }
-{
-}
+{}
 
 // Each limit and size of the code is that of the definitions.
 fn limits_agree()
@@ -81,8 +112,7 @@ fn limits_agree()
     ensures { λ r. do ⌜ (← ⟦KIND_MOST⟧ .entry) ≡ kindMost ⌝ }
     ensures { λ r. do ⌜ (← ⟦LISTING_MOST⟧ .entry) ≡ listingMost ⌝ }
     ensures { λ r. do ⌜ (← ⟦START_CODE⟧ .entry) ≡ startCode ⌝ }
-{
-}
+{}
 
 // Where a block lies, as a sector number.
 pub enum Placed {

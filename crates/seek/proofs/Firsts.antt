@@ -57,8 +57,8 @@ module _ (fault : ℕ → ℕ) where
       byEq s n
       (λ same. rw (orElse-none (firstFault fault n) (fault n) (fault-none n (λ k l. before k (omega arith)))) (ap fault (sym same)))
       (λ other.
-        let e : firstFault fault n ≡ fault s = fault-at n s (omega arith) some before in
-        orElse-some (firstFault fault n) (fault n) (λ none. some (sym e ∙ none)) ∙ e)
+      let e : firstFault fault n ≡ fault s = fault-at n s (omega arith) some before in
+      orElse-some (firstFault fault n) (fault n) (λ none. some (sym e ∙ none)) ∙ e)
 
   -- where there is a fault, there is a lowest place at fault
   pub record Lowest (n : ℕ) : Type 0 where
@@ -73,17 +73,17 @@ module _ (fault : ℕ → ℕ) where
   fault-found (suc n) some =
       byFault (firstFault fault n)
       (λ none.
-        record
-          { place = n
-          ; below = omega arith
-          ; before = fault-clean n none
-          ; here = orElse-none (firstFault fault n) (fault n) none
-          })
+      record {
+        place = n;
+        below = omega arith;
+        before = fault-clean n none;
+        here = orElse-none (firstFault fault n) (fault n) none;
+      })
       (λ found.
-        let l : Lowest n = fault-found n found in
-        record
-          { place = l .place
-          ; below = omega (arith, l .below)
-          ; before = l .before
-          ; here = orElse-some (firstFault fault n) (fault n) found ∙ l .here
-          })
+      let l : Lowest n = fault-found n found in
+      record {
+        place = l .place;
+        below = omega (arith, l .below);
+        before = l .before;
+        here = orElse-some (firstFault fault n) (fault n) found ∙ l .here;
+      })

@@ -16,11 +16,11 @@ sectorAt shape cylinder head sector = (cylinder * shape .heads + head) * shape .
 -- the address of a sector number; divisions drop the remainder
 abbrev pub addressAt : Shape → ℕ → Address
 addressAt shape sector =
-    record
-      { cylinder = sector / shape .sectors / shape .heads
-      ; head = sector / shape .sectors % shape .heads
-      ; sector = sector % shape .sectors
-      }
+    record {
+      cylinder = sector / shape .sectors / shape .heads;
+      head = sector / shape .sectors % shape .heads;
+      sector = sector % shape .sectors;
+    }
 
 -- cylinder, head and sector are each below their bound
 pub record OnDrive (shape : Shape) (cylinder head sector : ℕ) : Type 0 where

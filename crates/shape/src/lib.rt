@@ -1,11 +1,15 @@
 // The shape of a drive: its check, and sector number ↔ cylinder, head, sector.
 ghost use mathlib.Core.Path.{_≡_};
-ghost use Prim.Native.Nat.{_<_};
 ghost use Rattle.shape.specs.Shapes.{Shaped, sizeOf, shapeFault};
 ghost use Rattle.shape.specs.Addresses.{OnDrive, sectorAt, addressAt, placeFault};
 ghost use Rattle.shape.specs.Promises.{SectorOf, AddressOf};
-
-use paper::{Placed, CYLINDERS_MOST, HEADS_MOST, SECTORS_LEAST, SECTORS_MOST, OUT_OF_RANGE, NO_SUCH_SECTOR};
+use paper::CYLINDERS_MOST;
+use paper::HEADS_MOST;
+use paper::NO_SUCH_SECTOR;
+use paper::OUT_OF_RANGE;
+use paper::Placed;
+use paper::SECTORS_LEAST;
+use paper::SECTORS_MOST;
 
 pub struct Shape {
     pub cylinders: u32,

@@ -1,35 +1,32 @@
+-- `shape::address_of` meets its contract: the shape's fault and the comparison with N are the chain of the definition, and a shape without fault is in its ranges.
+-- Assumes nothing.
 use borrow.Author.Needs.{needs}
+use borrow.Author.Tests.{le-leb, lt-leb}
+use mathlib.Core.Path.{sym, _∙_}
+use Rattle.paper.proofs.Chain.{orElse-some, answer-refused}
+use Rattle.paper.proofs.Kept.{gives}
+use Rattle.shape.proofs.Exact.{shape-shows}
+use Rattle.shape.proofs.Says.{located-says}
 use Rattle.shape.proofs.address_of.Statement.{statement}
 use Rattle.shape.proofs.address_of.Tie as tie
-use Rattle.shape.proofs.address_of.Reads as reads
-use Rattle.shape.proofs.address_of.Lts as lts
-use Rattle.shape.proofs.address_at.Reads as address-at-reads
-use Rattle.shape.proofs.shape_fault.Reads as shape-fault-reads
-use Rattle.shape.proofs.size_of.Reads as size-of-reads
 
--- src/lib.rt:109:9
 shape-fault-requires : tie.Need-shape-fault-requires
 shape-fault-requires c κs = search needs
 
--- src/lib.rt:111:9
 returns : tie.Need-returns
-returns c = ?
+returns c = gives (located-says _ _) (rw (← c .before .shape-fault .ensures, orElse-some _ _ (c .if1 .taken)) (sym (answer-refused _ _ _ (c .if1 .taken))))
 
--- src/lib.rt:113:8
 size-of-requires : tie.Need-size-of-requires
-size-of-requires c κs = ?
+size-of-requires c κs = shape-shows _ (sym (c .before .shape-fault .ensures) ∙ c .if1 .left)
 
--- src/lib.rt:114:9
 returns-2 : tie.Need-returns-2
-returns-2 c = ?
+returns-2 c = gives (located-says _ _) (rw (← c .before .before .before .shape-fault .ensures, c .before .before .if1 .left, ← c .before .size-of .ensures, le-leb _ _ (c .if2 .taken)))
 
--- src/lib.rt:116:17
 address-at-requires : tie.Need-address-at-requires
-address-at-requires c κs = ?
+address-at-requires c κs = shape-shows _ (sym (c .before .before .before .shape-fault .ensures) ∙ c .before .before .if1 .left)
 
--- src/lib.rt:106:1
 returns-3 : tie.Need-returns-3
-returns-3 c = ?
+returns-3 c = gives (located-says _ _) (rw (← c .before .before .before .before .shape-fault .ensures, c .before .before .before .if1 .left, ← c .before .before .size-of .ensures, lt-leb _ _ (c .before .if2 .left), c .address-at .ensures))
 
 pub address-of-spec : {M : Type 1} → statement M
 address-of-spec =

@@ -1,26 +1,23 @@
+-- `shape::sector_at` meets its contract: no step wraps, since the track is below the number of tracks and the sector number is below N.
+-- Assumes nothing.
 use borrow.Author.Needs.{needs}
+use native.Mathlib.Omega.{arith}
+use Rattle.shape.proofs.Bounds.{tracks-fit, size-fits, track-below, sector-below}
 use Rattle.shape.proofs.sector_at.Statement.{statement}
 use Rattle.shape.proofs.sector_at.Tie as tie
-use Rattle.shape.proofs.sector_at.Reads as reads
-use Rattle.shape.proofs.sector_at.Lts as lts
 
--- src/lib.rt:58:6
 mul-result : tie.Need-mul-result
-mul-result c = ?
+mul-result c = omega (arith, tracks-fit (c .before .pre .0), track-below (c .before .pre .0) (c .before .pre .1))
 
--- src/lib.rt:58:6
 add-result : tie.Need-add-result
-add-result c = ?
+add-result c = omega (arith, tracks-fit (c .before .pre .0), track-below (c .before .pre .0) (c .before .pre .1))
 
--- src/lib.rt:58:5
 mul-result-2 : tie.Need-mul-result-2
-mul-result-2 c = ?
+mul-result-2 c = omega (arith, size-fits (c .before .before .pre .0), sector-below (c .before .before .pre .0) (c .before .before .pre .1))
 
--- src/lib.rt:58:5
 add-result-2 : tie.Need-add-result-2
-add-result-2 c = ?
+add-result-2 c = omega (arith, size-fits (c .before .before .pre .0), sector-below (c .before .before .pre .0) (c .before .before .pre .1))
 
--- src/lib.rt:53:1
 returns : tie.Need-returns
 returns c = search needs
 

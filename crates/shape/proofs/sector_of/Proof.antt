@@ -1,35 +1,30 @@
+-- `shape::sector_of` meets its contract: the two faults are the chain of the definition, and where both are 0 the shape is in its ranges and the address on the drive.
+-- Assumes nothing.
 use borrow.Author.Needs.{needs}
+use mathlib.Core.Path.{sym, _∙_}
+use Rattle.paper.proofs.Chain.{orElse-some, answer-refused, placed-says}
+use Rattle.paper.proofs.Kept.{gives}
+use Rattle.shape.proofs.Exact.{shape-shows, place-shows}
 use Rattle.shape.proofs.sector_of.Statement.{statement}
 use Rattle.shape.proofs.sector_of.Tie as tie
-use Rattle.shape.proofs.sector_of.Reads as reads
-use Rattle.shape.proofs.sector_of.Lts as lts
-use Rattle.shape.proofs.place_fault.Reads as place-fault-reads
-use Rattle.shape.proofs.sector_at.Reads as sector-at-reads
-use Rattle.shape.proofs.shape_fault.Reads as shape-fault-reads
 
--- src/lib.rt:94:9
 shape-fault-requires : tie.Need-shape-fault-requires
 shape-fault-requires c κs = search needs
 
--- src/lib.rt:96:9
 returns : tie.Need-returns
-returns c = ?
+returns c = gives (placed-says _ _) (rw (← c .before .shape-fault .ensures, orElse-some _ _ (c .if1 .taken)) (sym (answer-refused _ _ _ (c .if1 .taken))))
 
--- src/lib.rt:98:9
 place-fault-requires : tie.Need-place-fault-requires
 place-fault-requires c κs = search needs
 
--- src/lib.rt:100:9
 returns-2 : tie.Need-returns-2
-returns-2 c = ?
+returns-2 c = gives (placed-says _ _) (rw (← c .before .before .before .shape-fault .ensures, c .before .before .if1 .left, ← c .before .place-fault .ensures) (sym (answer-refused _ _ _ (c .if2 .taken))))
 
--- src/lib.rt:102:16
 sector-at-requires : tie.Need-sector-at-requires
-sector-at-requires c κs = ?
+sector-at-requires c κs = (shape-shows _ (sym (c .before .before .before .shape-fault .ensures) ∙ c .before .before .if1 .left), place-shows _ _ _ _ (sym (c .before .place-fault .ensures) ∙ c .if2 .left))
 
--- src/lib.rt:91:1
 returns-3 : tie.Need-returns-3
-returns-3 c = ?
+returns-3 c = gives (placed-says _ _) (rw (← c .before .before .before .before .shape-fault .ensures, c .before .before .before .if1 .left, ← c .before .before .place-fault .ensures, c .before .if2 .left, c .sector-at .ensures))
 
 pub sector-of-spec : {M : Type 1} → statement M
 sector-of-spec =

@@ -1,37 +1,50 @@
+-- `shape::shape_fault` meets its contract: each return is a row of the table, by what `within` answers of the three numbers.
+-- Assumes nothing.
 use borrow.Author.Needs.{needs}
+use borrow.Author.Tests.{not-true, not-false}
+use mathlib.Core.Path.{sym, _∙_}
+use Rattle.paper.specs.Limits.{cylindersMost, headsMost, sectorsLeast, sectorsMost}
+use Rattle.paper.specs.Refusals.{outOfRange}
+use Rattle.paper.specs.Exactly.{When}
+use Rattle.paper.proofs.Rows.{tells-within, tells-false}
+use Rattle.shape.specs.Shapes.{Shaped}
+use Rattle.shape.proofs.Exact.{shape-exactly}
 use Rattle.shape.proofs.shape_fault.Statement.{statement}
 use Rattle.shape.proofs.shape_fault.Tie as tie
-use Rattle.shape.proofs.shape_fault.Reads as reads
-use Rattle.shape.proofs.shape_fault.Lts as lts
-use Rattle.paper.proofs.within.Reads as within-reads
 
--- src/lib.rt:32:9
 within-requires : tie.Need-within-requires
 within-requires c κs = search needs
 
--- src/lib.rt:33:9
 returns : tie.Need-returns
-returns c = ?
+returns c =
+    let cylinders = tells-within 1 cylindersMost (c .before .before .args .shape .cylinders) in
+    sym (shape-exactly (c .before .before .args .shape) .only outOfRange (When.given (λ shaped. tells-false cylinders (sym (c .before .within .ensures) ∙ not-true _ (c .if1 .taken)) (shaped .cylinders))))
 
--- src/lib.rt:35:9
 within-requires-2 : tie.Need-within-requires-2
 within-requires-2 c κs = search needs
 
--- src/lib.rt:36:9
 returns-2 : tie.Need-returns-2
-returns-2 c = ?
+returns-2 c =
+    let heads = tells-within 1 headsMost (c .before .before .before .before .args .shape .heads) in
+    sym (shape-exactly (c .before .before .before .before .args .shape) .only outOfRange (When.given (λ shaped. tells-false heads (sym (c .before .within2 .ensures) ∙ not-true _ (c .if2 .taken)) (shaped .heads))))
 
--- src/lib.rt:38:9
 within-requires-3 : tie.Need-within-requires-3
 within-requires-3 c κs = search needs
 
--- src/lib.rt:39:9
 returns-3 : tie.Need-returns-3
-returns-3 c = ?
+returns-3 c =
+    let sectors = tells-within sectorsLeast sectorsMost (c .before .before .before .before .before .before .args .shape .sectors) in
+    sym (shape-exactly (c .before .before .before .before .before .before .args .shape) .only outOfRange (When.given (λ shaped. tells-false sectors (sym (c .before .within3 .ensures) ∙ not-true _ (c .if3 .taken)) (shaped .sectors))))
 
--- src/lib.rt:29:1
 returns-4 : tie.Need-returns-4
-returns-4 c = ?
+returns-4 c =
+    let shape = c .before .before .before .before .before .before .args .shape in
+    let ranges : Shaped shape = record {
+      cylinders = tells-within 1 cylindersMost (shape .cylinders) .holds (sym (c .before .before .before .before .before .within .ensures) ∙ not-false _ (c .before .before .before .before .if1 .left));
+      heads = tells-within 1 headsMost (shape .heads) .holds (sym (c .before .before .before .within2 .ensures) ∙ not-false _ (c .before .before .if2 .left));
+      sectors = tells-within sectorsLeast sectorsMost (shape .sectors) .holds (sym (c .before .within3 .ensures) ∙ not-false _ (c .if3 .left));
+    } in
+    sym (shape-exactly shape .only 0 (When.passed (λ unshaped. unshaped ranges)))
 
 pub shape-fault-spec : {M : Type 1} → statement M
 shape-fault-spec =

@@ -1,18 +1,17 @@
+-- `shape::size_of` meets its contract: no product of a shape's numbers wraps, since N is at most the most units of a space.
+-- Assumes nothing.
 use borrow.Author.Needs.{needs}
+use native.Mathlib.Omega.{arith}
+use Rattle.shape.proofs.Bounds.{tracks-fit, size-fits}
 use Rattle.shape.proofs.size_of.Statement.{statement}
 use Rattle.shape.proofs.size_of.Tie as tie
-use Rattle.shape.proofs.size_of.Reads as reads
-use Rattle.shape.proofs.size_of.Lts as lts
 
--- src/lib.rt:49:5
 mul-result : tie.Need-mul-result
-mul-result c = ?
+mul-result c = omega (arith, tracks-fit (c .before .pre))
 
--- src/lib.rt:49:5
 mul-result-2 : tie.Need-mul-result-2
-mul-result-2 c = ?
+mul-result-2 c = omega (arith, size-fits (c .before .before .pre))
 
--- src/lib.rt:45:1
 returns : tie.Need-returns
 returns c = search needs
 

@@ -1,0 +1,4 @@
+pub mod Bounds
+pub mod Inverse
+pub mod Exact
+pub mod Says

@@ -1,0 +1,296 @@
+// Skipping over N sectors with a list of bad ones: block ↔ sector, and the job cursor.
+ghost use mathlib.Core.Path.{_≡_};
+ghost use Prim.Native.Nat.{_≤_, _<_};
+ghost use lib.Dec.{eqb};
+ghost use lib.ListN.{length};
+ghost use Rattle.paper.specs.Limits.{listMost, unitsMost};
+ghost use Rattle.lists.specs.Proper.{Rising, Proper, spaceFault};
+ghost use Rattle.skip.specs.Walk.{passes, walked, entriesBelow, isBehind, isAhead};
+ghost use Rattle.skip.specs.Translation.{blocks, blockFault, sectorFault, blockOn};
+ghost use Rattle.skip.specs.Cursors.{belongs, cursorFault, stepFault};
+ghost use Rattle.skip.specs.Promises.{SectorOf, BlockOn, Starts, Checks, Steps};
+use paper::NO_SUCH_BLOCK;
+use paper::NO_SUCH_SECTOR;
+use paper::Named;
+use paper::Placed;
+use paper::STRAY_CURSOR;
+
+// The next block of a job, and how many entries of the list lie below the sector of the block before it.
+pub struct Cursor {
+    pub block: u32,
+    pub skipped: u32,
+}
+
+// A job that is ready at its cursor, or the sector of a block and the cursor after it.
+pub enum Job {
+    Ready(Cursor),
+    At(u32, Cursor),
+    Refused(u32, Cursor),
+}
+
+// How many entries a block passes, of which `from` are known to be passed.
+fn passed(list: &[u32], block: u32, from: u32) -> u32
+    requires { ⌜ Rising (now list) ⌝ }
+    requires { ⌜ length (now list) ≤ listMost ⌝ }
+    requires { ⌜ block ≤ unitsMost ⌝ }
+    requires { ⌜ from ≤ passes (now list) block ⌝ }
+    ensures { λ r. ⌜ r ≡ passes (now (list .entry)) block ⌝ }
+{
+    let mut count = from;
+    while (count as usize) < list.len() {
+        if block + count < list[count as usize] {
+            return count;
+        }
+        count += 1;
+    }
+    count
+}
+
+// How many entries lie below a sector.
+fn entries_below(list: &[u32], sector: u32) -> u32
+    requires { ⌜ Rising (now list) ⌝ }
+    requires { ⌜ length (now list) ≤ listMost ⌝ }
+    ensures { λ r. ⌜ r ≡ entriesBelow (now (list .entry)) sector ⌝ }
+{
+    let mut count: u32 = 0;
+    while (count as usize) < list.len() {
+        if sector <= list[count as usize] {
+            return count;
+        }
+        count += 1;
+    }
+    count
+}
+
+// The number of blocks. Only other crates call this.
+pub fn block_count(n: u32, list: &[u32]) -> u32
+    ensures { λ r. ⌜ r ≡ blocks n (now (list .entry)) ⌝ }
+{
+    if (n as usize) < list.len() {
+        return 0;
+    }
+    n - list.len() as u32
+}
+
+// The sector of a block of a proper list. Only other crates call this.
+pub fn walk(list: &[u32], block: u32) -> u32
+    requires { ⌜ Rising (now list) ⌝ }
+    requires { ⌜ length (now list) ≤ listMost ⌝ }
+    requires { ⌜ block ≤ unitsMost ⌝ }
+    ensures { λ r. ⌜ r ≡ walked (now (list .entry)) block ⌝ }
+{
+    block + passed(list, block, 0)
+}
+
+// The block on a sector of a proper list. Only other crates call this.
+pub fn name(list: &[u32], sector: u32) -> Named
+    requires { ⌜ Rising (now list) ⌝ }
+    requires { ⌜ length (now list) ≤ listMost ⌝ }
+    ensures { λ r. ⌜ r ≡ blockOn (now (list .entry)) sector ⌝ }
+{
+    let below = entries_below(list, sector);
+    let at = below as usize;
+    if at < list.len() {
+        if list[at] == sector {
+            return Named::NoBlock;
+        }
+        return Named::Block(sector - below);
+    }
+    Named::Block(sector - below)
+}
+
+// Checks 1, list, 5.
+fn block_fault(n: u32, list: &[u32], block: u32) -> u32
+    ensures { λ r. ⌜ r ≡ blockFault n (now (list .entry)) block ⌝ }
+{
+    let fault = lists::space_fault(n, list);
+    if fault != 0 {
+        return fault;
+    }
+    if block_count(n, list) <= block {
+        return NO_SUCH_BLOCK;
+    }
+    0
+}
+
+// Checks 1, list, 6.
+fn sector_fault(n: u32, list: &[u32], sector: u32) -> u32
+    ensures { λ r. ⌜ r ≡ sectorFault n (now (list .entry)) sector ⌝ }
+{
+    let fault = lists::space_fault(n, list);
+    if fault != 0 {
+        return fault;
+    }
+    if n <= sector {
+        return NO_SUCH_SECTOR;
+    }
+    0
+}
+
+// The sector that a block lies on. Checks 1, list, 5.
+pub fn sector_of(n: u32, list: &[u32], block: u32) -> Placed
+    ensures { λ r. ⌜ SectorOf n (now (list .entry)) block r ⌝ }
+{
+    let fault = block_fault(n, list, block);
+    if fault != 0 {
+        return Placed::Refused(fault);
+    }
+    Placed::At(walk(list, block))
+}
+
+// The block that lies on a sector, or no block. Checks 1, list, 6.
+pub fn block_on(n: u32, list: &[u32], sector: u32) -> Named
+    ensures { λ r. ⌜ BlockOn n (now (list .entry)) sector r ⌝ }
+{
+    let fault = sector_fault(n, list, sector);
+    if fault != 0 {
+        return Named::Refused(fault);
+    }
+    name(list, sector)
+}
+
+// Whether the entries before a place are passed on the way to an address: the last of them lies below it.
+fn behind(list: &[u32], count: usize, address: u32) -> bool
+    requires { ⌜ count ≤ length (now list) ⌝ }
+    ensures { λ r. ⌜ r ≡ isBehind (now (list .entry)) count address ⌝ }
+{
+    if count == 0 {
+        return true;
+    }
+    list[count - 1] < address
+}
+
+// Whether the entries from a place on are still ahead of an address: the first of them lies above it.
+fn ahead(list: &[u32], count: usize, address: u32) -> bool
+    requires { ⌜ count ≤ length (now list) ⌝ }
+    ensures { λ r. ⌜ r ≡ isAhead (now (list .entry)) count address ⌝ }
+{
+    if count == list.len() {
+        return true;
+    }
+    address < list[count]
+}
+
+// Whether a block passes just so many entries.
+fn passes_just(list: &[u32], block: u32, count: u32) -> bool
+    requires { ⌜ Rising (now list) ⌝ }
+    requires { ⌜ length (now list) ≤ listMost ⌝ }
+    requires { ⌜ block ≤ unitsMost ⌝ }
+    ensures { λ r. ⌜ r ≡ eqb count (passes (now (list .entry)) block) ⌝ }
+{
+    let at = count as usize;
+    if list.len() < at {
+        return false;
+    }
+    if !behind(list, at, block + count) {
+        return false;
+    }
+    ahead(list, at, block + count)
+}
+
+// Whether a cursor is one of a proper list over n.
+fn is_of(n: u32, list: &[u32], cursor: Cursor) -> bool
+    requires { ⌜ Proper n (now list) ⌝ }
+    requires { ⌜ n ≤ unitsMost ⌝ }
+    ensures { λ r. ⌜ r ≡ belongs n (now (list .entry)) cursor ⌝ }
+{
+    let block = cursor.block;
+    let skipped = cursor.skipped;
+    if block_count(n, list) < block {
+        return false;
+    }
+    if block == 0 {
+        return skipped == 0;
+    }
+    passes_just(list, block - 1, skipped)
+}
+
+// Checks 1, list, 9.
+fn cursor_fault(n: u32, list: &[u32], cursor: Cursor) -> u32
+    ensures { λ r. ⌜ r ≡ cursorFault n (now (list .entry)) cursor ⌝ }
+{
+    let fault = lists::space_fault(n, list);
+    if fault != 0 {
+        return fault;
+    }
+    if !is_of(n, list, cursor) {
+        return STRAY_CURSOR;
+    }
+    0
+}
+
+// Checks 1, list, 9, 5.
+fn step_fault(n: u32, list: &[u32], cursor: Cursor) -> u32
+    ensures { λ r. ⌜ r ≡ stepFault n (now (list .entry)) cursor ⌝ }
+{
+    let fault = cursor_fault(n, list, cursor);
+    if fault != 0 {
+        return fault;
+    }
+    if block_count(n, list) <= cursor.block {
+        return NO_SUCH_BLOCK;
+    }
+    0
+}
+
+impl Cursor {
+    // Opens a job at a block. Checks 1, list, 5.
+    pub fn start(n: u32, list: &[u32], block: u32) -> Job
+        ensures { λ r. ⌜ Starts n (now (list .entry)) block r ⌝ }
+    {
+        let fault = block_fault(n, list, block);
+        if fault != 0 {
+            return Job::Refused(
+                fault,
+                Cursor {
+                    block: 0,
+                    skipped: 0,
+                },
+            );
+        }
+        if block == 0 {
+            return Job::Ready(Cursor {
+                block: 0,
+                skipped: 0,
+            });
+        }
+        let skipped = passed(list, block - 1, 0);
+        Job::Ready(Cursor { block, skipped })
+    }
+
+    // Whether the cursor is one of this list. Checks 1, list, 9.
+    pub fn check(self, n: u32, list: &[u32]) -> Job
+        ensures { λ r. ⌜ Checks n (now (list .entry)) self r ⌝ }
+    {
+        let fault = cursor_fault(n, list, self);
+        if fault != 0 {
+            return Job::Refused(
+                fault,
+                Cursor {
+                    block: 0,
+                    skipped: 0,
+                },
+            );
+        }
+        Job::Ready(self)
+    }
+
+    // The sector of the cursor's block, and the cursor for the block after it. Checks 1, list, 9, 5.
+    pub fn step(self, n: u32, list: &[u32]) -> Job
+        ensures { λ r. ⌜ Steps n (now (list .entry)) self r ⌝ }
+    {
+        let fault = step_fault(n, list, self);
+        if fault != 0 {
+            return Job::Refused(fault, self);
+        }
+        let block = self.block;
+        let skipped = passed(list, block, self.skipped);
+        Job::At(
+            block + skipped,
+            Cursor {
+                block: block + 1,
+                skipped,
+            },
+        )
+    }
+}

@@ -1,0 +1,5 @@
+pub mod Bounds
+pub mod Stores
+pub mod Digits
+pub mod Places
+pub mod Runs
