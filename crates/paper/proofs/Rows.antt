@@ -5,7 +5,7 @@ use mathlib.Core.Path.{_≡_, refl, sym, _∙_}
 use mathlib.Core.Bool.{Bool, true, false, not, _&&_, _||_, true≢false}
 use native.Mathlib.Omega.{arith}
 use lib.Dec.{leb, ltb, eqb}
-use borrow.Author.Tests.{ltb-true, leb-true, lt-ltb, le-leb, not-true, leb-false, lt-leb}
+use borrow.Author.Tests.{ltb-true, lt-ltb, leb-true, le-leb, eqb-true, eq-eqb, not-true}
 use Rattle.paper.specs.Checks.{refuse, _orElse_}
 use Rattle.paper.specs.Exactly.{When, _andThen_, earlier, later, Exactly}
 use Rattle.paper.specs.Limits.{Within, within, unitsMost, sizeFault, SizeJudged}
@@ -58,6 +58,9 @@ tells-lt a b = record { holds = ltb-true a b; told = lt-ltb a b }
 
 pub tells-le : (a b : ℕ) → Tells (leb a b) (a ≤ b)
 tells-le a b = record { holds = leb-true a b; told = le-leb a b }
+
+pub tells-eq : (a b : ℕ) → Tells (eqb a b) (a ≡ b)
+tells-eq a b = record { holds = eqb-true a b; told = eq-eqb a b }
 
 pub tells-both : {s t : Bool} {F G : Type 0} → Tells s F → Tells t G → Tells (s && t) (F × G)
 tells-both {s} {t} f g = record { holds = λ e. (f .holds (and-left s t e), g .holds (and-right s t e)); told = λ h. rw (f .told (h .0), g .told (h .1)) }

@@ -4,3 +4,7 @@ pub mod Ranges
 pub mod Walks
 pub mod Passing
 pub mod Just
+pub mod Naming
+pub mod Shown
+pub mod Cursoring
+pub mod Exact

@@ -113,6 +113,14 @@ passes-le (x ∷ a) b =
     (λ stop. omega (arith, passes-stop x a b stop))
     (λ on. omega (arith, passes-on x a b on, passes-le a (suc b)))
 
+-- a later block passes no fewer entries
+pub passes-mono : (a : List ℕ) (b : ℕ) → passes a b ≤ passes a (suc b)
+passes-mono [] b = omega (arith, passes-nil b, passes-nil (suc b))
+passes-mono (x ∷ a) b =
+    byLt b x
+    (λ stop. omega (arith, passes-stop x a b stop))
+    (λ on. omega (arith, passes-on x a b on, passes-on x a (suc b) (omega arith), passes-mono a (suc b)))
+
 -- the walk ends outside the list, past as many entries as lie below its end
 pub record Ends (a : List ℕ) (b s : ℕ) : Type 0 where
   pub clear : isIn a s ≡ false
@@ -153,3 +161,23 @@ module _ (n : ℕ) (a : List ℕ) (rising : Rising a) (inside : Inside n a) (b :
   -- the entries below the sector of a block are those that the block passes
   pub below-place : entriesBelow a (place (isIn a) n b) ≡ passes a b
   below-place = rw walk-is-place (walk-ends a b rising (walked a b) refl .below)
+
+-- a member stands at the place that counts the entries below it
+pub record Ranked (a : List ℕ) (s : ℕ) : Type 0 where
+  pub rank-below : entriesBelow a s < length a
+  pub is : getD a (entriesBelow a s) 0 ≡ s
+
+pub member-ranked : (a : List ℕ) (s : ℕ) → Rising a → isIn a s ≡ true → Ranked a s
+member-ranked [] s rising e = absurd (true≢false (sym e ∙ not-in-nil s))
+member-ranked (x ∷ a) s rising e =
+    byLt x s
+    (λ less.
+    let rank : entriesBelow (x ∷ a) s ≡ suc (entriesBelow a s) = below-less x a s less in
+    let rest : Ranked a s = member-ranked a s (rising-tail x a rising) (sym (in-there x a s (λ same. omega arith)) ∙ e) in
+    record { rank-below = omega (arith, rest .rank-below); is = rw rank (rest .is) })
+    (λ more.
+    byEq x s
+    (λ same.
+    let rank : entriesBelow (x ∷ a) s ≡ 0 = below-more x a s more ∙ below-above x a s (omega arith) (rising-above x a rising) in
+    record { rank-below = omega arith; is = rw rank same })
+    (λ other. absurd (true≢false (sym e ∙ (in-there x a s other ∙ not-in-above x a s more (rising-above x a rising))))))

@@ -1,26 +1,28 @@
+-- `skip::block_on` meets its contract: a sector that passes the checks is named as the definition says.
+-- Assumes nothing.
 use borrow.Author.Needs.{needs}
+use mathlib.Core.Path.{_≡_, sym, _∙_, ap}
+use native.Mathlib.Omega.{arith}
+use denote.Ref.{now}
+use Rattle.paper.proofs.Chain.{answer-refused, answer-accepted, named-says}
+use Rattle.paper.proofs.Kept.{gives}
+use Rattle.lists.specs.Union.{isIn}
+use Rattle.skip.specs.Skipping.{goodsBefore}
+use Rattle.skip.proofs.Shown.{sector-proper}
 use Rattle.skip.proofs.block_on.Statement.{statement}
 use Rattle.skip.proofs.block_on.Tie as tie
-use Rattle.skip.proofs.block_on.Reads as reads
-use Rattle.skip.proofs.block_on.Lts as lts
-use Rattle.skip.proofs.name.Reads as name-reads
-use Rattle.skip.proofs.sector_fault.Reads as sector-fault-reads
 
--- src/lib.rt:142:9
 sector-fault-requires : tie.Need-sector-fault-requires
 sector-fault-requires c κs = search needs
 
--- src/lib.rt:144:9
 returns : tie.Need-returns
-returns c = ?
+returns c = gives (named-says _ (isIn (now (c .before .before .before .args .list)) (c .before .before .before .args .sector)) (goodsBefore (isIn (now (c .before .before .before .args .list))) (c .before .before .before .args .sector))) (rw (← c .before .sector-fault .ensures) (sym (answer-refused _ _ _ (c .if1 .taken))))
 
--- src/lib.rt:146:5
 name-requires : tie.Need-name-requires
-name-requires c κs = ?
+name-requires c κs = (sector-proper (c .before .before .before .args .n) (now (c .before .before .before .args .list)) (c .before .before .before .args .sector) (sym (c .before .sector-fault .ensures) ∙ c .if1 .left) .rising, sector-proper (c .before .before .before .args .n) (now (c .before .before .before .args .list)) (c .before .before .before .args .sector) (sym (c .before .sector-fault .ensures) ∙ c .if1 .left) .short)
 
--- src/lib.rt:139:1
 returns-2 : tie.Need-returns-2
-returns-2 c = ?
+returns-2 c = gives (named-says _ (isIn (now (c .before .before .before .before .args .list)) (c .before .before .before .before .args .sector)) (goodsBefore (isIn (now (c .before .before .before .before .args .list))) (c .before .before .before .before .args .sector))) (c .name .ensures ∙ sym (answer-accepted _ _ _ (sym (c .before .before .sector-fault .ensures) ∙ c .before .if1 .left)))
 
 pub block-on-spec : {M : Type 1} → statement M
 block-on-spec = tie.close (tie.spec sector-fault-requires returns name-requires returns-2)

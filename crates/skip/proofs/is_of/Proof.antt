@@ -1,34 +1,35 @@
+-- `skip::is_of` meets its contract: the count before a block is what the block before it passes, and 0 before block 0.
+-- Assumes nothing.
 use borrow.Author.Needs.{needs}
+use Prim.Native.Nat.{_≤_, _<_, _-_}
+use mathlib.Core.Path.{_≡_, sym, _∙_}
+use native.Mathlib.Omega.{arith}
+use denote.Ref.{now}
+use borrow.Author.Tests.{le-leb, lt-leb}
+use Rattle.skip.specs.Walk.{passes}
+use Rattle.skip.specs.Translation.{blocks}
+use Rattle.skip.specs.Cursors.{skippedBefore}
+use Rattle.skip.proofs.Cursoring.{skipped-passes}
 use Rattle.skip.proofs.is_of.Statement.{statement}
 use Rattle.skip.proofs.is_of.Tie as tie
-use Rattle.skip.proofs.is_of.Reads as reads
-use Rattle.skip.proofs.is_of.Lts as lts
-use Rattle.skip.proofs.block_count.Reads as block-count-reads
-use Rattle.skip.proofs.passes_just.Reads as passes-just-reads
 
--- src/lib.rt:196:8
 block-count-requires : tie.Need-block-count-requires
 block-count-requires c κs = search needs
 
--- src/lib.rt:197:9
 returns : tie.Need-returns
-returns c = ?
+returns c = let h : blocks (c .before .before .before .args .n) (now (c .before .before .before .args .list)) < c .before .before .before .args .cursor .block = rw (c .before .block-count .ensures) at (c .if1 .taken) in rw (lt-leb _ _ h)
 
--- src/lib.rt:200:9
 returns-2 : tie.Need-returns-2
-returns-2 c = ?
+returns-2 c = rw (c .if2 .taken, le-leb 0 (blocks (c .before .before .before .before .args .n) (now (c .before .before .before .before .args .list))) (omega arith))
 
--- src/lib.rt:202:23
 sub-passes-just : tie.Need-sub-passes-just
 sub-passes-just c = search needs
 
--- src/lib.rt:202:5
 passes-just-requires : tie.Need-passes-just-requires
-passes-just-requires c κs = search needs
+passes-just-requires c κs = (c .before .before .before .before .pre .0 .rising, (c .before .before .before .before .pre .0 .short, omega (arith, c .before .before .before .before .pre .1, c .before .before .block-count .ensures)))
 
--- src/lib.rt:189:1
 returns-3 : tie.Need-returns-3
-returns-3 c = ?
+returns-3 c = let h : c .before .before .before .before .before .args .cursor .block ≤ blocks (c .before .before .before .before .before .args .n) (now (c .before .before .before .before .before .args .list)) = rw (c .before .before .before .block-count .ensures) at (c .before .before .if1 .left) in rw (le-leb _ _ h, skipped-passes (c .before .before .before .before .before .args .n) (now (c .before .before .before .before .before .args .list)) (c .before .before .before .before .before .pre .0) (c .before .before .before .before .before .args .cursor .block) (c .before .if2 .left) h) (c .passes-just .ensures)
 
 pub is-of-spec : {M : Type 1} → statement M
 is-of-spec =

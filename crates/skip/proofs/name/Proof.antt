@@ -1,45 +1,38 @@
+-- `skip::name` meets its contract: the entry at the place that counts the entries below the sector tells whether the sector is in the list.
+-- Assumes nothing.
 use borrow.Author.Needs.{needs}
+use native.Mathlib.Omega.{arith}
+use denote.Ref.{now}
+use Rattle.skip.proofs.Naming.{rank-le, name-entry, name-good}
 use Rattle.skip.proofs.name.Statement.{statement}
 use Rattle.skip.proofs.name.Tie as tie
-use Rattle.skip.proofs.name.Reads as reads
-use Rattle.skip.proofs.name.Lts as lts
-use Rattle.skip.proofs.entries_below.Reads as entries-below-reads
 
--- src/lib.rt:88:9
 entries-below-requires : tie.Need-entries-below-requires
 entries-below-requires c κs = search needs
 
--- src/lib.rt:89:14
 cast-at : tie.Need-cast-at
 cast-at c = search needs
 
--- src/lib.rt:91:12
 mul-if2 : tie.Need-mul-if2
 mul-if2 c = search needs
 
--- src/lib.rt:91:12
 shared-slice-read-if2 : tie.Need-shared-slice-read-if2
 shared-slice-read-if2 c = search needs
 
--- src/lib.rt:92:13
 returns : tie.Need-returns
-returns c = ?
+returns c = name-entry (now (c .before .before .before .before .before .args .list)) (c .before .before .before .before .before .args .sector) (c .before .before .before .entries-below .result) (c .before .before .before .before .before .pre .0) (c .before .before .before .entries-below .ensures) (c .before .before .if1 .taken) (c .if2 .taken)
 
--- src/lib.rt:94:29
 sub-t9 : tie.Need-sub-t9
-sub-t9 c = ?
+sub-t9 c = rank-le (now (c .before .before .before .before .before .args .list)) (c .before .before .before .before .before .args .sector) (c .before .before .before .entries-below .result) (c .before .before .before .before .before .pre .0) (c .before .before .before .entries-below .ensures)
 
--- src/lib.rt:94:9
 returns-2 : tie.Need-returns-2
-returns-2 c = ?
+returns-2 c = name-good (now (c .before .before .before .before .before .args .list)) (c .before .before .before .before .before .args .sector) (c .before .before .before .entries-below .result) (c .before .before .before .before .before .pre .0) (c .before .before .before .entries-below .ensures) (λ h. c .if2 .left)
 
--- src/lib.rt:96:18
 sub-t11 : tie.Need-sub-t11
-sub-t11 c = ?
+sub-t11 c = rank-le (now (c .before .before .before .args .list)) (c .before .before .before .args .sector) (c .before .entries-below .result) (c .before .before .before .pre .0) (c .before .entries-below .ensures)
 
--- src/lib.rt:83:1
 returns-3 : tie.Need-returns-3
-returns-3 c = ?
+returns-3 c = name-good (now (c .before .before .before .args .list)) (c .before .before .before .args .sector) (c .before .entries-below .result) (c .before .before .before .pre .0) (c .before .entries-below .ensures) (λ h e. omega arith)
 
 pub name-spec : {M : Type 1} → statement M
 name-spec =

@@ -1,25 +1,23 @@
+-- `skip::sector_fault` meets its contract: the checks follow one another as in the definition.
+-- Assumes nothing.
 use borrow.Author.Needs.{needs}
+use mathlib.Core.Path.{_≡_, sym, _∙_}
+use borrow.Author.Tests.{le-leb, lt-leb}
+use Rattle.paper.proofs.Chain.{orElse-some}
 use Rattle.skip.proofs.sector_fault.Statement.{statement}
 use Rattle.skip.proofs.sector_fault.Tie as tie
-use Rattle.skip.proofs.sector_fault.Reads as reads
-use Rattle.skip.proofs.sector_fault.Lts as lts
-use Rattle.lists.proofs.space_fault.Reads as space-fault-reads
 
--- src/lib.rt:117:9
 space-fault-requires : tie.Need-space-fault-requires
 space-fault-requires c κs = search needs
 
--- src/lib.rt:119:9
 returns : tie.Need-returns
-returns c = ?
+returns c = rw (← c .before .space-fault .ensures) (sym (orElse-some _ _ (c .if1 .taken)))
 
--- src/lib.rt:122:9
 returns-2 : tie.Need-returns-2
-returns-2 c = ?
+returns-2 c = rw (← c .before .before .space-fault .ensures, c .before .if1 .left, le-leb _ _ (c .if2 .taken))
 
--- src/lib.rt:114:1
 returns-3 : tie.Need-returns-3
-returns-3 c = ?
+returns-3 c = rw (← c .before .before .space-fault .ensures, c .before .if1 .left, lt-leb _ _ (c .if2 .left))
 
 pub sector-fault-spec : {M : Type 1} → statement M
 sector-fault-spec = tie.close (tie.spec space-fault-requires returns returns-2 returns-3)

@@ -1,30 +1,29 @@
+-- `skip::step_fault` meets its contract: the checks follow one another as in the definition.
+-- Assumes nothing.
 use borrow.Author.Needs.{needs}
+use mathlib.Core.Path.{_≡_, sym, _∙_}
+use borrow.Author.Tests.{le-leb, lt-leb}
+use Rattle.paper.proofs.Chain.{orElse-some}
+use Rattle.skip.specs.Translation.{blocks}
+use denote.Ref.{now}
+use Prim.Native.Nat.{_≤_, _<_}
 use Rattle.skip.proofs.step_fault.Statement.{statement}
 use Rattle.skip.proofs.step_fault.Tie as tie
-use Rattle.skip.proofs.step_fault.Reads as reads
-use Rattle.skip.proofs.step_fault.Lts as lts
-use Rattle.skip.proofs.block_count.Reads as block-count-reads
-use Rattle.skip.proofs.cursor_fault.Reads as cursor-fault-reads
 
--- src/lib.rt:223:9
 cursor-fault-requires : tie.Need-cursor-fault-requires
 cursor-fault-requires c κs = search needs
 
--- src/lib.rt:225:9
 returns : tie.Need-returns
-returns c = ?
+returns c = rw (← c .before .cursor-fault .ensures) (sym (orElse-some _ _ (c .if1 .taken)))
 
--- src/lib.rt:227:8
 block-count-requires : tie.Need-block-count-requires
 block-count-requires c κs = search needs
 
--- src/lib.rt:228:9
 returns-2 : tie.Need-returns-2
-returns-2 c = ?
+returns-2 c = let h : blocks (c .before .before .before .before .before .before .args .n) (now (c .before .before .before .before .before .before .args .list)) ≤ c .before .before .before .before .before .before .args .cursor .block = rw (c .before .before .block-count .ensures) at (c .if2 .taken) in rw (← c .before .before .before .before .cursor-fault .ensures, c .before .before .before .if1 .left, le-leb _ _ h)
 
--- src/lib.rt:220:1
 returns-3 : tie.Need-returns-3
-returns-3 c = ?
+returns-3 c = let h : c .before .before .before .before .before .before .args .cursor .block < blocks (c .before .before .before .before .before .before .args .n) (now (c .before .before .before .before .before .before .args .list)) = rw (c .before .before .block-count .ensures) at (c .if2 .left) in rw (← c .before .before .before .before .cursor-fault .ensures, c .before .before .before .if1 .left, lt-leb _ _ h)
 
 pub step-fault-spec : {M : Type 1} → statement M
 step-fault-spec =

@@ -1,19 +1,18 @@
+-- `skip::walk` meets its contract: it adds to the block the entries that the block passes.
+-- Assumes nothing.
 use borrow.Author.Needs.{needs}
+use native.Mathlib.Omega.{arith}
+use denote.Ref.{now}
+use Rattle.skip.proofs.Walks.{passes-le}
 use Rattle.skip.proofs.walk.Statement.{statement}
 use Rattle.skip.proofs.walk.Tie as tie
-use Rattle.skip.proofs.walk.Reads as reads
-use Rattle.skip.proofs.walk.Lts as lts
-use Rattle.skip.proofs.passed.Reads as passed-reads
 
--- src/lib.rt:79:13
 passed-requires : tie.Need-passed-requires
 passed-requires c κs = search needs
 
--- src/lib.rt:79:5
 add-result : tie.Need-add-result
-add-result c = ?
+add-result c = omega (arith, c .passed .ensures, passes-le (now (c .before .before .args .list)) (c .before .before .args .block))
 
--- src/lib.rt:73:1
 returns : tie.Need-returns
 returns c = search needs
 

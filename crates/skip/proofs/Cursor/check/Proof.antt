@@ -1,21 +1,23 @@
+-- `skip::Cursor::check` meets its contract: a cursor that passes is handed back.
+-- Assumes nothing.
 use borrow.Author.Needs.{needs}
+use mathlib.Core.Path.{_≡_, sym, _∙_, ap}
+use native.Mathlib.Omega.{arith}
+use denote.Ref.{now}
+use Rattle.paper.proofs.Chain.{answer-refused, answer-accepted}
+use Rattle.paper.proofs.Kept.{gives}
+use Rattle.skip.proofs.Cursoring.{ready-says}
 use Rattle.skip.proofs.Cursor.check.Statement.{statement}
 use Rattle.skip.proofs.Cursor.check.Tie as tie
-use Rattle.skip.proofs.Cursor.check.Reads as reads
-use Rattle.skip.proofs.Cursor.check.Lts as lts
-use Rattle.skip.proofs.cursor_fault.Reads as cursor-fault-reads
 
--- src/lib.rt:253:13
 cursor-fault-requires : tie.Need-cursor-fault-requires
 cursor-fault-requires c κs = search needs
 
--- src/lib.rt:255:13
 returns : tie.Need-returns
-returns c = ?
+returns c = gives (ready-says _ _) (rw (← c .before .cursor-fault .ensures) (sym (answer-refused _ _ _ (c .if1 .taken))))
 
--- src/lib.rt:250:5
 returns-2 : tie.Need-returns-2
-returns-2 c = ?
+returns-2 c = gives (ready-says _ _) (sym (answer-accepted _ _ _ (sym (c .before .cursor-fault .ensures) ∙ c .if1 .left)))
 
 pub check-spec : {M : Type 1} → statement M
 check-spec = tie.close (tie.spec cursor-fault-requires returns returns-2)

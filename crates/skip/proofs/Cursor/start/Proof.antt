@@ -1,34 +1,36 @@
+-- `skip::Cursor::start` meets its contract: the count before a block is what the block before it passes, and 0 before block 0.
+-- Assumes nothing.
 use borrow.Author.Needs.{needs}
+use mathlib.Core.Path.{_≡_, sym, _∙_, ap}
+use native.Mathlib.Omega.{arith}
+use denote.Ref.{now}
+use Rattle.paper.proofs.Chain.{answer-refused, answer-accepted}
+use Rattle.paper.proofs.Kept.{gives}
+use Rattle.skip.proofs.Shown.{block-proper, block-most}
+use Rattle.skip.proofs.Cursoring.{ready-says, start-first, start-later}
 use Rattle.skip.proofs.Cursor.start.Statement.{statement}
 use Rattle.skip.proofs.Cursor.start.Tie as tie
-use Rattle.skip.proofs.Cursor.start.Reads as reads
-use Rattle.skip.proofs.Cursor.start.Lts as lts
-use Rattle.skip.proofs.block_fault.Reads as block-fault-reads
-use Rattle.skip.proofs.passed.Reads as passed-reads
 
--- src/lib.rt:238:13
 block-fault-requires : tie.Need-block-fault-requires
 block-fault-requires c κs = search needs
 
--- src/lib.rt:240:13
 returns : tie.Need-returns
-returns c = ?
+returns c = gives (ready-says _ _) (rw (← c .before .block-fault .ensures) (sym (answer-refused _ _ _ (c .if1 .taken))))
 
--- src/lib.rt:243:13
 returns-2 : tie.Need-returns-2
-returns-2 c = ?
+returns-2 c = gives (ready-says _ _) (start-first (c .before .before .before .before .args .n) (now (c .before .before .before .before .args .list)) (c .before .before .before .before .args .block) (sym (c .before .before .block-fault .ensures) ∙ c .before .if1 .left) (c .if2 .taken))
 
--- src/lib.rt:245:36
 sub-passed : tie.Need-sub-passed
 sub-passed c = search needs
 
--- src/lib.rt:245:13
 passed-requires : tie.Need-passed-requires
-passed-requires c κs = ?
+passed-requires c κs = (
+  block-proper (c .before .before .before .before .args .n) (now (c .before .before .before .before .args .list)) (c .before .before .before .before .args .block) (sym (c .before .before .block-fault .ensures) ∙ c .before .if1 .left) .rising,
+  (block-proper (c .before .before .before .before .args .n) (now (c .before .before .before .before .args .list)) (c .before .before .before .before .args .block) (sym (c .before .before .block-fault .ensures) ∙ c .before .if1 .left) .short, (omega (arith, block-most (c .before .before .before .before .args .n) (now (c .before .before .before .before .args .list)) (c .before .before .before .before .args .block) (sym (c .before .before .block-fault .ensures) ∙ c .before .if1 .left)), omega arith)),
+)
 
--- src/lib.rt:235:5
 returns-3 : tie.Need-returns-3
-returns-3 c = ?
+returns-3 c = gives (ready-says _ _) (start-later (c .before .before .before .before .before .args .n) (now (c .before .before .before .before .before .args .list)) (c .before .before .before .before .before .args .block) (sym (c .before .before .before .block-fault .ensures) ∙ c .before .before .if1 .left) (c .passed .result) (c .before .if2 .left) (c .passed .ensures))
 
 pub start-spec : {M : Type 1} → statement M
 start-spec =

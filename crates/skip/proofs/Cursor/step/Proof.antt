@@ -1,34 +1,36 @@
+-- `skip::Cursor::step` meets its contract: the cursor belongs, so its count is passed already, and the walk goes on from there.
+-- Assumes nothing.
 use borrow.Author.Needs.{needs}
+use mathlib.Core.Path.{_≡_, sym, _∙_, ap}
+use native.Mathlib.Omega.{arith}
+use denote.Ref.{now}
+use Rattle.paper.proofs.Chain.{answer-refused, answer-accepted}
+use Rattle.paper.proofs.Kept.{gives}
+use Rattle.skip.proofs.Cursoring.{stepped-says, step-proper, step-most, step-known, step-on}
+use Rattle.skip.proofs.Walks.{passes-le}
 use Rattle.skip.proofs.Cursor.step.Statement.{statement}
 use Rattle.skip.proofs.Cursor.step.Tie as tie
-use Rattle.skip.proofs.Cursor.step.Reads as reads
-use Rattle.skip.proofs.Cursor.step.Lts as lts
-use Rattle.skip.proofs.passed.Reads as passed-reads
-use Rattle.skip.proofs.step_fault.Reads as step-fault-reads
 
--- src/lib.rt:264:13
 step-fault-requires : tie.Need-step-fault-requires
 step-fault-requires c κs = search needs
 
--- src/lib.rt:266:13
 returns : tie.Need-returns
-returns c = ?
+returns c = gives (stepped-says _ _ _ _) (rw (← c .before .step-fault .ensures) (sym (answer-refused _ _ _ (c .if1 .taken))))
 
--- src/lib.rt:269:13
 passed-requires : tie.Need-passed-requires
-passed-requires c κs = ?
+passed-requires c κs = (
+  step-proper (c .before .before .before .args .n) (now (c .before .before .before .args .list)) (c .before .before .before .args .self) (sym (c .before .step-fault .ensures) ∙ c .if1 .left) .rising,
+  (step-proper (c .before .before .before .args .n) (now (c .before .before .before .args .list)) (c .before .before .before .args .self) (sym (c .before .step-fault .ensures) ∙ c .if1 .left) .short, (omega (arith, step-most (c .before .before .before .args .n) (now (c .before .before .before .args .list)) (c .before .before .before .args .self) (sym (c .before .step-fault .ensures) ∙ c .if1 .left)), step-known (c .before .before .before .args .n) (now (c .before .before .before .args .list)) (c .before .before .before .args .self) (sym (c .before .step-fault .ensures) ∙ c .if1 .left))),
+)
 
--- src/lib.rt:271:13
 add-t8 : tie.Need-add-t8
-add-t8 c = ?
+add-t8 c = omega (arith, step-most (c .before .before .before .before .args .n) (now (c .before .before .before .before .args .list)) (c .before .before .before .before .args .self) (sym (c .before .before .step-fault .ensures) ∙ c .before .if1 .left), c .passed .ensures, passes-le (now (c .before .before .before .before .args .list)) (c .before .before .before .before .args .self .block), step-proper (c .before .before .before .before .args .n) (now (c .before .before .before .before .args .list)) (c .before .before .before .before .args .self) (sym (c .before .before .step-fault .ensures) ∙ c .before .if1 .left) .short)
 
--- src/lib.rt:273:24
 add-t9 : tie.Need-add-t9
-add-t9 c = ?
+add-t9 c = omega (arith, step-most (c .before .before .before .before .args .n) (now (c .before .before .before .before .args .list)) (c .before .before .before .before .args .self) (sym (c .before .before .step-fault .ensures) ∙ c .before .if1 .left))
 
--- src/lib.rt:261:5
 returns-2 : tie.Need-returns-2
-returns-2 c = ?
+returns-2 c = gives (stepped-says _ _ _ _) (step-on (c .before .before .before .before .args .n) (now (c .before .before .before .before .args .list)) (c .before .before .before .before .args .self) (sym (c .before .before .step-fault .ensures) ∙ c .before .if1 .left) (c .passed .result) (c .passed .ensures))
 
 pub step-spec : {M : Type 1} → statement M
 step-spec =
