@@ -62,16 +62,20 @@ tells-le a b = record { holds = leb-true a b; told = le-leb a b }
 pub tells-eq : (a b : ℕ) → Tells (eqb a b) (a ≡ b)
 tells-eq a b = record { holds = eqb-true a b; told = eq-eqb a b }
 
-pub tells-both : {s t : Bool} {F G : Type 0} → Tells s F → Tells t G → Tells (s && t) (F × G)
-tells-both {s} {t} f g = record { holds = λ e. (f .holds (and-left s t e), g .holds (and-right s t e)); told = λ h. rw (f .told (h .0), g .told (h .1)) }
-  where
-    and-left : (a b : Bool) → (a && b) ≡ true → a ≡ true
-    and-left true b e = refl
-    and-left false b e = e
+pub and-left : (a b : Bool) → (a && b) ≡ true → a ≡ true
+and-left true b e = refl
+and-left false b e = e
 
-    and-right : (a b : Bool) → (a && b) ≡ true → b ≡ true
-    and-right true b e = e
-    and-right false b e = absurd (true≢false (sym e))
+pub and-right : (a b : Bool) → (a && b) ≡ true → b ≡ true
+and-right true b e = e
+and-right false b e = absurd (true≢false (sym e))
+
+pub tells-both : {s t : Bool} {F G : Type 0} → Tells s F → Tells t G → Tells (s && t) (F × G)
+tells-both {s} {t} f g =
+    record {
+      holds = λ e. (f .holds (and-left s t e), g .holds (and-right s t e));
+      told = λ h. rw (f .told (h .0), g .told (h .1));
+    }
 
 pub tells-within : (least most number : ℕ) → Tells (within least most number) (Within least most number)
 tells-within least most number = tells-both (tells-le least number) (tells-le number most)

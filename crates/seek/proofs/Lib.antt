@@ -1,3 +1,4 @@
 pub mod Drops
 pub mod Counts
 pub mod Firsts
+pub mod Everys

@@ -1,2 +1,4 @@
 pub mod Count
 pub mod First
+pub mod Every
+pub mod Search

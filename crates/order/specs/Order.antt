@@ -1,0 +1,51 @@
+-- Document 01, "Descriptors and spares": the order in which the places of a table are searched for a block.
+use Prim.Native.Nat.{ℕ, zero, suc, _+_, _-_, _*_, _/_, _%_}
+use mathlib.Core.Bool.{Bool}
+use mathlib.Core.List.{List, [], _∷_, _++_, map}
+use lib.Dec.{ltb, eqb}
+use lib.IntN.{ℤ, pos, negsuc}
+use lib.ListN.{length, getD}
+use Rattle.paper.specs.Checks.{pick}
+use Rattle.paper.specs.Limits.{tableBlock}
+use Rattle.seek.specs.Search.{firstOr, rising}
+
+-- the offset at a signed distance from o, where it lies in the table block; else the block's length
+abbrev pub offsetAt : ℕ → ℤ → ℕ
+offsetAt o (pos k) = pick (ltb (o + k) tableBlock) (o + k) tableBlock
+offsetAt o (negsuc k) = pick (ltb k o) (o - suc k) tableBlock
+
+-- an offset outside the table block is passed
+abbrev pub kept : ℕ → List ℕ
+kept offset = pick (ltb offset tableBlock) (offset ∷ []) []
+
+-- the offsets at distance k: o + k, then o − k
+abbrev pub around : ℕ → ℕ → List ℕ
+around o zero = kept (offsetAt o (pos 0))
+around o (suc k) = kept (offsetAt o (pos (suc k))) ++ kept (offsetAt o (negsuc k))
+
+-- the offsets at distances below a bound, nearest first
+unfoldable pub outward : ℕ → ℕ → List ℕ
+outward o zero = []
+outward o (suc distance) = outward o distance ++ around o distance
+
+-- a table block from offset o outward, at all distances
+abbrev pub blockOrder : ℕ → List ℕ
+blockOrder o = outward o tableBlock
+
+-- where the table block of a place starts
+abbrev pub blockStart : ℕ → ℕ
+blockStart p = p / tableBlock * tableBlock
+
+-- the search order of a table of so many places for the primary p: its table block outward, the blocks after it, then those before it, each rising
+abbrev pub order : ℕ → ℕ → List ℕ
+order places p =
+    map (λ offset. blockStart p + offset) (blockOrder (p % tableBlock))
+    ++ (rising (blockStart p + tableBlock) (places - (blockStart p + tableBlock)) ++ rising 0 (blockStart p))
+
+-- a free descriptor: code 0 with number 0
+abbrev pub isFree : ℕ → Bool
+isFree word = eqb word 0
+
+-- the first free place in the search order of primary p, or the table's length where none is free
+abbrev pub firstFree : List ℕ → ℕ → ℕ
+firstFree t p = firstOr (length t) (λ q. isFree (getD t q 0)) (order (length t) p)

@@ -1,0 +1,1 @@
+// The search order of a descriptor table.

@@ -1,0 +1,15 @@
+-- The first of a list that passes a test, in the list's own order, and runs of rising numbers.
+use Prim.Native.Nat.{ℕ, zero, suc}
+use mathlib.Core.Bool.{Bool}
+use mathlib.Core.List.{List, [], _∷_}
+use Rattle.paper.specs.Checks.{pick}
+
+-- the first of the list that passes, or the default where none does
+unfoldable pub firstOr : ℕ → (ℕ → Bool) → List ℕ → ℕ
+firstOr default passes [] = default
+firstOr default passes (x ∷ xs) = pick (passes x) x (firstOr default passes xs)
+
+-- so many numbers from the first on, each one more than the one before
+unfoldable pub rising : ℕ → ℕ → List ℕ
+rising first zero = []
+rising first (suc count) = first ∷ rising (suc first) count

@@ -1,0 +1,4 @@
+pub mod Layouts
+pub mod Descriptors
+pub mod Rules
+pub mod Lookup
