@@ -3,27 +3,27 @@ use Prim.Native.Nat.{ℕ, zero, suc, _+_, _-_, _*_, _/_, _%_}
 use mathlib.Core.Bool.{Bool}
 use mathlib.Core.List.{List, [], _∷_, _++_, map}
 use lib.Dec.{ltb, eqb}
-use lib.IntN.{ℤ, pos, negsuc}
+use lib.IntN.{ℤ, pos, negsuc, _+ℤ_, _-ℤ_}
 use lib.ListN.{length, getD}
 use Rattle.paper.specs.Checks.{pick}
 use Rattle.paper.specs.Limits.{tableBlock}
 use Rattle.seek.specs.Search.{firstOr, rising}
 
--- the offset at a signed distance from o, where it lies in the table block; else the block's length
-abbrev pub offsetAt : ℕ → ℤ → ℕ
-offsetAt o (pos k) = pick (ltb (o + k) tableBlock) (o + k) tableBlock
-offsetAt o (negsuc k) = pick (ltb k o) (o - suc k) tableBlock
+-- an offset as a place of the table block, or the block's length where it lies outside the block
+abbrev pub placeIn : ℤ → ℕ
+placeIn (pos i) = pick (ltb i tableBlock) i tableBlock
+placeIn (negsuc i) = tableBlock
 
--- an offset outside the table block is passed
+-- a place outside the table block is passed
 abbrev pub kept : ℕ → List ℕ
-kept offset = pick (ltb offset tableBlock) (offset ∷ []) []
+kept place = pick (ltb place tableBlock) (place ∷ []) []
 
--- the offsets at distance k: o + k, then o − k
+-- the places at distance k: o + k, then o − k
 abbrev pub around : ℕ → ℕ → List ℕ
-around o zero = kept (offsetAt o (pos 0))
-around o (suc k) = kept (offsetAt o (pos (suc k))) ++ kept (offsetAt o (negsuc k))
+around o zero = kept (placeIn (pos o))
+around o (suc k) = kept (placeIn (pos o +ℤ pos (suc k))) ++ kept (placeIn (pos o -ℤ pos (suc k)))
 
--- the offsets at distances below a bound, nearest first
+-- the places at distances below a bound, nearest first
 unfoldable pub outward : ℕ → ℕ → List ℕ
 outward o zero = []
 outward o (suc distance) = outward o distance ++ around o distance
