@@ -38,9 +38,9 @@ module _ (passes : ℕ → Bool) where
   one-fails (suc n) e =
       byBool (passes n)
       (λ here.
-        byBool (allBelow passes n)
-        (λ all. absurd (true≢false (rw (all, here) at e)))
-        (λ none. let found : Fails n = one-fails n none in record { place = found .place; below = omega (arith, found .below); here = found .here }))
+      byBool (allBelow passes n)
+      (λ all. absurd (true≢false (rw (all, here) at e)))
+      (λ none. let found : Fails n = one-fails n none in record { place = found .place; below = omega (arith, found .below); here = found .here }))
       (λ fails. record { place = n; below = omega arith; here = fails })
 
 pub every-alike : (first second : ℕ → Bool) (n : ℕ) → ((k : ℕ) → k < n → first k ≡ second k) → allBelow first n ≡ allBelow second n

@@ -2,6 +2,7 @@ pub mod Lying
 pub mod Composition
 pub mod Ranges
 pub mod Walks
+pub mod Nights
 pub mod Passing
 pub mod Just
 pub mod Naming

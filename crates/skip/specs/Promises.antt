@@ -23,13 +23,12 @@ saidJob (Refused fault next) = (fault, 0, next .block, next .skipped)
 abbrev pub SectorOf : ℕ → List ℕ → ℕ → Placed → Type 0
 SectorOf n a b = Gives saidPlaced (translated n a b) (blockFault n a b, given (blockFault n a b) (place (isIn a) n b))
 
+-- the numbers of a sector's block, each 0 where the call refuses
+abbrev pub namedNumbers : ℕ → List ℕ → ℕ → ℕ × ℕ × ℕ
+namedNumbers fault a s = (fault, given fault (pick (isIn a s) 0 1), given fault (pick (isIn a s) 0 (goodsBefore (isIn a) s)))
+
 abbrev pub BlockOn : ℕ → List ℕ → ℕ → Named → Type 0
-BlockOn n a s =
-    Gives saidNamed (found n a s) (
-      sectorFault n a s,
-      given (sectorFault n a s) (pick (isIn a s) 0 1),
-      given (sectorFault n a s) (pick (isIn a s) 0 (goodsBefore (isIn a) s)),
-    )
+BlockOn n a s = Gives saidNamed (found n a s) (namedNumbers (sectorFault n a s) a s)
 
 abbrev pub Starts : ℕ → List ℕ → ℕ → Job → Type 0
 Starts n a b =

@@ -35,14 +35,14 @@ DriveJudged shape r = ShapeJudged shape andThen When outOfRange (Drives shape r 
 -- l = S − r home sectors of a track, T × r spares, T × l blocks
 abbrev pub layoutOf : Shape → ℕ → Layout
 layoutOf shape r =
-    record
-      { tracks = tracksOf shape
-      ; heads = shape .heads
-      ; home = shape .sectors - r
-      ; spare = r
-      ; spares = tracksOf shape * r
-      ; blocks = tracksOf shape * (shape .sectors - r)
-      }
+    record {
+      tracks = tracksOf shape;
+      heads = shape .heads;
+      home = shape .sectors - r;
+      spare = r;
+      spares = tracksOf shape * r;
+      blocks = tracksOf shape * (shape .sectors - r);
+    }
 
 -- sectors of a track
 abbrev pub sectorsOf : Layout → ℕ

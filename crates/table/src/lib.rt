@@ -8,14 +8,20 @@ ghost use Rattle.table.specs.Layouts.{Drives, driveFault, layoutOf, Laid
 ghost use Rattle.table.specs.Descriptors.{free, atPrimary, elsewhere, unusable, null, codeUnit, codeOf, numberOf, primary, isAllocated, names};
 ghost use Rattle.table.specs.Rules.{mayStand, namedFirst, tableLength, obeys, tableFault};
 ghost use Rattle.table.specs.Lookup.{placeOf};
-
-use paper::{BAD_TABLE, OUT_OF_RANGE, SPARES_MOST, TABLE_BLOCK};
+use paper::BAD_TABLE;
+use paper::OUT_OF_RANGE;
+use paper::SPARES_MOST;
+use paper::TABLE_BLOCK;
 use shape::Shape;
 
 pub const FREE: u32 = 0;
+
 pub const AT_PRIMARY: u32 = 2;
+
 pub const ELSEWHERE: u32 = 3;
+
 pub const UNUSABLE: u32 = 4;
+
 pub const NULL: u32 = 8;
 // What the code's unit weighs in a descriptor word: the low 28 bits are the number.
 pub const CODE_UNIT: u32 = 268_435_456;

@@ -1,0 +1,30 @@
+-- `skipped::drive_fault` meets its contract: the list is checked over the sectors of a shape that passes.
+-- Assumes nothing.
+use borrow.Author.Needs.{needs}
+use mathlib.Core.Path.{_≡_, sym, _∙_, ap}
+use denote.Ref.{now}
+use Rattle.paper.proofs.Chain.{orElse-some}
+use Rattle.lists.specs.Proper.{listFault}
+use Rattle.shape.proofs.Exact.{shape-shows}
+use Rattle.skipped.proofs.drive_fault.Statement.{statement}
+use Rattle.skipped.proofs.drive_fault.Tie as tie
+
+shape-fault-requires : tie.Need-shape-fault-requires
+shape-fault-requires c κs = search needs
+
+returns : tie.Need-returns
+returns c = rw (← c .before .shape-fault .ensures) (sym (orElse-some _ _ (c .if1 .taken)))
+
+size-of-requires : tie.Need-size-of-requires
+size-of-requires c κs = shape-shows (c .before .before .before .args .shape) (sym (c .before .shape-fault .ensures) ∙ c .if1 .left)
+
+list-fault-requires : tie.Need-list-fault-requires
+list-fault-requires c κs = search needs
+
+returns-2 : tie.Need-returns-2
+returns-2 c = rw (← c .before .before .before .shape-fault .ensures, c .before .before .if1 .left) (c .list-fault .ensures ∙ rw (c .before .size-of .ensures))
+
+pub drive-fault-spec : {M : Type 1} → statement M
+drive-fault-spec =
+    tie.close
+    (tie.spec shape-fault-requires returns size-of-requires list-fault-requires returns-2)

@@ -1,0 +1,66 @@
+// A skipped drive by its shape: block ↔ cylinder, head and sector.
+ghost use mathlib.Core.Path.{_≡_};
+ghost use Rattle.skipped.specs.Drive.{driveFault, blockFault, placeFault};
+ghost use Rattle.skipped.specs.Promises.{AddressOf, BlockAt};
+use paper::NO_SUCH_BLOCK;
+use paper::Named;
+use shape::Located;
+use shape::Shape;
+
+// Checks 1, list.
+fn drive_fault(shape: Shape, list: &[u32]) -> u32
+    ensures { λ r. ⌜ r ≡ driveFault shape (now (list .entry)) ⌝ }
+{
+    let fault = shape::shape_fault(shape);
+    if fault != 0 {
+        return fault;
+    }
+    lists::list_fault(shape::size_of(shape), list)
+}
+
+// Checks 1, list, 5.
+fn block_fault(shape: Shape, list: &[u32], block: u32) -> u32
+    ensures { λ r. ⌜ r ≡ blockFault shape (now (list .entry)) block ⌝ }
+{
+    let fault = drive_fault(shape, list);
+    if fault != 0 {
+        return fault;
+    }
+    if skip::block_count(shape::size_of(shape), list) <= block {
+        return NO_SUCH_BLOCK;
+    }
+    0
+}
+
+// Checks 1, list, 6.
+fn place_fault(shape: Shape, list: &[u32], cylinder: u32, head: u32, sector: u32) -> u32
+    ensures { λ r. ⌜ r ≡ placeFault shape (now (list .entry)) cylinder head sector ⌝ }
+{
+    let fault = drive_fault(shape, list);
+    if fault != 0 {
+        return fault;
+    }
+    shape::place_fault(shape, cylinder, head, sector)
+}
+
+// The address that a block lies at. Checks 1, list, 5.
+pub fn address_of(shape: Shape, list: &[u32], block: u32) -> Located
+    ensures { λ r. ⌜ AddressOf shape (now (list .entry)) block r ⌝ }
+{
+    let fault = block_fault(shape, list, block);
+    if fault != 0 {
+        return Located::Refused(fault);
+    }
+    Located::At(shape::address_at(shape, skip::walk(list, block)))
+}
+
+// The block that lies at an address, or no block. Checks 1, list, 6.
+pub fn block_at(shape: Shape, list: &[u32], cylinder: u32, head: u32, sector: u32) -> Named
+    ensures { λ r. ⌜ BlockAt shape (now (list .entry)) cylinder head sector r ⌝ }
+{
+    let fault = place_fault(shape, list, cylinder, head, sector);
+    if fault != 0 {
+        return Named::Refused(fault);
+    }
+    skip::name(list, shape::sector_at(shape, cylinder, head, sector))
+}
