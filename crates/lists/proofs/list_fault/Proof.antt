@@ -7,6 +7,7 @@ use lib.ListN.{length}
 use denote.Ref.{now}
 use borrow.Author.Count.{below-none, below-more}
 use borrow.Author.Tests.{lt-ltb, le-ltb}
+use Rattle.paper.specs.Limits.{listMost}
 use Rattle.lists.specs.Proper.{placeFault}
 use Rattle.seek.proofs.Firsts.{fault-at, fault-none}
 use Rattle.lists.proofs.list_fault.Statement.{statement}
@@ -19,7 +20,7 @@ abbrev μ-loop : tie.MeasureT-loop
 μ-loop n list i₀ i = length list - i
 
 returns : tie.Need-returns Inv-loop μ-loop
-returns c = rw (lt-ltb _ _ (c .if1 .taken))
+returns c = rw (lt-ltb listMost (length (now (c .before .before .args .list))) (omega arith))
 
 loop-holds : tie.Need-loop-holds Inv-loop μ-loop
 loop-holds c = (omega arith, λ k h. absurd (omega arith))
@@ -29,7 +30,7 @@ place-fault-requires c κs = c .loop-test .taken
 
 returns-2 : tie.Need-returns-2 Inv-loop μ-loop
 returns-2 c =
-    rw (le-ltb _ _ (c .before .before .before .before .if1 .left))
+    rw (le-ltb listMost (length (now (c .before .before .before .before .before .before .args .list))) (omega arith))
     (c .before .place-fault .ensures
     ∙ sym (fault-at (placeFault (c .before .before .before .before .before .before .args .n) (now (c .before .before .before .before .before .before .args .list))) _ (c .before .before .before .loop .i) (c .before .before .loop-test .taken) (λ none. c .if2 .taken (c .before .place-fault .ensures ∙ none)) (c .before .before .before .loop .inv .1)))
 
@@ -44,7 +45,7 @@ loop-again c = (omega arith, below-more _ _ (c .before .before .before .loop .in
 
 returns-3 : tie.Need-returns-3 Inv-loop μ-loop
 returns-3 c =
-    rw (le-ltb _ _ (c .before .before .if1 .left))
+    rw (le-ltb listMost (length (now (c .before .before .before .before .args .list))) (omega arith))
     (sym (fault-none (placeFault (c .before .before .before .before .args .n) (now (c .before .before .before .before .args .list))) _ (λ k h. c .before .loop .inv .1 k (omega arith))))
 
 pub list-fault-spec : {M : Type 1} → statement M

@@ -5,6 +5,7 @@ use mathlib.Core.Path.{_≡_, sym, _∙_}
 use borrow.Author.Tests.{le-leb, lt-leb}
 use Rattle.paper.proofs.Chain.{orElse-some}
 use Rattle.skip.specs.Translation.{blocks}
+use native.Mathlib.Omega.{arith}
 use denote.Ref.{now}
 use Prim.Native.Nat.{_≤_, _<_}
 use Rattle.skip.proofs.block_fault.Statement.{statement}
@@ -20,10 +21,14 @@ block-count-requires : tie.Need-block-count-requires
 block-count-requires c κs = search needs
 
 returns-2 : tie.Need-returns-2
-returns-2 c = let h : blocks (c .before .before .before .before .before .args .n) (now (c .before .before .before .before .before .args .list)) ≤ c .before .before .before .before .before .args .block = rw (c .before .block-count .ensures) at (c .if2 .taken) in rw (← c .before .before .before .space-fault .ensures, c .before .before .if1 .left, le-leb _ _ h)
+returns-2 c =
+    let h : blocks (c .before .before .before .before .before .args .n) (now (c .before .before .before .before .before .args .list)) ≤ c .before .before .before .before .before .args .block = omega (arith, c .before .block-count .ensures) in
+    rw (← c .before .before .before .space-fault .ensures, c .before .before .if1 .left, le-leb _ _ h)
 
 returns-3 : tie.Need-returns-3
-returns-3 c = let h : c .before .before .before .before .before .args .block < blocks (c .before .before .before .before .before .args .n) (now (c .before .before .before .before .before .args .list)) = rw (c .before .block-count .ensures) at (c .if2 .left) in rw (← c .before .before .before .space-fault .ensures, c .before .before .if1 .left, lt-leb _ _ h)
+returns-3 c =
+    let h : c .before .before .before .before .before .args .block < blocks (c .before .before .before .before .before .args .n) (now (c .before .before .before .before .before .args .list)) = omega (arith, c .before .block-count .ensures) in
+    rw (← c .before .before .before .space-fault .ensures, c .before .before .if1 .left, lt-leb _ _ h)
 
 pub block-fault-spec : {M : Type 1} → statement M
 block-fault-spec =

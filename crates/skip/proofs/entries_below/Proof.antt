@@ -32,7 +32,7 @@ shared-slice-read-if1 : tie.Need-shared-slice-read-if1 Inv-loop μ-loop
 shared-slice-read-if1 c = omega arith
 
 returns : tie.Need-returns Inv-loop μ-loop
-returns c = omega (arith, below-here (now (c .before .before .before .before .args .list)) (c .before .before .before .before .args .sector) (c .before .before .before .loop .count) (c .before .before .before .before .pre .0) (omega arith) (c .if1 .taken))
+returns c = omega (arith, below-here (now (c .before .before .before .before .args .list)) (c .before .before .before .before .args .sector) (c .before .before .before .loop .count) (c .before .before .before .before .pre .0) (omega arith) (omega arith))
 
 add-count : tie.Need-add-count Inv-loop μ-loop
 add-count c = omega arith
@@ -42,7 +42,7 @@ loop-less c = omega arith
 
 loop-again : tie.Need-loop-again Inv-loop μ-loop
 loop-again c =
-    (omega arith, omega (arith, below-next (now (c .before .before .before .before .args .list)) (c .before .before .before .before .args .sector) (c .before .before .before .loop .count) (omega arith) (c .if1 .left)))
+    (omega arith, omega (arith, below-next (now (c .before .before .before .before .args .list)) (c .before .before .before .before .args .sector) (c .before .before .before .loop .count) (omega arith) (omega arith)))
 
 returns-2 : tie.Need-returns-2 Inv-loop μ-loop
 returns-2 c = omega (arith, below-past (now (c .before .before .args .list)) (c .before .before .args .sector) (c .before .loop .count) (omega arith))

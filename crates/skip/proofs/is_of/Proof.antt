@@ -17,7 +17,9 @@ block-count-requires : tie.Need-block-count-requires
 block-count-requires c κs = search needs
 
 returns : tie.Need-returns
-returns c = let h : blocks (c .before .before .before .args .n) (now (c .before .before .before .args .list)) < c .before .before .before .args .cursor .block = rw (c .before .block-count .ensures) at (c .if1 .taken) in rw (lt-leb _ _ h)
+returns c =
+    let h : blocks (c .before .before .before .args .n) (now (c .before .before .before .args .list)) < c .before .before .before .args .cursor .block = omega (arith, c .before .block-count .ensures) in
+    rw (lt-leb _ _ h)
 
 returns-2 : tie.Need-returns-2
 returns-2 c = rw (c .if2 .taken, le-leb 0 (blocks (c .before .before .before .before .args .n) (now (c .before .before .before .before .args .list))) (omega arith))
@@ -29,7 +31,9 @@ passes-just-requires : tie.Need-passes-just-requires
 passes-just-requires c κs = (c .before .before .before .before .pre .0 .rising, (c .before .before .before .before .pre .0 .short, omega (arith, c .before .before .before .before .pre .1, c .before .before .block-count .ensures)))
 
 returns-3 : tie.Need-returns-3
-returns-3 c = let h : c .before .before .before .before .before .args .cursor .block ≤ blocks (c .before .before .before .before .before .args .n) (now (c .before .before .before .before .before .args .list)) = rw (c .before .before .before .block-count .ensures) at (c .before .before .if1 .left) in rw (le-leb _ _ h, skipped-passes (c .before .before .before .before .before .args .n) (now (c .before .before .before .before .before .args .list)) (c .before .before .before .before .before .pre .0) (c .before .before .before .before .before .args .cursor .block) (c .before .if2 .left) h) (c .passes-just .ensures)
+returns-3 c =
+    let h : c .before .before .before .before .before .args .cursor .block ≤ blocks (c .before .before .before .before .before .args .n) (now (c .before .before .before .before .before .args .list)) = omega (arith, c .before .before .before .block-count .ensures) in
+    rw (le-leb _ _ h, skipped-passes (c .before .before .before .before .before .args .n) (now (c .before .before .before .before .before .args .list)) (c .before .before .before .before .before .pre .0) (c .before .before .before .before .before .args .cursor .block) (c .before .if2 .left) h) (c .passes-just .ensures)
 
 pub is-of-spec : {M : Type 1} → statement M
 is-of-spec =

@@ -23,13 +23,13 @@ returns : tie.Need-returns
 returns c = name-entry (now (c .before .before .before .before .before .args .list)) (c .before .before .before .before .before .args .sector) (c .before .before .before .entries-below .result) (c .before .before .before .before .before .pre .0) (c .before .before .before .entries-below .ensures) (c .before .before .if1 .taken) (c .if2 .taken)
 
 sub-t9 : tie.Need-sub-t9
-sub-t9 c = rank-le (now (c .before .before .before .before .before .args .list)) (c .before .before .before .before .before .args .sector) (c .before .before .before .entries-below .result) (c .before .before .before .before .before .pre .0) (c .before .before .before .entries-below .ensures)
+sub-t9 c = omega (arith, rank-le (now (c .before .before .before .before .before .args .list)) (c .before .before .before .before .before .args .sector) (c .before .before .before .entries-below .result) (c .before .before .before .before .before .pre .0) (c .before .before .before .entries-below .ensures))
 
 returns-2 : tie.Need-returns-2
 returns-2 c = name-good (now (c .before .before .before .before .before .args .list)) (c .before .before .before .before .before .args .sector) (c .before .before .before .entries-below .result) (c .before .before .before .before .before .pre .0) (c .before .before .before .entries-below .ensures) (λ h. c .if2 .left)
 
 sub-t11 : tie.Need-sub-t11
-sub-t11 c = rank-le (now (c .before .before .before .args .list)) (c .before .before .before .args .sector) (c .before .entries-below .result) (c .before .before .before .pre .0) (c .before .entries-below .ensures)
+sub-t11 c = omega (arith, rank-le (now (c .before .before .before .args .list)) (c .before .before .before .args .sector) (c .before .entries-below .result) (c .before .before .before .pre .0) (c .before .entries-below .ensures))
 
 returns-3 : tie.Need-returns-3
 returns-3 c = name-good (now (c .before .before .before .args .list)) (c .before .before .before .args .sector) (c .before .entries-below .result) (c .before .before .before .pre .0) (c .before .entries-below .ensures) (λ h e. omega arith)

@@ -27,7 +27,7 @@ cast-loop : tie.Need-cast-loop Inv-loop μ-loop
 cast-loop c = omega arith
 
 add-if1 : tie.Need-add-if1 Inv-loop μ-loop
-add-if1 c = omega arith
+add-if1 c = omega (arith, c .before .before .pre .1 .1 .1, passes-le (now (c .before .before .args .list)) (c .before .before .args .block))
 
 cast-if1 : tie.Need-cast-if1 Inv-loop μ-loop
 cast-if1 c = omega arith
@@ -39,7 +39,7 @@ shared-slice-read-if1 : tie.Need-shared-slice-read-if1 Inv-loop μ-loop
 shared-slice-read-if1 c = omega arith
 
 returns : tie.Need-returns Inv-loop μ-loop
-returns c = omega (arith, passes-here (now (c .before .before .before .before .args .list)) (c .before .before .before .before .args .block) (c .before .before .before .loop .count) (omega arith) (c .if1 .taken))
+returns c = omega (arith, passes-here (now (c .before .before .before .before .args .list)) (c .before .before .before .before .args .block) (c .before .before .before .loop .count) (omega arith) (omega arith))
 
 add-count : tie.Need-add-count Inv-loop μ-loop
 add-count c = omega arith
@@ -49,7 +49,7 @@ loop-less c = omega arith
 
 loop-again : tie.Need-loop-again Inv-loop μ-loop
 loop-again c =
-    (omega arith, omega (arith, passes-next (now (c .before .before .before .before .args .list)) (c .before .before .before .before .args .block) (c .before .before .before .loop .count) (omega arith) (c .if1 .left)))
+    (omega arith, omega (arith, passes-next (now (c .before .before .before .before .args .list)) (c .before .before .before .before .args .block) (c .before .before .before .loop .count) (omega arith) (omega arith)))
 
 returns-2 : tie.Need-returns-2 Inv-loop μ-loop
 returns-2 c = omega (arith, passes-past (now (c .before .before .args .list)) (c .before .before .args .block) (c .before .loop .count) (omega arith))

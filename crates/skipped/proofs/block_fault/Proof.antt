@@ -2,6 +2,7 @@
 -- Assumes nothing.
 use borrow.Author.Needs.{needs}
 use mathlib.Core.Path.{_≡_, sym, _∙_, ap}
+use native.Mathlib.Omega.{arith}
 use denote.Ref.{now}
 use Prim.Native.Nat.{_≤_, _<_}
 use borrow.Author.Tests.{le-leb, lt-leb}
@@ -25,10 +26,14 @@ block-count-requires : tie.Need-block-count-requires
 block-count-requires c κs = search needs
 
 returns-2 : tie.Need-returns-2
-returns-2 c = let h : blocks (sizeOf (c .before .before .before .before .before .before .args .shape)) (now (c .before .before .before .before .before .before .args .list)) ≤ c .before .before .before .before .before .before .args .block = rw (c .before .block-count .ensures, c .before .before .size-of .ensures) at (c .if2 .taken) in rw (← c .before .before .before .before .drive-fault .ensures, c .before .before .before .if1 .left, le-leb _ _ h)
+returns-2 c =
+    let h : blocks (sizeOf (c .before .before .before .before .before .before .args .shape)) (now (c .before .before .before .before .before .before .args .list)) ≤ c .before .before .before .before .before .before .args .block = omega (arith, c .before .before .size-of .ensures, c .before .block-count .ensures) in
+    rw (← c .before .before .before .before .drive-fault .ensures, c .before .before .before .if1 .left, le-leb _ _ h)
 
 returns-3 : tie.Need-returns-3
-returns-3 c = let h : c .before .before .before .before .before .before .args .block < blocks (sizeOf (c .before .before .before .before .before .before .args .shape)) (now (c .before .before .before .before .before .before .args .list)) = rw (c .before .block-count .ensures, c .before .before .size-of .ensures) at (c .if2 .left) in rw (← c .before .before .before .before .drive-fault .ensures, c .before .before .before .if1 .left, lt-leb _ _ h)
+returns-3 c =
+    let h : c .before .before .before .before .before .before .args .block < blocks (sizeOf (c .before .before .before .before .before .before .args .shape)) (now (c .before .before .before .before .before .before .args .list)) = omega (arith, c .before .before .size-of .ensures, c .before .block-count .ensures) in
+    rw (← c .before .before .before .before .drive-fault .ensures, c .before .before .before .if1 .left, lt-leb _ _ h)
 
 pub block-fault-spec : {M : Type 1} → statement M
 block-fault-spec =
