@@ -1,1 +1,0 @@
-// The search order of a descriptor table.

@@ -1,4 +1,0 @@
-pub mod Layouts
-pub mod Descriptors
-pub mod Rules
-pub mod Lookup
