@@ -3,4 +3,5 @@ pub mod Members
 pub mod Unions
 pub mod Filling
 pub mod Steps
+pub mod Offs
 pub mod Exact

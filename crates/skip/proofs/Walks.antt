@@ -121,6 +121,15 @@ passes-mono (x ∷ a) b =
     (λ stop. omega (arith, passes-stop x a b stop))
     (λ on. omega (arith, passes-on x a b on, passes-on x a (suc b) (omega arith), passes-mono a (suc b)))
 
+passes-later-by : (a : List ℕ) (b more : ℕ) → passes a b ≤ passes a (b + more)
+passes-later-by a b zero = let same : b + 0 ≡ b = omega arith in rw same (omega arith)
+passes-later-by a b (suc more) =
+    let next : b + suc more ≡ suc (b + more) = omega arith in
+    rw next (omega (arith, passes-later-by a b more, passes-mono a (b + more)))
+
+pub passes-later : (a : List ℕ) (b c : ℕ) → b ≤ c → passes a b ≤ passes a c
+passes-later a b c h = let same : b + (c - b) ≡ c = omega arith in rw same at (passes-later-by a b (c - b))
+
 -- the walk ends outside the list, past as many entries as lie below its end
 pub record Ends (a : List ℕ) (b s : ℕ) : Type 0 where
   pub clear : isIn a s ≡ false

@@ -1,0 +1,21 @@
+-- `format::head` meets its contract: each return is a case of the definition.
+-- Assumes nothing.
+use borrow.Author.Needs.{needs}
+use borrow.Author.Tests.{lt-ltb, le-ltb}
+use Rattle.format.proofs.head.Statement.{statement}
+use Rattle.format.proofs.head.Tie as tie
+
+mul-result : tie.Need-mul-result
+mul-result c = search needs
+
+shared-slice-read-result : tie.Need-shared-slice-read-result
+shared-slice-read-result c = search needs
+
+returns : tie.Need-returns
+returns c = rw (lt-ltb _ _ (c .before .if1 .taken))
+
+returns-2 : tie.Need-returns-2
+returns-2 c = rw (le-ltb _ _ (c .if1 .left))
+
+pub head-spec : {M : Type 1} → statement M
+head-spec = tie.close (tie.spec mul-result shared-slice-read-result returns returns-2)

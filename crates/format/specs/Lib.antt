@@ -1,0 +1,4 @@
+pub mod Options
+pub mod Spaces
+pub mod Walking
+
