@@ -6,6 +6,8 @@ use mathlib.Core.List.{List, [], map}
 use lib.Dec.{eqb, ltb, leb}
 use lib.ListN.{length, getD, drop}
 use Rattle.paper.specs.Checks.{pick}
+use Rattle.paper.specs.Limits.{unitsMost, listMost}
+use Rattle.lists.specs.Proper.{Rising, Inside}
 use Rattle.lists.specs.Union.{union}
 use Rattle.skip.specs.Walk.{passes, walked}
 use Rattle.format.specs.declared.Sides.{Sides}
@@ -87,6 +89,16 @@ grownLeft over p g d at = union (drop (at .g) g) (map (walked (mappedOver over p
 
 abbrev pub listedLeft : Sides → Sides → List ℕ → List ℕ → List ℕ → Walker → List ℕ
 listedLeft over takes p g d at = union (pick (takes .p) (drop (at .p) p) []) (pick (takes .g) (grownLeft over p g d at) [])
+
+-- lists that a walk may go along
+pub record Ready (p g d : List ℕ) : Type 0 where
+  pub inside-p : Inside unitsMost p
+  pub inside-g : Inside unitsMost g
+  pub inside-d : Inside unitsMost d
+  pub short-p : length p ≤ listMost
+  pub short-g : length g ≤ listMost
+  pub short-d : length d ≤ listMost
+  pub rising-d : Rising d
 
 -- a walk that goes right: within the lists, its count is that of the entries passed, and no more than the next block passes
 pub record Walks (over : Sides) (p g d : List ℕ) (at : Walker) : Type 0 where

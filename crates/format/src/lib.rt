@@ -1,11 +1,14 @@
 // Format: the new grown list and the list of the new space, from P, G, the space in use and the supplied list.
 ghost use mathlib.Core.Path.{_≡_};
 ghost use mathlib.Core.Bool.{_&&_, _||_};
+ghost use mathlib.Core.Bool.{true};
 ghost use Prim.Native.Nat.{_+_, _<_, _≤_};
-ghost use lib.ListN.{length};
+ghost use lib.ListN.{length, set};
+ghost use Rattle.paper.specs.Checks.{pick};
 ghost use Rattle.paper.specs.Limits.{unitsMost, listMost};
-ghost use Rattle.lists.specs.Proper.{Inside, Rising};
-ghost use Rattle.format.specs.Walking.{headAt, mappedAt, least, one, stepAt, Walks, grownOf, listedOf};
+ghost use Rattle.lists.specs.Proper.{Inside};
+ghost use Rattle.lists.specs.Union.{written};
+ghost use Rattle.format.specs.Walking.{headAt, mappedAt, least, one, stepAt, Ready, Walks, grownOf, listedOf};
 
 // What stands where a list has ended.
 const ENDED: u32 = 4_294_967_295;
@@ -94,10 +97,7 @@ fn mapped(d: &[u32], k: usize, skipped: u32) -> u32
 
 // One step of the walk.
 fn step(over: Sides, takes: Sides, p: &[u32], g: &[u32], d: &[u32], at: Walker) -> Taken
-    requires { ⌜ Inside unitsMost (now d) ⌝ }
-    requires { ⌜ length (now p) ≤ listMost ⌝ }
-    requires { ⌜ length (now g) ≤ listMost ⌝ }
-    requires { ⌜ length (now d) ≤ listMost ⌝ }
+    requires { ⌜ Ready (now p) (now g) (now d) ⌝ }
     requires { ⌜ Walks over (now p) (now g) (now d) at ⌝ }
     ensures { λ r. ⌜ r ≡ stepAt over takes (now (p .entry)) (now (g .entry)) (now (d .entry)) at ⌝ }
 {
@@ -122,5 +122,81 @@ fn step(over: Sides, takes: Sides, p: &[u32], g: &[u32], d: &[u32], at: Walker) 
         grown,
         listed,
         next,
+    }
+}
+
+// How many entries the grown list and the new list have.
+pub struct Lengths {
+    pub grown: usize,
+    pub listed: usize,
+}
+
+// The first pass along P, G and D: it counts, and writes nothing.
+fn count_both(over: Sides, takes: Sides, p: &[u32], g: &[u32], d: &[u32]) -> Lengths
+    requires { ⌜ Ready (now p) (now g) (now d) ⌝ }
+    ensures { λ r. ⌜ r .grown ≡ length (grownOf over (now (p .entry)) (now (g .entry)) (now (d .entry))) ⌝ }
+    ensures { λ r. ⌜ r .listed ≡ length (listedOf over takes (now (p .entry)) (now (g .entry)) (now (d .entry))) ⌝ }
+{
+    let mut at = Walker {
+        p: 0,
+        g: 0,
+        d: 0,
+        skipped: 0,
+    };
+    let mut grown = 0;
+    let mut listed = 0;
+    while at.p + at.g + at.d < p.len() + g.len() + d.len() {
+        let taken = step(over, takes, p, g, d, at);
+        grown += count_of(taken.grown);
+        listed += count_of(taken.listed);
+        let next = taken.next;
+        at = next;
+    }
+    Lengths { grown, listed }
+}
+
+// Writes an entry at the count where it is taken, and answers the count after it.
+fn put(room: &mut [u32], count: usize, entry: u32, taken: bool) -> usize
+    requires { ⌜ (taken ≡ true → count < length (now room)) ⌝ }
+    ensures { λ r. ⌜ r ≡ count + one taken ⌝ }
+    ensures { λ r. ⌜ now (room .exit) ≡ pick taken (set (now (room .entry)) count entry) (now (room .entry)) ⌝ }
+{
+    if taken {
+        room[count] = entry;
+        return count + 1;
+    }
+    count
+}
+
+// The second pass along P, G and D: it writes both lists into rooms that have place for them.
+fn fill(
+    over: Sides,
+    takes: Sides,
+    p: &[u32],
+    g: &[u32],
+    d: &[u32],
+    grown: &mut [u32],
+    listed: &mut [u32],
+)
+    requires { ⌜ Ready (now p) (now g) (now d) ⌝ }
+    requires { ⌜ length (grownOf over (now p) (now g) (now d)) ≤ length (now grown) ⌝ }
+    requires { ⌜ length (listedOf over takes (now p) (now g) (now d)) ≤ length (now listed) ⌝ }
+    ensures { λ r. ⌜ now (grown .exit) ≡ written (grownOf over (now (p .entry)) (now (g .entry)) (now (d .entry))) (now (grown .entry)) ⌝ }
+    ensures { λ r. ⌜ now (listed .exit) ≡ written (listedOf over takes (now (p .entry)) (now (g .entry)) (now (d .entry))) (now (listed .entry)) ⌝ }
+{
+    let mut at = Walker {
+        p: 0,
+        g: 0,
+        d: 0,
+        skipped: 0,
+    };
+    let mut grown_count = 0;
+    let mut listed_count = 0;
+    while at.p + at.g + at.d < p.len() + g.len() + d.len() {
+        let taken = step(over, takes, p, g, d, at);
+        grown_count = put(grown, grown_count, taken.entry, taken.grown);
+        listed_count = put(listed, listed_count, taken.entry, taken.listed);
+        let next = taken.next;
+        at = next;
     }
 }
