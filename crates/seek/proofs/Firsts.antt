@@ -25,6 +25,29 @@ first-none passes zero none = refl
 first-none passes (suc n) none =
     rw (none 0 (omega arith)) (ap suc (first-none (λ k. passes (suc k)) n (λ k l. none (suc k) (omega arith))))
 
+-- what is found is no more than the bound, passes where it is below it, and nothing before it passes
+pub first-le : (passes : ℕ → Bool) (n : ℕ) → firstBelow passes n ≤ n
+unfolding firstBelow
+first-le passes zero = omega arith
+first-le passes (suc n) = byBool (passes 0) (λ e. rw e (omega arith)) (λ e. rw e (omega (arith, first-le (λ k. passes (suc k)) n)))
+
+pub first-passes : (passes : ℕ → Bool) (n : ℕ) → firstBelow passes n < n → passes (firstBelow passes n) ≡ true
+unfolding firstBelow
+first-passes passes zero h = absurd (omega arith)
+first-passes passes (suc n) h =
+    byBool (passes 0)
+    (λ e. rw e e)
+    (λ e. let found : suc (firstBelow (λ k. passes (suc k)) n) < suc n = rw e at h in rw e (first-passes (λ k. passes (suc k)) n (omega arith)))
+
+pub first-before : (passes : ℕ → Bool) (n k : ℕ) → k < firstBelow passes n → passes k ≡ false
+unfolding firstBelow
+first-before passes zero k h = absurd (omega arith)
+first-before passes (suc n) zero h = byBool (passes 0) (λ e. let none : 0 < 0 = rw e at h in absurd (omega arith)) (λ e. e)
+first-before passes (suc n) (suc k) h =
+    byBool (passes 0)
+    (λ e. let none : suc k < 0 = rw e at h in absurd (omega arith))
+    (λ e. let more : suc k < suc (firstBelow (λ k. passes (suc k)) n) = rw e at h in first-before (λ k. passes (suc k)) n k (omega arith))
+
 pub first-alike :
     (first second : ℕ → Bool) (n : ℕ) → ((k : ℕ) → k < n → first k ≡ second k) → firstBelow first n ≡ firstBelow second n
 unfolding firstBelow

@@ -2,3 +2,4 @@ pub mod Drops
 pub mod Counts
 pub mod Firsts
 pub mod Everys
+pub mod Searches

@@ -1,0 +1,56 @@
+-- A good image of which one data byte is changed is good no more, for any number of words.
+-- Assumes nothing.
+use Prim.Native.Nat.{ℕ, _+_, _*_, _<_}
+use mathlib.Core.Path.{_≡_, sym, _∙_, ap}
+use mathlib.Core.List.{List, [], _∷_}
+use native.Mathlib.Omega.{arith}
+use lib.ListN.{length, getD, drop, set}
+use lib.Seq.{drop-set-add, take-set-lt, getD-take, getD-drop}
+use Rattle.words.specs.Words.{Bytes}
+use Rattle.words.proofs.Bounds.{below-take, below-drop}
+use Rattle.words.proofs.Places.{word16-after}
+use Rattle.image.specs.Code.{codeOf}
+use Rattle.image.specs.Image.{headerSize, dataOf, storedIn, foundIn, sectorFault, imageFault}
+use Rattle.image.specs.Judged.{GoodCode, SectorJudged}
+use Rattle.image.proofs.Coding.{one-byte}
+use Rattle.image.proofs.Images.{length-data}
+use Rattle.image.proofs.Exact.{image-sector, image-length, sector-exactly}
+
+module _ (size : ℕ) (image : List ℕ) (number : ℕ) where
+  good-of : (k : ℕ) → SectorJudged size image number k → k ≡ 0 → GoodCode size image
+  good-of k (SectorJudged.no-address none) e = absurd (omega arith)
+  good-of k (SectorJudged.other-block m stands other) e = absurd (omega arith)
+  good-of k (SectorJudged.good stands same) e = same
+  good-of k (SectorJudged.forced stands same) e = absurd (omega arith)
+  good-of k (SectorJudged.neither stands other neither) e = absurd (omega arith)
+
+  -- the stored code of a good image is the one found
+  pub good-code : sectorFault size image number ≡ 0 → GoodCode size image
+  good-code = good-of (sectorFault size image number) (sector-exactly image size number .judged)
+
+  pub good-image : imageFault size image number ≡ 0 → GoodCode size image
+  good-image none = good-code (sym (image-sector image size number (image-length image size number none)) ∙ none)
+
+module _ (size : ℕ) (image : List ℕ) (k byte : ℕ) (inside : k < size) where
+  pub stored-kept : storedIn size (set image (headerSize + k) byte) ≡ storedIn size image
+  unfolding storedIn
+  stored-kept = word16-after image (headerSize + k) (byte ∷ []) (headerSize + size) (omega arith)
+
+  pub data-changed : dataOf size (set image (headerSize + k) byte) ≡ set (dataOf size image) k byte
+  unfolding dataOf
+  data-changed = rw (drop-set-add headerSize image k byte) (take-set-lt size (drop headerSize image) k byte inside)
+
+  pub changed-byte :
+      (number count : ℕ) → size ≡ 2 * count → Bytes image → byte < 256 → (byte ≡ getD image (headerSize + k) 0 → ⊥) →
+      imageFault size image number ≡ 0 → imageFault size (set image (headerSize + k) byte) number ≡ 0 → ⊥
+  unfolding foundIn dataOf
+  changed-byte number count even h l apart good again =
+      let kept = dataOf size image in
+      let long : length kept ≡ size = length-data size image (image-length image size number good) in
+      let changed = set image (headerSize + k) byte in
+      let bytes = below-take size (drop headerSize image) (omega arith) (below-drop headerSize image h) in
+      let held : getD kept k 0 ≡ getD image (headerSize + k) 0 = getD-take size (drop headerSize image) k 0 inside ∙ getD-drop headerSize image k 0 in
+      let first : storedIn size image ≡ codeOf kept = good-image size image number good in
+      let second : storedIn size changed ≡ codeOf (dataOf size changed) = good-image size changed number again in
+      let same : codeOf (set kept k byte) ≡ codeOf kept = sym (ap codeOf data-changed) ∙ sym second ∙ stored-kept ∙ first in
+      apart (one-byte count kept bytes (long ∙ even) k byte l (rw long inside) same ∙ held)

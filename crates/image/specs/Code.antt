@@ -1,0 +1,43 @@
+-- Document 01, "Sector image": the 16-bit code of data, over any number of words.
+use Prim.Native.Nat.{ℕ, _+_, _-_, _*_, _/_, _%_, _^_}
+use mathlib.Core.Bool.{Bool}
+use mathlib.Core.List.{List, [], _∷_}
+use lib.Bits.{bitXor}
+use Rattle.paper.specs.Checks.{pick}
+use Rattle.paper.specs.Limits.{startCode}
+use Rattle.words.specs.Words.{be16, Below}
+
+-- a list of numbers that two bytes hold
+abbrev pub Fits16 : List ℕ → Type 0
+Fits16 words = Below (2 ^ 16) words
+
+-- the words of data, two bytes each
+unfoldable pub wordsOf : List ℕ → List ℕ
+wordsOf [] = []
+wordsOf (lone ∷ []) = []
+wordsOf (hi ∷ lo ∷ bytes) = be16 hi lo ∷ wordsOf bytes
+
+-- sixteen bits moved up by one, the highest of them to the lowest place
+unfoldable pub rotated : ℕ → ℕ
+rotated code = code * 2 % 2 ^ 16 + code / 2 ^ 15
+
+-- the code after one word more: rotated, then the exclusive or with the word
+unfoldable pub stepped : ℕ → ℕ → ℕ
+stepped code word = bitXor (rotated code) word
+
+-- the code after all words of a list, from a code on
+unfoldable pub codeFrom : ℕ → List ℕ → ℕ
+codeFrom code [] = code
+codeFrom code (word ∷ words) = codeFrom (stepped code word) words
+
+-- the code of data
+unfoldable pub codeOf : List ℕ → ℕ
+codeOf bytes = codeFrom startCode (wordsOf bytes)
+
+-- every one of the sixteen bits is the other one
+abbrev pub complement : ℕ → ℕ
+complement code = 0xffff - code
+
+-- the code that an image carries: that of its data, or its complement where the data was bad when it was written
+unfoldable pub carried : Bool → List ℕ → ℕ
+carried forced bytes = pick forced (complement (codeOf bytes)) (codeOf bytes)

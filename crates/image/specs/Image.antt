@@ -1,0 +1,95 @@
+-- Document 01, "Sector image": what an image holds, for any number of data bytes, and the checks of an image and of its writer.
+use Prim.Native.Nat.{ℕ, _+_, _≤_}
+use mathlib.Core.Bool.{Bool, not}
+use mathlib.Core.List.{List, [], _∷_, _++_}
+use lib.Dec.{eqb, ltb}
+use lib.ListN.{length, take, drop, replicate}
+use Rattle.paper.specs.Checks.{pick, refuse, _orElse_}
+use Rattle.paper.specs.Limits.{imageExtra}
+use Rattle.paper.specs.Refusals.{noRoom, wrongLength, noAddress, otherBlock, forcedError, badCode}
+use Rattle.words.specs.Words.{bytes16, word16At, word32At, bytesOf, entriesAt}
+use Rattle.image.specs.Code.{codeOf, complement, carried}
+
+-- copies of the number in a header
+abbrev pub copiesMade : ℕ
+copiesMade = 4
+
+-- copies that must be alike
+abbrev pub copiesLeast : ℕ
+copiesLeast = 3
+
+-- bytes of a header, and so where the data begins
+abbrev pub headerSize : ℕ
+headerSize = 16
+
+-- 1 for a copy that is the number, else 0
+unfoldable pub alike : ℕ → ℕ → ℕ
+alike copy number = pick (eqb copy number) 1 0
+
+-- how many times a number stands in a list
+unfoldable pub times : ℕ → List ℕ → ℕ
+times number [] = 0
+times number (n ∷ list) = alike n number + times number list
+
+-- the copies of the number in an image's header, whole numbers of four bytes
+unfoldable pub copies : List ℕ → List ℕ
+copies image = entriesAt image 0 copiesMade
+
+-- the number stands in at least three of the four copies
+abbrev pub Stands : List ℕ → ℕ → Type 0
+Stands image number = copiesLeast ≤ times number (copies image)
+
+-- the only number that can stand so: the first copy, or the second where the first stands too seldom
+unfoldable pub headerOf : List ℕ → ℕ
+headerOf image = pick (ltb (times (word32At image 0) (copies image)) copiesLeast) (word32At image 4) (word32At image 0)
+
+-- the data of an image
+unfoldable pub dataOf : ℕ → List ℕ → List ℕ
+dataOf size image = take size (drop headerSize image)
+
+-- the code that stands in an image
+unfoldable pub storedIn : ℕ → List ℕ → ℕ
+storedIn size image = word16At image (headerSize + size)
+
+-- the code that its data has
+unfoldable pub foundIn : ℕ → List ℕ → ℕ
+foundIn size image = codeOf (dataOf size image)
+
+-- the bytes of an image: four copies of the number, the data, and the code or its complement
+unfoldable pub imageOf : ℕ → List ℕ → Bool → List ℕ
+imageOf number bytes forced = bytesOf (replicate copiesMade number) ++ (bytes ++ bytes16 (carried forced bytes))
+
+-- a room whose first places an image fills
+unfoldable pub imageIn : ℕ → List ℕ → Bool → List ℕ → List ℕ
+imageIn number bytes forced room = imageOf number bytes forced ++ drop (length bytes + imageExtra) room
+
+-- 14 for bytes of another length
+abbrev pub lengthFault : ℕ → List ℕ → ℕ
+lengthFault long bytes = refuse (not (eqb (length bytes) long)) wrongLength
+
+-- 15 for a header in which no number stands
+unfoldable pub addressFault : List ℕ → ℕ
+addressFault image = refuse (ltb (times (headerOf image) (copies image)) copiesLeast) noAddress
+
+-- 17 for a stored code that is the complement of the one found, 18 for any other but that one
+abbrev pub codeFault : ℕ → ℕ → ℕ
+codeFault stored found = pick (eqb stored found) 0 (pick (eqb stored (complement found)) forcedError badCode)
+
+-- 15, 16, then the code, of an image of the right length that is to name the number
+unfoldable pub sectorFault : ℕ → List ℕ → ℕ → ℕ
+sectorFault size image number =
+    addressFault image
+    orElse (refuse (not (eqb (headerOf image) number)) otherBlock
+    orElse codeFault (storedIn size image) (foundIn size image))
+
+-- 14, 15: checks of a header
+unfoldable pub headerFault : ℕ → List ℕ → ℕ
+headerFault size image = lengthFault (size + imageExtra) image orElse addressFault image
+
+-- 14 to 18: checks of an image
+unfoldable pub imageFault : ℕ → List ℕ → ℕ → ℕ
+imageFault size image number = lengthFault (size + imageExtra) image orElse sectorFault size image number
+
+-- 14, 7: checks of the writer
+unfoldable pub writeFault : ℕ → List ℕ → List ℕ → ℕ
+writeFault size bytes room = lengthFault size bytes orElse refuse (ltb (length room) (size + imageExtra)) noRoom

@@ -1,0 +1,31 @@
+-- The layout of a drive that passes its check obeys what every layout obeys, and so its products fit.
+-- Assumes nothing.
+use Prim.Native.Nat.{ℕ, _*_}
+use mathlib.Core.Path.{_≡_, refl}
+use native.Mathlib.Nat.{one-le-mul}
+use native.Mathlib.Omega.{arith}
+use Rattle.shape.specs.declared.Shape.{Shape}
+use Rattle.shape.specs.Shapes.{Shaped, sizeOf}
+use Rattle.shape.proofs.Bounds.{size-fits}
+use Rattle.layout.specs.Layouts.{Drives, Laid, layoutOf, sectorsOf}
+
+module _ {shape : Shape} {r : ℕ} (drives : Drives shape r) where
+  -- homes and spares of a track are its sectors, and those of all tracks the drive's
+  pub track-whole : sectorsOf (layoutOf shape r) ≡ shape .sectors
+  track-whole = omega arith
+
+  pub drive-whole : layoutOf shape r .tracks * sectorsOf (layoutOf shape r) ≡ sizeOf shape
+  drive-whole = rw track-whole
+
+pub laid : {shape : Shape} {r : ℕ} → Shaped shape → Drives shape r → Laid (layoutOf shape r)
+laid {shape} {r} shaped drives =
+    record {
+      heads-some = shaped .heads .0;
+      home-some = omega arith;
+      spare-some = drives .some;
+      tracks-some = one-le-mul (shaped .cylinders .0) (shaped .heads .0);
+      are-spares = refl;
+      are-blocks = refl;
+      spares-fit = drives .fit;
+      sectors-fit = rw (drive-whole drives) (size-fits shaped);
+    }

@@ -1,0 +1,4 @@
+pub mod Layings
+pub mod Exact
+pub mod Sectors
+pub mod Words

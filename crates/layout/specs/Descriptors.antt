@@ -1,0 +1,54 @@
+-- Document 01, "Descriptors and spares": a descriptor word, its code and its number.
+use Prim.Native.Nat.{ℕ, _+_, _*_, _/_, _%_}
+use mathlib.Core.Bool.{Bool, _&&_, _||_}
+use mathlib.Core.Path.{_≡_}
+use mathlib.Core.Logic.{_⊎_}
+use lib.Dec.{eqb}
+use Rattle.layout.specs.declared.Layout.{Layout}
+
+-- the codes
+abbrev pub free : ℕ
+free = 0
+
+abbrev pub atPrimary : ℕ
+atPrimary = 2
+
+abbrev pub elsewhere : ℕ
+elsewhere = 3
+
+abbrev pub unusable : ℕ
+unusable = 4
+
+abbrev pub null : ℕ
+null = 8
+
+-- the top four bits are the code, the low 28 the number
+abbrev pub codeUnit : ℕ
+codeUnit = 268435456
+
+abbrev pub wordOf : ℕ → ℕ → ℕ
+wordOf code number = code * codeUnit + number
+
+abbrev pub codeOf : ℕ → ℕ
+codeOf word = word / codeUnit
+
+abbrev pub numberOf : ℕ → ℕ
+numberOf word = word % codeUnit
+
+-- the place that a block is given first: (b / l) × r
+abbrev pub primary : Layout → ℕ → ℕ
+primary g b = b / g .home * g .spare
+
+-- a word that names a block: allocated at the primary or elsewhere
+abbrev pub Allocated : ℕ → Type 0
+Allocated word = (codeOf word ≡ atPrimary) ⊎ (codeOf word ≡ elsewhere)
+
+abbrev pub isAllocated : ℕ → Bool
+isAllocated word = eqb (codeOf word) atPrimary || eqb (codeOf word) elsewhere
+
+-- the block that a word names
+abbrev pub Names : ℕ → ℕ → Type 0
+Names word b = Allocated word × (numberOf word ≡ b)
+
+abbrev pub names : ℕ → ℕ → Bool
+names word b = isAllocated word && eqb (numberOf word) b

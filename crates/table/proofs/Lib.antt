@@ -1,0 +1,5 @@
+pub mod Standings
+pub mod Once
+pub mod Obeying
+pub mod Exact
+pub mod Lookups
