@@ -46,15 +46,23 @@ pub record OptionTaken (space option : ℕ) (d : List ℕ) : Type 0 where
   pub space-within : space ≤ spaceMost
   pub list-taken : (meaning option ≡ none) → length d ≡ 0
 
--- the chain up to the new list's length, without the rooms: N, P, G, 10, the list in use, D, the new grown list, the new list
-abbrev pub planFault : ℕ → List ℕ → List ℕ → ℕ → ℕ → List ℕ → ℕ
-planFault n p g space option d =
+abbrev pub optionFault : ℕ → ℕ → List ℕ → ℕ
+optionFault space option d = refuse (not (optionTaken space option d)) badOption
+
+-- N, P, G, 10, the list in use, D
+abbrev pub suppliedFault : ℕ → List ℕ → List ℕ → ℕ → ℕ → List ℕ → ℕ
+suppliedFault n p g space option d =
     sizeFault n
     orElse listFault n p
     orElse listFault n g
-    orElse refuse (not (optionTaken space option d)) badOption
+    orElse optionFault space option d
     orElse refuse (ltb listMost (length (listOf space p g))) tooLong
     orElse listFault (sizeOfD n p g space option) d
+
+-- the chain up to the new list's length, without the rooms: then the new grown list, the new list
+abbrev pub planFault : ℕ → List ℕ → List ℕ → ℕ → ℕ → List ℕ → ℕ
+planFault n p g space option d =
+    suppliedFault n p g space option d
     orElse refuse (ltb listMost (length (newGrown n p g space option d))) tooLong
     orElse refuse (ltb listMost (length (newList n p g space option d))) tooLong
 
@@ -66,14 +74,18 @@ formatFault n p g space option d grown list =
     orElse refuse (ltb (length list) (length (newList n p g space option d))) noRoom
 
 -- exactly when each number is given
-abbrev pub PlanJudged : ℕ → List ℕ → List ℕ → ℕ → ℕ → List ℕ → ℕ → Type 0
-PlanJudged n p g space option d =
+abbrev pub SuppliedJudged : ℕ → List ℕ → List ℕ → ℕ → ℕ → List ℕ → ℕ → Type 0
+SuppliedJudged n p g space option d =
     SizeJudged n
     andThen ListJudged n p
     andThen ListJudged n g
     andThen When badOption (OptionTaken space option d → ⊥)
     andThen When tooLong (listMost < length (listOf space p g))
     andThen ListJudged (sizeOfD n p g space option) d
+
+abbrev pub PlanJudged : ℕ → List ℕ → List ℕ → ℕ → ℕ → List ℕ → ℕ → Type 0
+PlanJudged n p g space option d =
+    SuppliedJudged n p g space option d
     andThen When tooLong (listMost < length (newGrown n p g space option d))
     andThen When tooLong (listMost < length (newList n p g space option d))
 

@@ -2,13 +2,20 @@
 ghost use mathlib.Core.Path.{_≡_};
 ghost use mathlib.Core.Bool.{_&&_, _||_};
 ghost use mathlib.Core.Bool.{true};
-ghost use Prim.Native.Nat.{_+_, _<_, _≤_};
+ghost use Prim.Native.Nat.{_+_, _-_, _<_, _≤_};
 ghost use lib.ListN.{length, set};
 ghost use Rattle.paper.specs.Checks.{pick};
 ghost use Rattle.paper.specs.Limits.{unitsMost, listMost};
 ghost use Rattle.lists.specs.Proper.{Inside};
 ghost use Rattle.lists.specs.Union.{written};
-ghost use Rattle.format.specs.Walking.{headAt, mappedAt, least, one, stepAt, Ready, Walks, grownOf, listedOf};
+ghost use lib.Dec.{eqb};
+ghost use Rattle.format.specs.Options.{none, inBlocks, keep, add, asBefore, optionMost, spaceMost, rows, cell, meaning};
+ghost use Rattle.format.specs.Spaces.{listOf, newSpace, optionFault, suppliedFault};
+ghost use Rattle.format.specs.Walking.{ended, headAt, mappedAt, least, one, stepAt, Ready, Walks, grownOf, listedOf};
+ghost use Rattle.format.specs.Plans.{sidesOf, overOf, takesOf, keptOf, plannedGrown, plannedList};
+ghost use Rattle.format.specs.Promises.{planned, Formats};
+
+use paper::{BAD_OPTION, LIST_MOST, NO_ROOM, TOO_LONG};
 
 // What stands where a list has ended.
 const ENDED: u32 = 4_294_967_295;
@@ -125,6 +132,18 @@ fn step(over: Sides, takes: Sides, p: &[u32], g: &[u32], d: &[u32], at: Walker) 
     }
 }
 
+// Both lengths where the chain passes, without the rooms.
+pub enum Planned {
+    Fits(usize, usize),
+    Refused(u32),
+}
+
+// The lengths of the new grown list and of the new list, and the new space.
+pub enum Formatted {
+    Done(u32, u32, u32),
+    Refused(u32),
+}
+
 // How many entries the grown list and the new list have.
 pub struct Lengths {
     pub grown: usize,
@@ -198,5 +217,273 @@ fn fill(
         listed_count = put(listed, listed_count, taken.entry, taken.listed);
         let next = taken.next;
         at = next;
+    }
+}
+
+// The eight rows: what the list is in, the new grown list, the new space.
+const ROWS: [[u8; 3]; 8] = [
+    [0, 0, 4],
+    [1, 1, 3],
+    [0, 0, 2],
+    [1, 1, 2],
+    [0, 2, 1],
+    [2, 3, 3],
+    [0, 2, 0],
+    [2, 3, 2],
+];
+const NONE: u32 = 0;
+const IN_BLOCKS: u32 = 1;
+const KEEP: u32 = 0;
+const ADD: u32 = 1;
+const AS_BEFORE: u32 = 4;
+const OPTION_MOST: u32 = 7;
+const SPACE_MOST: u32 = 3;
+
+// The rows of the code are those of the definitions.
+fn rows_agree() -> [[u8; 3]; 8]
+    ensures { λ r. ⌜ r ≡ rows ⌝ }
+{
+    ROWS
+}
+
+// And so are its names.
+fn names_agree()
+    ensures { λ r. do ⌜ (← ⟦NONE⟧ .entry) ≡ none ⌝ }
+    ensures { λ r. do ⌜ (← ⟦IN_BLOCKS⟧ .entry) ≡ inBlocks ⌝ }
+    ensures { λ r. do ⌜ (← ⟦KEEP⟧ .entry) ≡ keep ⌝ }
+    ensures { λ r. do ⌜ (← ⟦ADD⟧ .entry) ≡ add ⌝ }
+    ensures { λ r. do ⌜ (← ⟦AS_BEFORE⟧ .entry) ≡ asBefore ⌝ }
+    ensures { λ r. do ⌜ (← ⟦OPTION_MOST⟧ .entry) ≡ optionMost ⌝ }
+    ensures { λ r. do ⌜ (← ⟦SPACE_MOST⟧ .entry) ≡ spaceMost ⌝ }
+    ensures { λ r. do ⌜ (← ⟦ENDED⟧ .entry) ≡ ended ⌝ }
+{
+}
+
+fn wide(x: u8) -> u32
+    ensures { λ r. ⌜ r ≡ x ⌝ }
+{
+    x as u32
+}
+
+// A cell of an option's row.
+fn cell_of(option: u32, column: usize) -> u32
+    requires { ⌜ option ≤ optionMost ⌝ }
+    requires { ⌜ column < 3 ⌝ }
+    ensures { λ r. ⌜ r ≡ cell option column ⌝ }
+{
+    let o = option as usize;
+    wide(ROWS[o][column])
+}
+
+// The sides of a space.
+fn sides_of(space: u32) -> Sides
+    ensures { λ r. ⌜ r ≡ sidesOf space ⌝ }
+{
+    Sides {
+        p: either(space == 1, space == 3),
+        g: either(space == 2, space == 3),
+    }
+}
+
+// The new space of an option.
+fn new_space(space: u32, option: u32) -> u32
+    requires { ⌜ option ≤ optionMost ⌝ }
+    ensures { λ r. ⌜ r ≡ newSpace space option ⌝ }
+{
+    let to = cell_of(option, 2);
+    if to == AS_BEFORE {
+        return space;
+    }
+    to
+}
+
+// The sides that D is mapped over.
+fn over_of(space: u32, option: u32) -> Sides
+    requires { ⌜ option ≤ optionMost ⌝ }
+    ensures { λ r. ⌜ r ≡ overOf space option ⌝ }
+{
+    if cell_of(option, 0) == IN_BLOCKS {
+        return sides_of(space);
+    }
+    Sides { p: false, g: false }
+}
+
+// What an option keeps of G: all of it, or the empty part at its start.
+fn kept_of(option: u32, g: &[u32]) -> &[u32]
+    requires { ⌜ option ≤ optionMost ⌝ }
+    ensures { λ r. ⌜ now r ≡ keptOf option (now (g .entry)) ⌝ }
+{
+    let to = cell_of(option, 1);
+    if either(to == KEEP, to == ADD) {
+        return g;
+    }
+    &g[0..0]
+}
+
+// Refusal 10 for an option or a space that is none, or for a list that the option does not take, else 0.
+fn option_fault(space: u32, option: u32, d: &[u32]) -> u32
+    ensures { λ r. ⌜ r ≡ optionFault space option (now (d .entry)) ⌝ }
+{
+    if OPTION_MOST < option {
+        return BAD_OPTION;
+    }
+    if SPACE_MOST < space {
+        return BAD_OPTION;
+    }
+    if d.len() == 0 {
+        return 0;
+    }
+    if cell_of(option, 0) == NONE {
+        return BAD_OPTION;
+    }
+    0
+}
+
+// How many entries the list in use has.
+fn in_use(space: u32, p: &[u32], g: &[u32]) -> usize
+    ensures { λ r. ⌜ r ≡ length (listOf space (now (p .entry)) (now (g .entry))) ⌝ }
+{
+    if space == 0 {
+        return 0;
+    }
+    if space == 1 {
+        return p.len();
+    }
+    if space == 2 {
+        return g.len();
+    }
+    lists::union_length(p, g)
+}
+
+// The size of the space that D is in, of N sectors of which so many are in the list in use.
+fn size_of_d(n: u32, option: u32, used: usize) -> u32
+    requires { ⌜ option ≤ optionMost ⌝ }
+    requires { ⌜ used ≤ listMost ⌝ }
+    ensures { λ r. ⌜ r ≡ pick (eqb (meaning option) inBlocks) (n - used) n ⌝ }
+{
+    if cell_of(option, 0) == IN_BLOCKS {
+        if n as usize <= used {
+            return 0;
+        }
+        return n - used as u32;
+    }
+    n
+}
+
+// The first pass, laid out for the option and the space.
+fn count_planned(p: &[u32], g: &[u32], space: u32, option: u32, d: &[u32]) -> Lengths
+    requires { ⌜ option ≤ optionMost ⌝ }
+    requires { ⌜ Ready (now p) (now g) (now d) ⌝ }
+    ensures { λ r. ⌜ r .grown ≡ length (plannedGrown (now (p .entry)) (now (g .entry)) space option (now (d .entry))) ⌝ }
+    ensures { λ r. ⌜ r .listed ≡ length (plannedList (now (p .entry)) (now (g .entry)) space option (now (d .entry))) ⌝ }
+{
+    let kept = kept_of(option, g);
+    let over = over_of(space, option);
+    let takes = sides_of(new_space(space, option));
+    count_both(over, takes, p, kept, d)
+}
+
+// The second pass, laid out for the option and the space.
+fn fill_planned(
+    p: &[u32],
+    g: &[u32],
+    space: u32,
+    option: u32,
+    d: &[u32],
+    grown: &mut [u32],
+    listed: &mut [u32],
+)
+    requires { ⌜ option ≤ optionMost ⌝ }
+    requires { ⌜ Ready (now p) (now g) (now d) ⌝ }
+    requires { ⌜ length (plannedGrown (now p) (now g) space option (now d)) ≤ length (now grown) ⌝ }
+    requires { ⌜ length (plannedList (now p) (now g) space option (now d)) ≤ length (now listed) ⌝ }
+    ensures { λ r. ⌜ now (grown .exit) ≡ written (plannedGrown (now (p .entry)) (now (g .entry)) space option (now (d .entry))) (now (grown .entry)) ⌝ }
+    ensures { λ r. ⌜ now (listed .exit) ≡ written (plannedList (now (p .entry)) (now (g .entry)) space option (now (d .entry))) (now (listed .entry)) ⌝ }
+{
+    let kept = kept_of(option, g);
+    let over = over_of(space, option);
+    let takes = sides_of(new_space(space, option));
+    fill(over, takes, p, kept, d, grown, listed);
+}
+
+// P, G, the option and the list in use: 1, P, G, 10, 2, then D. What is left is to count.
+fn supplied_fault(n: u32, p: &[u32], g: &[u32], space: u32, option: u32, d: &[u32]) -> u32
+    ensures { λ r. ⌜ r ≡ suppliedFault n (now (p .entry)) (now (g .entry)) space option (now (d .entry)) ⌝ }
+{
+    let fault = paper::size_fault(n);
+    if fault != 0 {
+        return fault;
+    }
+    let fault = lists::list_fault(n, p);
+    if fault != 0 {
+        return fault;
+    }
+    let fault = lists::list_fault(n, g);
+    if fault != 0 {
+        return fault;
+    }
+    let fault = option_fault(space, option, d);
+    if fault != 0 {
+        return fault;
+    }
+    let used = in_use(space, p, g);
+    if LIST_MOST < used {
+        return TOO_LONG;
+    }
+    lists::list_fault(size_of_d(n, option, used), d)
+}
+
+// The chain up to the new list's length, without the rooms, and both lengths. Only other crates call this.
+pub fn plan(n: u32, p: &[u32], g: &[u32], space: u32, option: u32, d: &[u32]) -> Planned
+    ensures { λ r. ⌜ r ≡ planned n (now (p .entry)) (now (g .entry)) space option (now (d .entry)) ⌝ }
+{
+    let fault = supplied_fault(n, p, g, space, option, d);
+    if fault != 0 {
+        return Planned::Refused(fault);
+    }
+    let lengths = count_planned(p, g, space, option, d);
+    let grown = lengths.grown;
+    let listed = lengths.listed;
+    if LIST_MOST < grown {
+        return Planned::Refused(TOO_LONG);
+    }
+    if LIST_MOST < listed {
+        return Planned::Refused(TOO_LONG);
+    }
+    Planned::Fits(grown, listed)
+}
+
+// Format: the new grown list and the list of the new space into the lent rooms. Checks 1, P, G, 10, 2, D, 2, 2, 7.
+pub fn format(
+    n: u32,
+    p: &[u32],
+    g: &[u32],
+    space: u32,
+    option: u32,
+    d: &[u32],
+    grown: &mut [u32],
+    list: &mut [u32],
+) -> Formatted
+    ensures { λ r. ⌜ Formats n (now (p .entry)) (now (g .entry)) space option (now (d .entry)) (now (grown .entry)) (now (list .entry)) r (now (grown .exit)) (now (list .exit)) ⌝ }
+{
+    let planned = plan(n, p, g, space, option, d);
+    match planned {
+        Planned::Refused(fault) => {
+            return Formatted::Refused(fault);
+        }
+        Planned::Fits(grown_length, list_length) => {
+            if grown.len() < grown_length {
+                return Formatted::Refused(NO_ROOM);
+            }
+            if list.len() < list_length {
+                return Formatted::Refused(NO_ROOM);
+            }
+            fill_planned(p, g, space, option, d, grown, list);
+            return Formatted::Done(
+                grown_length as u32,
+                list_length as u32,
+                new_space(space, option),
+            );
+        }
     }
 }

@@ -1,0 +1,168 @@
+-- What Format answers at each of its ends: a refusal of the chain, a refusal for want of room, or both lists.
+-- Assumes nothing.
+use Prim.Native.Nat.{ℕ, zero, suc, _<_, _≤_}
+use mathlib.Core.Path.{_≡_, refl, sym, _∙_, ap}
+use mathlib.Core.List.{List}
+use native.Mathlib.Omega.{arith}
+use lib.Dec.{ltb}
+use lib.ListN.{length}
+use borrow.Author.Tests.{lt-ltb, le-ltb}
+use Rattle.paper.specs.Checks.{refuse, _orElse_, answer, given}
+use Rattle.paper.specs.Refusals.{tooLong, noRoom}
+use Rattle.paper.specs.Limits.{listMost}
+use Rattle.paper.proofs.Cases.{byLt}
+use Rattle.paper.proofs.Chain.{orElse-some, orElse-first, orElse-next, answer-refused, answer-accepted}
+use Rattle.lists.specs.Union.{written}
+use Rattle.format.specs.Spaces.{newGrown, newList, newSpace, suppliedFault, planFault, formatFault}
+use Rattle.format.specs.Plans.{plannedGrown, plannedList}
+use Rattle.format.proofs.Planning.{Supplied, supplied-shows, planned-grown, planned-list}
+use Rattle.format.specs.Promises.{saidFormatted, planned, formatted, Formats}
+use Rattle.format.specs.declared.Planned.{Planned}
+use Rattle.format.specs.declared.Planned.the-variants.{Fits, Refused as NotPlanned}
+use Rattle.format.specs.declared.Formatted.{Formatted}
+use Rattle.format.specs.declared.Formatted.the-variants.{Done, Refused}
+
+formatted-says :
+    (fault grown list space : ℕ) →
+    saidFormatted (answer fault Refused (Done grown list space)) ≡ (fault, given fault grown, given fault list, given fault space)
+formatted-says zero grown list space = refl
+formatted-says (suc fault) grown list space = refl
+
+refused-is : (fault grown list k : ℕ) → answer fault NotPlanned (Fits grown list) ≡ NotPlanned k → (fault ≡ k) × (fault ≡ 0 → ⊥)
+refused-is zero grown list k e = let z : _≡_ {A = ℕ} 0 1 = cc in absurd (omega arith)
+refused-is (suc fault) grown list k e = (cc, λ none. omega arith)
+
+fits-is : (fault grown list a b : ℕ) → answer fault NotPlanned (Fits grown list) ≡ Fits a b → (fault ≡ 0) × (a ≡ grown) × (b ≡ list)
+fits-is zero grown list a b e = (refl, cc, cc)
+fits-is (suc fault) grown list a b e = let z : _≡_ {A = ℕ} 0 1 = cc in absurd (omega arith)
+
+module _ (n : ℕ) (p g : List ℕ) (space option : ℕ) (d : List ℕ) where
+  abbrev grownLength : ℕ
+  grownLength = length (newGrown n p g space option d)
+
+  abbrev listLength : ℕ
+  listLength = length (newList n p g space option d)
+
+  -- the chain without the rooms
+  pub plan-supplied : (fault : ℕ) → fault ≡ suppliedFault n p g space option d → (fault ≡ 0 → ⊥) → NotPlanned fault ≡ planned n p g space option d
+  plan-supplied fault is some =
+      let whole : planFault n p g space option d ≡ fault = rw (← is) (orElse-some fault _ some) in
+      sym (answer-refused (planFault n p g space option d) NotPlanned _ (λ none. some (sym whole ∙ none)) ∙ ap NotPlanned whole)
+
+  module _ (passes : suppliedFault n p g space option d ≡ 0) where
+    pub plan-grown-long : listMost < grownLength → NotPlanned tooLong ≡ planned n p g space option d
+    plan-grown-long long =
+        let whole : planFault n p g space option d ≡ tooLong = rw (passes, lt-ltb listMost grownLength long) in
+        rw whole
+
+    pub plan-list-long : grownLength ≤ listMost → listMost < listLength → NotPlanned tooLong ≡ planned n p g space option d
+    plan-list-long short long =
+        let whole : planFault n p g space option d ≡ tooLong = rw (passes, le-ltb listMost grownLength short, lt-ltb listMost listLength long) in
+        rw whole
+
+    pub plan-fits : grownLength ≤ listMost → listLength ≤ listMost → Fits grownLength listLength ≡ planned n p g space option d
+    plan-fits short fits =
+        let whole : planFault n p g space option d ≡ 0 = rw (passes, le-ltb listMost grownLength short, le-ltb listMost listLength fits) in
+        rw whole
+
+  pub plan-refused : (k : ℕ) → planned n p g space option d ≡ NotPlanned k → (planFault n p g space option d ≡ k) × (planFault n p g space option d ≡ 0 → ⊥)
+  plan-refused k e = refused-is (planFault n p g space option d) grownLength listLength k e
+
+  pub plan-fitted : (a b : ℕ) → planned n p g space option d ≡ Fits a b → (planFault n p g space option d ≡ 0) × (a ≡ grownLength) × (b ≡ listLength)
+  plan-fitted a b e = fits-is (planFault n p g space option d) grownLength listLength a b e
+
+  -- the call
+  module _ (grown list : List ℕ) where
+    abbrev fault : ℕ
+    fault = formatFault n p g space option d grown list
+
+    refused : (k : ℕ) → formatFault n p g space option d grown list ≡ k → (k ≡ 0 → ⊥) → Formats n p g space option d grown list (Refused k) grown list
+    refused k is some =
+        let some′ : formatFault n p g space option d grown list ≡ 0 → ⊥ = λ none. some (sym is ∙ none) in
+        let answers : Refused k ≡ formatted n p g space option d grown list =
+            sym (answer-refused (formatFault n p g space option d grown list) Refused _ some′ ∙ ap Refused is) in
+        record
+          { answers = answers
+          ; says = ap saidFormatted answers ∙ formatted-says (formatFault n p g space option d grown list) grownLength listLength (newSpace space option)
+          ; grown-holds = sym (answer-refused (formatFault n p g space option d grown list) (λ k. grown) _ some′)
+          ; list-holds = sym (answer-refused (formatFault n p g space option d grown list) (λ k. list) _ some′)
+          }
+
+    pub format-refused : (k : ℕ) → planned n p g space option d ≡ NotPlanned k → Formats n p g space option d grown list (Refused k) grown list
+    format-refused k e =
+        let is = plan-refused k e in
+        refused k
+        (orElse-some (planFault n p g space option d) _ (is .1) ∙ is .0)
+        (λ none. is .1 (is .0 ∙ none))
+
+    module _ (passes : planFault n p g space option d ≡ 0) where
+      pub format-no-grown-room : length grown < grownLength → Formats n p g space option d grown list (Refused noRoom) grown list
+      format-no-grown-room short = refused noRoom (rw (passes, lt-ltb (length grown) grownLength short)) (λ none. omega arith)
+
+      pub format-no-list-room : grownLength ≤ length grown → length list < listLength → Formats n p g space option d grown list (Refused noRoom) grown list
+      format-no-list-room fits short =
+          refused noRoom (rw (passes, le-ltb (length grown) grownLength fits, lt-ltb (length list) listLength short)) (λ none. omega arith)
+
+      pub format-done :
+          grownLength ≤ length grown → listLength ≤ length list → (grownAfter listAfter : List ℕ) →
+          grownAfter ≡ written (newGrown n p g space option d) grown → listAfter ≡ written (newList n p g space option d) list →
+          Formats n p g space option d grown list (Done grownLength listLength (newSpace space option)) grownAfter listAfter
+      format-done fits room grownAfter listAfter grown-is list-is =
+          let none : formatFault n p g space option d grown list ≡ 0 = rw (passes, le-ltb (length grown) grownLength fits, le-ltb (length list) listLength room) in
+          let answers : Done grownLength listLength (newSpace space option) ≡ formatted n p g space option d grown list =
+              sym (answer-accepted (formatFault n p g space option d grown list) Refused _ none) in
+          record
+            { answers = answers
+            ; says = ap saidFormatted answers ∙ formatted-says (formatFault n p g space option d grown list) grownLength listLength (newSpace space option)
+            ; grown-holds = grown-is ∙ sym (answer-accepted (formatFault n p g space option d grown list) (λ k. grown) _ none)
+            ; list-holds = list-is ∙ sym (answer-accepted (formatFault n p g space option d grown list) (λ k. list) _ none)
+            }
+
+-- the call at each end, once the plan fits with lengths a and b
+module _
+    (n : ℕ)
+    (p g : List ℕ)
+    (space option : ℕ)
+    (d grown list : List ℕ)
+    {a b : ℕ}
+    (fits : planned n p g space option d ≡ Fits a b)
+  where
+  fitted : (planFault n p g space option d ≡ 0) × (a ≡ length (newGrown n p g space option d)) × (b ≡ length (newList n p g space option d))
+  fitted = plan-fitted n p g space option d a b fits
+
+  pub fitted-supplied : Supplied n p g space option d
+  fitted-supplied = supplied-shows n p g space option d (orElse-first (suppliedFault n p g space option d) _ (fitted .0))
+
+  pub fitted-short : (a ≤ listMost) × (b ≤ listMost)
+  fitted-short =
+      let lengths = orElse-next (suppliedFault n p g space option d) _ (fitted .0) in
+      ( rw (fitted .1) (length-shows (newGrown n p g space option d) (orElse-first (refuse (ltb listMost (length (newGrown n p g space option d))) tooLong) _ lengths))
+      , rw (fitted .2) (length-shows (newList n p g space option d) (orElse-next (refuse (ltb listMost (length (newGrown n p g space option d))) tooLong) _ lengths)))
+    where
+      length-shows : (l : List ℕ) → refuse (ltb listMost (length l)) tooLong ≡ 0 → length l ≤ listMost
+      length-shows l none =
+          byLt listMost (length l) (λ long. absurd (omega (arith, rw (lt-ltb listMost (length l) long) at none))) (λ short. short)
+
+  pub fitted-no-grown : length grown < a → Formats n p g space option d grown list (Refused noRoom) grown list
+  fitted-no-grown short = format-no-grown-room n p g space option d grown list (fitted .0) (rw (fitted .1) at short)
+
+  pub fitted-no-list : a ≤ length grown → length list < b → Formats n p g space option d grown list (Refused noRoom) grown list
+  fitted-no-list room short = format-no-list-room n p g space option d grown list (fitted .0) (rw (fitted .1) at room) (rw (fitted .2) at short)
+
+  -- both rooms have place for what the walk writes
+  pub fitted-rooms :
+      a ≤ length grown → b ≤ length list →
+      (length (plannedGrown p g space option d) ≤ length grown) × (length (plannedList p g space option d) ≤ length list)
+  fitted-rooms room place =
+      ( rw (planned-grown n p g space option d fitted-supplied) (rw (fitted .1) at room)
+      , rw (planned-list n p g space option d fitted-supplied) (rw (fitted .2) at place))
+
+  pub fitted-done :
+      a ≤ length grown → b ≤ length list → {to : ℕ} {grownAfter listAfter : List ℕ} → to ≡ newSpace space option →
+      grownAfter ≡ written (plannedGrown p g space option d) grown → listAfter ≡ written (plannedList p g space option d) list →
+      Formats n p g space option d grown list (Done a b to) grownAfter listAfter
+  fitted-done room place to-is grown-is list-is =
+      rw (fitted .1, fitted .2, to-is)
+      (format-done n p g space option d grown list (fitted .0) (rw (fitted .1) at room) (rw (fitted .2) at place) _ _
+      (grown-is ∙ ap (λ (l : List ℕ). written l grown) (planned-grown n p g space option d fitted-supplied))
+      (list-is ∙ ap (λ (l : List ℕ). written l list) (planned-list n p g space option d fitted-supplied)))
