@@ -80,13 +80,13 @@ module _ (n : ℕ) (p g : List ℕ) (space option : ℕ) (d : List ℕ) where
     refused k is some =
         let some′ : formatFault n p g space option d grown list ≡ 0 → ⊥ = λ none. some (sym is ∙ none) in
         let answers : Refused k ≡ formatted n p g space option d grown list =
-            sym (answer-refused (formatFault n p g space option d grown list) Refused _ some′ ∙ ap Refused is) in
-        record
-          { answers = answers
-          ; says = ap saidFormatted answers ∙ formatted-says (formatFault n p g space option d grown list) grownLength listLength (newSpace space option)
-          ; grown-holds = sym (answer-refused (formatFault n p g space option d grown list) (λ k. grown) _ some′)
-          ; list-holds = sym (answer-refused (formatFault n p g space option d grown list) (λ k. list) _ some′)
-          }
+        sym (answer-refused (formatFault n p g space option d grown list) Refused _ some′ ∙ ap Refused is) in
+        record {
+          answers = answers;
+          says = ap saidFormatted answers ∙ formatted-says (formatFault n p g space option d grown list) grownLength listLength (newSpace space option);
+          grown-holds = sym (answer-refused (formatFault n p g space option d grown list) (λ k. grown) _ some′);
+          list-holds = sym (answer-refused (formatFault n p g space option d grown list) (λ k. list) _ some′);
+        }
 
     pub format-refused : (k : ℕ) → planned n p g space option d ≡ NotPlanned k → Formats n p g space option d grown list (Refused k) grown list
     format-refused k e =
@@ -110,13 +110,13 @@ module _ (n : ℕ) (p g : List ℕ) (space option : ℕ) (d : List ℕ) where
       format-done fits room grownAfter listAfter grown-is list-is =
           let none : formatFault n p g space option d grown list ≡ 0 = rw (passes, le-ltb (length grown) grownLength fits, le-ltb (length list) listLength room) in
           let answers : Done grownLength listLength (newSpace space option) ≡ formatted n p g space option d grown list =
-              sym (answer-accepted (formatFault n p g space option d grown list) Refused _ none) in
-          record
-            { answers = answers
-            ; says = ap saidFormatted answers ∙ formatted-says (formatFault n p g space option d grown list) grownLength listLength (newSpace space option)
-            ; grown-holds = grown-is ∙ sym (answer-accepted (formatFault n p g space option d grown list) (λ k. grown) _ none)
-            ; list-holds = list-is ∙ sym (answer-accepted (formatFault n p g space option d grown list) (λ k. list) _ none)
-            }
+          sym (answer-accepted (formatFault n p g space option d grown list) Refused _ none) in
+          record {
+            answers = answers;
+            says = ap saidFormatted answers ∙ formatted-says (formatFault n p g space option d grown list) grownLength listLength (newSpace space option);
+            grown-holds = grown-is ∙ sym (answer-accepted (formatFault n p g space option d grown list) (λ k. grown) _ none);
+            list-holds = list-is ∙ sym (answer-accepted (formatFault n p g space option d grown list) (λ k. list) _ none);
+          }
 
 -- the call at each end, once the plan fits with lengths a and b
 module _
@@ -127,42 +127,44 @@ module _
     {a b : ℕ}
     (fits : planned n p g space option d ≡ Fits a b)
   where
-  fitted : (planFault n p g space option d ≡ 0) × (a ≡ length (newGrown n p g space option d)) × (b ≡ length (newList n p g space option d))
-  fitted = plan-fitted n p g space option d a b fits
+    fitted : (planFault n p g space option d ≡ 0) × (a ≡ length (newGrown n p g space option d)) × (b ≡ length (newList n p g space option d))
+    fitted = plan-fitted n p g space option d a b fits
 
-  pub fitted-supplied : Supplied n p g space option d
-  fitted-supplied = supplied-shows n p g space option d (orElse-first (suppliedFault n p g space option d) _ (fitted .0))
+    pub fitted-supplied : Supplied n p g space option d
+    fitted-supplied = supplied-shows n p g space option d (orElse-first (suppliedFault n p g space option d) _ (fitted .0))
 
-  pub fitted-short : (a ≤ listMost) × (b ≤ listMost)
-  fitted-short =
-      let lengths = orElse-next (suppliedFault n p g space option d) _ (fitted .0) in
-      ( rw (fitted .1) (length-shows (newGrown n p g space option d) (orElse-first (refuse (ltb listMost (length (newGrown n p g space option d))) tooLong) _ lengths))
-      , rw (fitted .2) (length-shows (newList n p g space option d) (orElse-next (refuse (ltb listMost (length (newGrown n p g space option d))) tooLong) _ lengths)))
-    where
-      length-shows : (l : List ℕ) → refuse (ltb listMost (length l)) tooLong ≡ 0 → length l ≤ listMost
-      length-shows l none =
-          byLt listMost (length l) (λ long. absurd (omega (arith, rw (lt-ltb listMost (length l) long) at none))) (λ short. short)
+    pub fitted-short : (a ≤ listMost) × (b ≤ listMost)
+    fitted-short =
+        let lengths = orElse-next (suppliedFault n p g space option d) _ (fitted .0) in (
+          rw (fitted .1) (length-shows (newGrown n p g space option d) (orElse-first (refuse (ltb listMost (length (newGrown n p g space option d))) tooLong) _ lengths)),
+          rw (fitted .2) (length-shows (newList n p g space option d) (orElse-next (refuse (ltb listMost (length (newGrown n p g space option d))) tooLong) _ lengths)),
+        )
+      where
+        length-shows : (l : List ℕ) → refuse (ltb listMost (length l)) tooLong ≡ 0 → length l ≤ listMost
+        length-shows l none =
+            byLt listMost (length l) (λ long. absurd (omega (arith, rw (lt-ltb listMost (length l) long) at none))) (λ short. short)
 
-  pub fitted-no-grown : length grown < a → Formats n p g space option d grown list (Refused noRoom) grown list
-  fitted-no-grown short = format-no-grown-room n p g space option d grown list (fitted .0) (rw (fitted .1) at short)
+    pub fitted-no-grown : length grown < a → Formats n p g space option d grown list (Refused noRoom) grown list
+    fitted-no-grown short = format-no-grown-room n p g space option d grown list (fitted .0) (rw (fitted .1) at short)
 
-  pub fitted-no-list : a ≤ length grown → length list < b → Formats n p g space option d grown list (Refused noRoom) grown list
-  fitted-no-list room short = format-no-list-room n p g space option d grown list (fitted .0) (rw (fitted .1) at room) (rw (fitted .2) at short)
+    pub fitted-no-list : a ≤ length grown → length list < b → Formats n p g space option d grown list (Refused noRoom) grown list
+    fitted-no-list room short = format-no-list-room n p g space option d grown list (fitted .0) (rw (fitted .1) at room) (rw (fitted .2) at short)
 
-  -- both rooms have place for what the walk writes
-  pub fitted-rooms :
-      a ≤ length grown → b ≤ length list →
-      (length (plannedGrown p g space option d) ≤ length grown) × (length (plannedList p g space option d) ≤ length list)
-  fitted-rooms room place =
-      ( rw (planned-grown n p g space option d fitted-supplied) (rw (fitted .1) at room)
-      , rw (planned-list n p g space option d fitted-supplied) (rw (fitted .2) at place))
+    -- both rooms have place for what the walk writes
+    pub fitted-rooms :
+        a ≤ length grown → b ≤ length list →
+        (length (plannedGrown p g space option d) ≤ length grown) × (length (plannedList p g space option d) ≤ length list)
+    fitted-rooms room place = (
+      rw (planned-grown n p g space option d fitted-supplied) (rw (fitted .1) at room),
+      rw (planned-list n p g space option d fitted-supplied) (rw (fitted .2) at place),
+    )
 
-  pub fitted-done :
-      a ≤ length grown → b ≤ length list → {to : ℕ} {grownAfter listAfter : List ℕ} → to ≡ newSpace space option →
-      grownAfter ≡ written (plannedGrown p g space option d) grown → listAfter ≡ written (plannedList p g space option d) list →
-      Formats n p g space option d grown list (Done a b to) grownAfter listAfter
-  fitted-done room place to-is grown-is list-is =
-      rw (fitted .1, fitted .2, to-is)
-      (format-done n p g space option d grown list (fitted .0) (rw (fitted .1) at room) (rw (fitted .2) at place) _ _
-      (grown-is ∙ ap (λ (l : List ℕ). written l grown) (planned-grown n p g space option d fitted-supplied))
-      (list-is ∙ ap (λ (l : List ℕ). written l list) (planned-list n p g space option d fitted-supplied)))
+    pub fitted-done :
+        a ≤ length grown → b ≤ length list → {to : ℕ} {grownAfter listAfter : List ℕ} → to ≡ newSpace space option →
+        grownAfter ≡ written (plannedGrown p g space option d) grown → listAfter ≡ written (plannedList p g space option d) list →
+        Formats n p g space option d grown list (Done a b to) grownAfter listAfter
+    fitted-done room place to-is grown-is list-is =
+        rw (fitted .1, fitted .2, to-is)
+        (format-done n p g space option d grown list (fitted .0) (rw (fitted .1) at room) (rw (fitted .2) at place) _ _
+        (grown-is ∙ ap (λ (l : List ℕ). written l grown) (planned-grown n p g space option d fitted-supplied))
+        (list-is ∙ ap (λ (l : List ℕ). written l list) (planned-list n p g space option d fitted-supplied)))

@@ -22,14 +22,14 @@ use Rattle.format.proofs.Stepping.{walks-on, onward, grown-next, listed
 -- the walk begins before everything
 pub begins : (over : Sides) (p g d : List ℕ) → Walks over p g d (record { p = 0; g = 0; d = 0; skipped = 0 })
 begins over p g d =
-    record
-      { within-p = omega arith
-      ; within-g = omega arith
-      ; within-d = omega arith
-      ; count-fits = omega arith
-      ; skipped-left = refl
-      ; known = λ h. omega arith
-      }
+    record {
+      within-p = omega arith;
+      within-g = omega arith;
+      within-d = omega arith;
+      count-fits = omega arith;
+      skipped-left = refl;
+      known = λ h. omega arith;
+    }
 
 -- what a step gives
 pub record Stepped (over takes : Sides) (p g d : List ℕ) (at : Walker) (taken : Taken) : Type 0 where
@@ -42,20 +42,21 @@ module _ (over takes : Sides) (p g d : List ℕ) (at : Walker) (ready : Ready p 
   pub stepped : at .p + at .g + at .d < length p + length g + length d → (taken : Taken) → taken ≡ stepAt over takes p g d at → Stepped over takes p g d at taken
   stepped goes taken is =
       rw is
-      (record
-        { walks = walks-on over p g d at (ready .inside-p) (ready .inside-g) (ready .inside-d) (ready .short-p) (ready .short-g) walks goes (ready .rising-d)
-        ; further = onward over p g d at (ready .inside-p) (ready .inside-g) (ready .inside-d) (ready .short-p) (ready .short-g) walks goes
-        ; grown-left = grown-next over p g d at (ready .inside-p) (ready .inside-g) (ready .inside-d) (ready .short-p) (ready .short-g) walks goes
-        ; listed-left = listed-next over p g d at (ready .inside-p) (ready .inside-g) (ready .inside-d) (ready .short-p) (ready .short-g) walks goes takes
-        })
+      (record {
+        walks = walks-on over p g d at (ready .inside-p) (ready .inside-g) (ready .inside-d) (ready .short-p) (ready .short-g) walks goes (ready .rising-d);
+        further = onward over p g d at (ready .inside-p) (ready .inside-g) (ready .inside-d) (ready .short-p) (ready .short-g) walks goes;
+        grown-left = grown-next over p g d at (ready .inside-p) (ready .inside-g) (ready .inside-d) (ready .short-p) (ready .short-g) walks goes;
+        listed-left = listed-next over p g d at (ready .inside-p) (ready .inside-g) (ready .inside-d) (ready .short-p) (ready .short-g) walks goes takes;
+      })
 
   -- nothing is left at the end
   module _ (ends : length p + length g + length d ≤ at .p + at .g + at .d) where
     pub grown-none : grownLeft over p g d at ≡ []
     grown-none =
-        rw
-        ( drop-past g (at .g) (omega (arith, walks .within-p, walks .within-g, walks .within-d))
-        , drop-past d (at .d) (omega (arith, walks .within-p, walks .within-g, walks .within-d)))
+        rw (
+          drop-past g (at .g) (omega (arith, walks .within-p, walks .within-g, walks .within-d)),
+          drop-past d (at .d) (omega (arith, walks .within-p, walks .within-g, walks .within-d)),
+        )
         (union-none [])
 
     pub listed-none : listedLeft over takes p g d at ≡ []

@@ -99,25 +99,25 @@ pub record Supplied (n : ℕ) (p g : List ℕ) (space option : ℕ) (d : List �
 
 pub tells-taken : (space option : ℕ) (d : List ℕ) → Tells (optionTaken space option d) (OptionTaken space option d)
 tells-taken space option d =
-    record
-      { holds = λ e.
+    record {
+      holds = λ e.
           let h = parts .holds e in
-          record { option-within = h .0; space-within = h .1 .0; list-taken = h .1 .1 }
-      ; told = λ t. parts .told (t .option-within, (t .space-within, t .list-taken))
-      }
+          record { option-within = h .0; space-within = h .1 .0; list-taken = h .1 .1 };
+      told = λ t. parts .told (t .option-within, (t .space-within, t .list-taken));
+    }
   where
     list-part : Tells (eqb (length d) 0 || not (eqb (meaning option) none)) (meaning option ≡ none → length d ≡ 0)
     list-part =
-        record
-          { holds = λ e is-none.
+        record {
+          holds = λ e is-none.
               byEq (length d) 0
               (λ empty. empty)
-              (λ some. absurd (true≢false (sym (rw (ne-eqb (length d) 0 some, eq-eqb (meaning option) none is-none) at e))))
-          ; told = λ h.
+              (λ some. absurd (true≢false (sym (rw (ne-eqb (length d) 0 some, eq-eqb (meaning option) none is-none) at e))));
+          told = λ h.
               byEq (length d) 0
               (λ empty. rw (eq-eqb (length d) 0 empty))
-              (λ some. rw (ne-eqb (length d) 0 some, ne-eqb (meaning option) none (λ is-none. some (h is-none))))
-          }
+              (λ some. rw (ne-eqb (length d) 0 some, ne-eqb (meaning option) none (λ is-none. some (h is-none))));
+        }
 
     parts : Tells (optionTaken space option d) ((option ≤ optionMost) × ((space ≤ spaceMost) × (meaning option ≡ none → length d ≡ 0)))
     parts = tells-both (tells-le option optionMost) (tells-both (tells-le space spaceMost) list-part)
@@ -130,14 +130,14 @@ module _ (n : ℕ) (p g : List ℕ) (space option : ℕ) (d : List ℕ) where
       let none₄ = orElse-next (listFault n g) _ none₃ in
       let none₅ = orElse-next (optionFault space option d) _ none₄ in
       let none₆ = orElse-next (refuse (ltb listMost (length (listOf space p g))) tooLong) _ none₅ in
-      record
-        { size = size-shows n (orElse-first (sizeFault n) _ none₁)
-        ; proper-p = list-shows n p (orElse-first (listFault n p) _ none₂)
-        ; proper-g = list-shows n g (orElse-first (listFault n g) _ none₃)
-        ; taken = passed-shows (tells-taken space option d) badOption (omega arith) (orElse-first (optionFault space option d) _ none₄)
-        ; used = short (orElse-first (refuse (ltb listMost (length (listOf space p g))) tooLong) _ none₅)
-        ; proper-d = list-shows (sizeOfD n p g space option) d none₆
-        }
+      record {
+        size = size-shows n (orElse-first (sizeFault n) _ none₁);
+        proper-p = list-shows n p (orElse-first (listFault n p) _ none₂);
+        proper-g = list-shows n g (orElse-first (listFault n g) _ none₃);
+        taken = passed-shows (tells-taken space option d) badOption (omega arith) (orElse-first (optionFault space option d) _ none₄);
+        used = short (orElse-first (refuse (ltb listMost (length (listOf space p g))) tooLong) _ none₅);
+        proper-d = list-shows (sizeOfD n p g space option) d none₆;
+      }
     where
       short : refuse (ltb listMost (length (listOf space p g))) tooLong ≡ 0 → length (listOf space p g) ≤ listMost
       short none =
@@ -190,27 +190,27 @@ module _ (n : ℕ) (p g : List ℕ) (space option : ℕ) (d : List ℕ) (supplie
   walked-sectors is-blocks =
       map-alike (walked (listOf space p g)) (place (isIn (listOf space p g)) n) d
       (λ i less.
-        let inside : getD d i 0 < blocks n (listOf space p g) = rw (eq-eqb (meaning option) inBlocks is-blocks) at (supplied .proper-d .inside i less) in
-        sym (walk-is-place n (listOf space p g)
-        (used-rising n p g space option d (supplied .proper-p .rising) (supplied .proper-g .rising) (supplied .proper-p .inside) (supplied .proper-g .inside) (supplied .taken .space-within))
-        (used-inside n p g space option d (supplied .proper-p .rising) (supplied .proper-g .rising) (supplied .proper-p .inside) (supplied .proper-g .inside) (supplied .taken .space-within))
-        (getD d i 0)
-        inside))
+      let inside : getD d i 0 < blocks n (listOf space p g) = rw (eq-eqb (meaning option) inBlocks is-blocks) at (supplied .proper-d .inside i less) in
+      sym (walk-is-place n (listOf space p g)
+      (used-rising n p g space option d (supplied .proper-p .rising) (supplied .proper-g .rising) (supplied .proper-p .inside) (supplied .proper-g .inside) (supplied .taken .space-within))
+      (used-inside n p g space option d (supplied .proper-p .rising) (supplied .proper-g .rising) (supplied .proper-p .inside) (supplied .proper-g .inside) (supplied .taken .space-within))
+      (getD d i 0)
+      inside))
 
   -- what the walk makes is the new grown list
   pub planned-grown : plannedGrown p g space option d ≡ newGrown n p g space option d
   planned-grown =
       byKind option (supplied .taken .option-within)
       (λ is-none keeps.
-        rw (is-none, keeps, no-list is-none) (union-nothing g))
+      rw (is-none, keeps, no-list is-none) (union-nothing g))
       (λ is-blocks adds.
-        rw (is-blocks, adds, sides-list space (supplied .taken .space-within) p g) (ap (union g) (walked-sectors is-blocks)))
+      rw (is-blocks, adds, sides-list space (supplied .taken .space-within) p g) (ap (union g) (walked-sectors is-blocks)))
       (λ is-none clears.
-        rw (is-none, clears, no-list is-none) (union-none []))
+      rw (is-none, clears, no-list is-none) (union-none []))
       (λ is-sectors replaces.
-        rw (is-sectors, replaces)
-        (union-none (map (walked (union [] [])) d)
-        ∙ map-same (walked (union [] [])) d (λ i less. rw (union-none [], passes-nil (getD d i 0)) (add-zero (getD d i 0)))))
+      rw (is-sectors, replaces)
+      (union-none (map (walked (union [] [])) d)
+      ∙ map-same (walked (union [] [])) d (λ i less. rw (union-none [], passes-nil (getD d i 0)) (add-zero (getD d i 0)))))
 
   pub planned-list : plannedList p g space option d ≡ newList n p g space option d
   planned-list =
@@ -220,15 +220,15 @@ module _ (n : ℕ) (p g : List ℕ) (space option : ℕ) (d : List ℕ) (supplie
   -- the walk may go along what is supplied
   pub supplied-ready : Ready p g d
   supplied-ready =
-      record
-        { inside-p = λ i h. omega (arith, supplied .proper-p .inside i h, supplied .size .1)
-        ; inside-g = λ i h. omega (arith, supplied .proper-g .inside i h, supplied .size .1)
-        ; inside-d = λ i h. omega (arith, supplied .proper-d .inside i h, d-fits, supplied .size .1)
-        ; short-p = supplied .proper-p .short
-        ; short-g = supplied .proper-g .short
-        ; short-d = supplied .proper-d .short
-        ; rising-d = supplied .proper-d .rising
-        }
+      record {
+        inside-p = λ i h. omega (arith, supplied .proper-p .inside i h, supplied .size .1);
+        inside-g = λ i h. omega (arith, supplied .proper-g .inside i h, supplied .size .1);
+        inside-d = λ i h. omega (arith, supplied .proper-d .inside i h, d-fits, supplied .size .1);
+        short-p = supplied .proper-p .short;
+        short-g = supplied .proper-g .short;
+        short-d = supplied .proper-d .short;
+        rising-d = supplied .proper-d .rising;
+      }
     where
       d-fits : sizeOfD n p g space option ≤ n
       d-fits = byBool (eqb (meaning option) inBlocks) (λ e. rw e (omega arith)) (λ e. rw e (omega arith))
@@ -239,13 +239,13 @@ kept-ready option p g d ready =
     byBool (keepsGrown option)
     (λ e. rw e ready)
     (λ e.
-      rw e
-      (record
-        { inside-p = ready .inside-p
-        ; inside-g = λ i h. absurd (omega arith)
-        ; inside-d = ready .inside-d
-        ; short-p = ready .short-p
-        ; short-g = omega arith
-        ; short-d = ready .short-d
-        ; rising-d = ready .rising-d
-        }))
+    rw e
+    (record {
+      inside-p = ready .inside-p;
+      inside-g = λ i h. absurd (omega arith);
+      inside-d = ready .inside-d;
+      short-p = ready .short-p;
+      short-g = omega arith;
+      short-d = ready .short-d;
+      rising-d = ready .rising-d;
+    }))

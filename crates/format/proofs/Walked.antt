@@ -65,9 +65,9 @@ module _ (a : List ℕ) (i : ℕ) where
     left-off =
         byLt i (length a)
         (λ less.
-          byEq (getD a i 0) x
-          (λ here. rw (head-in less, drop-next a i less, eq-eqb (getD a i 0) x here))
-          (λ other. rw (head-in less, drop-next a i less, ne-eqb (getD a i 0) x other) (sym (rw (add-zero i) (drop-next a i less)))))
+        byEq (getD a i 0) x
+        (λ here. rw (head-in less, drop-next a i less, eq-eqb (getD a i 0) x here))
+        (λ other. rw (head-in less, drop-next a i less, ne-eqb (getD a i 0) x other) (sym (rw (add-zero i) (drop-next a i less)))))
         (λ past. rw (head-past past, drop-past a i past, ne-eqb ended x (λ e. omega arith), add-zero i) (sym (drop-past a i past)))
 
 -- the parts of a step, computed one by one, are the step
@@ -81,12 +81,12 @@ pub step-is :
     lp ≡ (takes .p && eqb hp e) → lg ≡ (takes .g && gr) → li ≡ (lp || lg) →
     cp ≡ one (eqb hp e) → cg ≡ one (eqb hg e) → cd ≡ one fd → cs ≡ one s →
     _≡_ {A = Taken}
-    (record
-      { entry = e
-      ; grown = gr
-      ; listed = li
-      ; next = record { p = at .p + cp; g = at .g + cg; d = at .d + cd; skipped = at .skipped + cs }
-      })
+    (record {
+      entry = e;
+      grown = gr;
+      listed = li;
+      next = record { p = at .p + cp; g = at .g + cg; d = at .d + cd; skipped = at .skipped + cs };
+    })
     (stepAt over takes p g d at)
 step-is over takes p g d at hp hg hd m e sp sg s fd gr lp lg li cp cg cd cs =
     rw (cs, cd, cg, cp, li, lg, lp, gr, fd, s, sg, sp, e, m, hd, hg, hp)

@@ -32,9 +32,11 @@ pub record Formats (n : ℕ) (p g : List ℕ) (space option : ℕ) (d grown list
   pub answers : result ≡ formatted n p g space option d grown list
   pub says :
       saidFormatted result
-      ≡ ( formatFault n p g space option d grown list
-        , given (formatFault n p g space option d grown list) (length (newGrown n p g space option d))
-        , given (formatFault n p g space option d grown list) (length (newList n p g space option d))
-        , given (formatFault n p g space option d grown list) (newSpace space option))
+      ≡ (
+        formatFault n p g space option d grown list,
+        given (formatFault n p g space option d grown list) (length (newGrown n p g space option d)),
+        given (formatFault n p g space option d grown list) (length (newList n p g space option d)),
+        given (formatFault n p g space option d grown list) (newSpace space option),
+      )
   pub grown-holds : grownAfter ≡ answer (formatFault n p g space option d grown list) (λ fault. grown) (written (newGrown n p g space option d) grown)
   pub list-holds : listAfter ≡ answer (formatFault n p g space option d grown list) (λ fault. list) (written (newList n p g space option d) list)

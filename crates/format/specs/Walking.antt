@@ -51,12 +51,12 @@ fromD over p g d at = eqb (mappedAt d (at .d) (at .skipped)) (entryAt p g d at) 
 
 abbrev pub nextAt : Sides → List ℕ → List ℕ → List ℕ → Walker → Walker
 nextAt over p g d at =
-    record
-      { p = at .p + one (fromP p g d at)
-      ; g = at .g + one (fromG p g d at)
-      ; d = at .d + one (fromD over p g d at)
-      ; skipped = at .skipped + one (isSkipped over p g d at)
-      }
+    record {
+      p = at .p + one (fromP p g d at);
+      g = at .g + one (fromG p g d at);
+      d = at .d + one (fromD over p g d at);
+      skipped = at .skipped + one (isSkipped over p g d at);
+    }
 
 abbrev pub inGrown : Sides → List ℕ → List ℕ → List ℕ → Walker → Bool
 inGrown over p g d at = fromG p g d at || fromD over p g d at
@@ -64,12 +64,12 @@ inGrown over p g d at = fromG p g d at || fromD over p g d at
 -- the step: the grown list takes what stands in G and where a block of D lies, the new list what the sides that it takes have
 abbrev pub stepAt : Sides → Sides → List ℕ → List ℕ → List ℕ → Walker → Taken
 stepAt over takes p g d at =
-    record
-      { entry = entryAt p g d at
-      ; grown = inGrown over p g d at
-      ; listed = (takes .p && fromP p g d at) || (takes .g && inGrown over p g d at)
-      ; next = nextAt over p g d at
-      }
+    record {
+      entry = entryAt p g d at;
+      grown = inGrown over p g d at;
+      listed = (takes .p && fromP p g d at) || (takes .g && inGrown over p g d at);
+      next = nextAt over p g d at;
+    }
 
 -- the list that D is mapped over
 abbrev pub mappedOver : Sides → List ℕ → List ℕ → List ℕ

@@ -14,8 +14,10 @@ ghost use Rattle.format.specs.Spaces.{listOf, newSpace, optionFault, sup
 ghost use Rattle.format.specs.Walking.{ended, headAt, mappedAt, least, one, stepAt, Ready, Walks, grownOf, listedOf};
 ghost use Rattle.format.specs.Plans.{sidesOf, overOf, takesOf, keptOf, plannedGrown, plannedList};
 ghost use Rattle.format.specs.Promises.{planned, Formats};
-
-use paper::{BAD_OPTION, LIST_MOST, NO_ROOM, TOO_LONG};
+use paper::BAD_OPTION;
+use paper::LIST_MOST;
+use paper::NO_ROOM;
+use paper::TOO_LONG;
 
 // What stands where a list has ended.
 const ENDED: u32 = 4_294_967_295;
@@ -231,12 +233,19 @@ const ROWS: [[u8; 3]; 8] = [
     [0, 2, 0],
     [2, 3, 2],
 ];
+
 const NONE: u32 = 0;
+
 const IN_BLOCKS: u32 = 1;
+
 const KEEP: u32 = 0;
+
 const ADD: u32 = 1;
+
 const AS_BEFORE: u32 = 4;
+
 const OPTION_MOST: u32 = 7;
+
 const SPACE_MOST: u32 = 3;
 
 // The rows of the code are those of the definitions.
@@ -256,8 +265,7 @@ fn names_agree()
     ensures { λ r. do ⌜ (← ⟦OPTION_MOST⟧ .entry) ≡ optionMost ⌝ }
     ensures { λ r. do ⌜ (← ⟦SPACE_MOST⟧ .entry) ≡ spaceMost ⌝ }
     ensures { λ r. do ⌜ (← ⟦ENDED⟧ .entry) ≡ ended ⌝ }
-{
-}
+{}
 
 fn wide(x: u8) -> u32
     ensures { λ r. ⌜ r ≡ x ⌝ }

@@ -62,9 +62,9 @@ union-least x (y ∷ l) (z ∷ r) left right =
     byLt y z
     (λ less. rw (union-less y l z r less) left)
     (λ more.
-      byEq y z
-      (λ same. rw (union-same y l z r same) left)
-      (λ other. rw (union-more y l z r (omega arith)) right))
+    byEq y z
+    (λ same. rw (union-same y l z r same) left)
+    (λ other. rw (union-more y l z r (omega arith)) right))
 
 pub union-starts : (x : ℕ) (l r : List ℕ) → Least x l → Least x r → starts x (union l r) ≡ (starts x l || starts x r)
 union-starts x [] r left right = rw (union-none r)
@@ -73,9 +73,9 @@ union-starts x (y ∷ l) (z ∷ r) left right =
     byLt y z
     (λ less. rw (union-less y l z r less, ne-eqb z x (λ e. omega arith)) (sym (or-false (eqb y x))))
     (λ more.
-      byEq y z
-      (λ same. rw (union-same y l z r same, ← same) (or-twice (eqb y x)))
-      (λ other. rw (union-more y l z r (omega arith), ne-eqb y x (λ e. omega arith))))
+    byEq y z
+    (λ same. rw (union-same y l z r same, ← same) (or-twice (eqb y x)))
+    (λ other. rw (union-more y l z r (omega arith), ne-eqb y x (λ e. omega arith))))
   where
     or-twice : (t : Bool) → t ≡ (t || t)
     or-twice true = refl
@@ -87,17 +87,17 @@ union-off x (y ∷ l) [] left right = rw (union-nothing (y ∷ l)) (sym (union-n
 union-off x (y ∷ l) (z ∷ r) left right =
     byEq y x
     (λ here.
-      byEq z x
-      (λ there. rw (union-same y l z r (omega arith), eq-eqb y x here, eq-eqb z x there))
-      (λ other. rw (union-less y l z r (omega arith), eq-eqb y x here, ne-eqb z x other)))
+    byEq z x
+    (λ there. rw (union-same y l z r (omega arith), eq-eqb y x here, eq-eqb z x there))
+    (λ other. rw (union-less y l z r (omega arith), eq-eqb y x here, ne-eqb z x other)))
     (λ above.
-      byEq z x
-      (λ there. rw (union-more y l z r (omega arith), ne-eqb y x above, eq-eqb z x there))
-      (λ other.
-        rw (ne-eqb y x above, ne-eqb z x other)
-        (byLt y z
-        (λ less. rw (union-less y l z r less, ne-eqb y x above))
-        (λ more.
-          byEq y z
-          (λ same. rw (union-same y l z r same, ne-eqb y x above))
-          (λ apart. rw (union-more y l z r (omega arith), ne-eqb z x other))))))
+    byEq z x
+    (λ there. rw (union-more y l z r (omega arith), ne-eqb y x above, eq-eqb z x there))
+    (λ other.
+    rw (ne-eqb y x above, ne-eqb z x other)
+    (byLt y z
+    (λ less. rw (union-less y l z r less, ne-eqb y x above))
+    (λ more.
+    byEq y z
+    (λ same. rw (union-same y l z r same, ne-eqb y x above))
+    (λ apart. rw (union-more y l z r (omega arith), ne-eqb z x other))))))

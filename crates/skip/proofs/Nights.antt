@@ -2,7 +2,7 @@
 -- Assumes nothing.
 use Prim.Native.Nat.{ℕ, zero, suc, _+_, _-_, _<_, _≤_}
 use mathlib.Core.Path.{_≡_, refl, sym, _∙_, ap}
-use mathlib.Core.Bool.{Bool, true, false, _||_, true≢false}
+use mathlib.Core.Bool.{Bool, true, false, not, _&&_, _||_, true≢false}
 use mathlib.Core.List.{List, [], _∷_, map}
 use native.Mathlib.Omega.{arith}
 use lib.ListN.{length, getD, length-map}
@@ -59,6 +59,13 @@ module _ (n : ℕ) (a : List ℕ) (rising-a : Rising a) (inside-a : Inside n a) 
       let count : goodsBefore (isIn a) s ≡ getD d (stands .place) 0 = rw here at (block-lies (stands .place) less .before) in
       rw count (entry-in d (stands .place) less)
 
+  member-good : (s : ℕ) → isIn (sectorsOf n a d) s ≡ true → isIn a s ≡ false
+  member-good s e =
+      let stands : Stands (sectorsOf n a d) s = member-stands (sectorsOf n a d) s e in
+      let less : stands .place < length d = omega (arith, stands .below, sectors-length) in
+      let here : place (isIn a) n (getD d (stands .place) 0) ≡ s = sym (getD-map (place (isIn a) n) d (stands .place) less) ∙ stands .is in
+      rw here at (block-lies (stands .place) less .good)
+
   named-sector : (s : ℕ) → isIn a s ≡ false → isIn d (goodsBefore (isIn a) s) ≡ true → isIn (sectorsOf n a d) s ≡ true
   named-sector s good e =
       let stands : Stands d (goodsBefore (isIn a) s) = member-stands d (goodsBefore (isIn a) s) e in
@@ -70,12 +77,13 @@ module _ (n : ℕ) (a : List ℕ) (rising-a : Rising a) (inside-a : Inside n a) 
       getD-map (place (isIn a) n) d (stands .place) (stands .below) ∙ (ap (place (isIn a) n) (stands .is) ∙ named-place (isIn a) n s inside good) in
       rw here at (entry-in (sectorsOf n a d) (stands .place) (omega (arith, stands .below, sectors-length)))
 
-  -- the union of the list and the sectors of the named blocks is the list of the night
-  pub in-night : (s : ℕ) → isIn (union a (sectorsOf n a d)) s ≡ after (isIn a) (isIn d) s
-  in-night s =
-      in-union a (sectorsOf n a d) s
-      ∙ byBool (isIn a s)
-      (λ isBad. rw isBad)
+  -- a sector is that of a named block exactly where it is good and names one
+  pub in-sectors : (s : ℕ) → isIn (sectorsOf n a d) s ≡ (not (isIn a s) && isIn d (goodsBefore (isIn a) s))
+  in-sectors s =
+      byBool (isIn a s)
+      (λ isBad.
+      rw isBad
+      (byBool (isIn (sectorsOf n a d) s) (λ member. absurd (true≢false (sym isBad ∙ member-good s member))) (λ clear. clear)))
       (λ good.
       rw good
       (byBool (isIn d (goodsBefore (isIn a) s))
@@ -84,6 +92,14 @@ module _ (n : ℕ) (a : List ℕ) (rising-a : Rising a) (inside-a : Inside n a) 
       byBool (isIn (sectorsOf n a d) s)
       (λ member. absurd (true≢false (sym (sector-named s member) ∙ unnamed)))
       (λ clear. clear ∙ sym unnamed))))
+
+  -- the union of the list and the sectors of the named blocks is the list of the night
+  pub in-night : (s : ℕ) → isIn (union a (sectorsOf n a d)) s ≡ after (isIn a) (isIn d) s
+  in-night s = in-union a (sectorsOf n a d) s ∙ (ap (λ (t : Bool). isIn a s || t) (in-sectors s) ∙ joins (isIn a s) (isIn d (goodsBefore (isIn a) s)))
+    where
+      joins : (t u : Bool) → (t || (not t && u)) ≡ (t || u)
+      joins true u = refl
+      joins false u = refl
 
   pub rising-night : Rising (union a (sectorsOf n a d))
   rising-night = rising-union a (sectorsOf n a d) rising-a rising-sectors
@@ -146,3 +162,32 @@ module _
         (rising-night n (union a (sectorsOf n a d)) (rising-night n a rising-a inside-a d rising-d inside-d) (inside-night n a rising-a inside-a d rising-d inside-d) e rising-e inside-e)
         (rising-night n a rising-a inside-a (union d (sectorsOf (blocks n a) d e)) joined-rising joined-inside)
         two-in-one
+
+    -- the sectors of the joined list are those of both nights
+    pub joined-sectors :
+        sectorsOf n a (union d (sectorsOf (blocks n a) d e)) ≡ union (sectorsOf n a d) (sectorsOf n (union a (sectorsOf n a d)) e)
+    joined-sectors =
+        same-members _ _
+        (rising-sectors n a rising-a inside-a (union d (sectorsOf (blocks n a) d e)) joined-rising joined-inside)
+        (rising-union (sectorsOf n a d) (sectorsOf n (union a (sectorsOf n a d)) e)
+        (rising-sectors n a rising-a inside-a d rising-d inside-d)
+        (rising-sectors n (union a (sectorsOf n a d)) (rising-night n a rising-a inside-a d rising-d inside-d) (inside-night n a rising-a inside-a d rising-d inside-d) e rising-e inside-e))
+        (λ s.
+        in-sectors n a rising-a inside-a (union d (sectorsOf (blocks n a) d e)) joined-rising joined-inside s
+        ∙ (ap (λ (t : Bool). not (isIn a s) && t) (in-night (blocks n a) d rising-d inside-d e rising-e stays (goodsBefore (isIn a) s))
+        ∙ (splits (isIn a s) (isIn d (goodsBefore (isIn a) s)) (isIn e (goodsBefore (isIn d) (goodsBefore (isIn a) s)))
+        ∙ sym (in-union (sectorsOf n a d) (sectorsOf n (union a (sectorsOf n a d)) e) s
+        ∙ (ap (λ (t : Bool). t || isIn (sectorsOf n (union a (sectorsOf n a d)) e) s) (in-sectors n a rising-a inside-a d rising-d inside-d s)
+        ∙ ap (λ (t : Bool). (not (isIn a s) && isIn d (goodsBefore (isIn a) s)) || t) (second s))))))
+      where
+        splits : (t u v : Bool) → (not t && (u || v)) ≡ ((not t && u) || (not (t || u) && v))
+        splits true u v = refl
+        splits false true v = refl
+        splits false false v = refl
+
+        second : (s : ℕ) → isIn (sectorsOf n (union a (sectorsOf n a d)) e) s ≡ (not (isIn a s || isIn d (goodsBefore (isIn a) s)) && isIn e (goodsBefore (isIn d) (goodsBefore (isIn a) s)))
+        second s =
+            in-sectors n (union a (sectorsOf n a d)) (rising-night n a rising-a inside-a d rising-d inside-d) (inside-night n a rising-a inside-a d rising-d inside-d) e rising-e inside-e s
+            ∙ (ap (λ (t : Bool). not t && isIn e (goodsBefore (isIn (union a (sectorsOf n a d))) s)) (in-night n a rising-a inside-a d rising-d inside-d s)
+            ∙ ap (λ (k : ℕ). not (isIn a s || isIn d (goodsBefore (isIn a) s)) && isIn e k)
+            (goods-alike (isIn (union a (sectorsOf n a d))) (after (isIn a) (isIn d)) s (λ t h. in-night n a rising-a inside-a d rising-d inside-d t) ∙ goods-after (isIn a) (isIn d) s))

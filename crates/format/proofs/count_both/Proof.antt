@@ -56,17 +56,19 @@ loop-less c = let on : Stepped (c .before .before .before .before .before .befor
 
 loop-again : tie.Need-loop-again Inv-loop μ-loop
 loop-again c =
-    let on : Stepped (c .before .before .before .before .before .before .before .before .before .before .before .args .over) (c .before .before .before .before .before .before .before .before .before .before .before .args .takes) (now (c .before .before .before .before .before .before .before .before .before .before .before .args .p)) (now (c .before .before .before .before .before .before .before .before .before .before .before .args .g)) (now (c .before .before .before .before .before .before .before .before .before .before .before .args .d)) (c .before .before .before .before .before .before .before .loop .at) (c .before .before .before .step .result) = stepped (c .before .before .before .before .before .before .before .before .before .before .before .args .over) (c .before .before .before .before .before .before .before .before .before .before .before .args .takes) (now (c .before .before .before .before .before .before .before .before .before .before .before .args .p)) (now (c .before .before .before .before .before .before .before .before .before .before .before .args .g)) (now (c .before .before .before .before .before .before .before .before .before .before .before .args .d)) (c .before .before .before .before .before .before .before .loop .at) (c .before .before .before .before .before .before .before .before .before .before .before .pre) (c .before .before .before .before .before .before .before .loop .inv .0) (c .before .before .before .before .if1 .taken) (c .before .before .before .step .result) (c .before .before .before .step .ensures) in
-    ( on .walks
-    , omega (arith, on .further, c .before .before .before .before .before .before .before .loop .inv .1, c .before .before .count-of .ensures .1)
-    , omega (arith, on .further, c .before .before .before .before .before .before .before .loop .inv .2, c .before .count-of2 .ensures .1)
-    , omega (arith, c .before .before .before .before .before .before .before .loop .inv .3, c .before .before .count-of .ensures .0, grown-counts on)
-    , omega (arith, c .before .before .before .before .before .before .before .loop .inv .4, c .before .count-of2 .ensures .0, listed-counts on))
+    let on : Stepped (c .before .before .before .before .before .before .before .before .before .before .before .args .over) (c .before .before .before .before .before .before .before .before .before .before .before .args .takes) (now (c .before .before .before .before .before .before .before .before .before .before .before .args .p)) (now (c .before .before .before .before .before .before .before .before .before .before .before .args .g)) (now (c .before .before .before .before .before .before .before .before .before .before .before .args .d)) (c .before .before .before .before .before .before .before .loop .at) (c .before .before .before .step .result) = stepped (c .before .before .before .before .before .before .before .before .before .before .before .args .over) (c .before .before .before .before .before .before .before .before .before .before .before .args .takes) (now (c .before .before .before .before .before .before .before .before .before .before .before .args .p)) (now (c .before .before .before .before .before .before .before .before .before .before .before .args .g)) (now (c .before .before .before .before .before .before .before .before .before .before .before .args .d)) (c .before .before .before .before .before .before .before .loop .at) (c .before .before .before .before .before .before .before .before .before .before .before .pre) (c .before .before .before .before .before .before .before .loop .inv .0) (c .before .before .before .before .if1 .taken) (c .before .before .before .step .result) (c .before .before .before .step .ensures) in (
+      on .walks,
+      omega (arith, on .further, c .before .before .before .before .before .before .before .loop .inv .1, c .before .before .count-of .ensures .1),
+      omega (arith, on .further, c .before .before .before .before .before .before .before .loop .inv .2, c .before .count-of2 .ensures .1),
+      omega (arith, c .before .before .before .before .before .before .before .loop .inv .3, c .before .before .count-of .ensures .0, grown-counts on),
+      omega (arith, c .before .before .before .before .before .before .before .loop .inv .4, c .before .count-of2 .ensures .0, listed-counts on),
+    )
 
 returns : tie.Need-returns Inv-loop μ-loop
-returns c =
-    ( omega (arith, c .before .before .before .loop .inv .3, ap length (grown-none (c .before .before .before .before .before .before .before .args .over) (c .before .before .before .before .before .before .before .args .takes) (now (c .before .before .before .before .before .before .before .args .p)) (now (c .before .before .before .before .before .before .before .args .g)) (now (c .before .before .before .before .before .before .before .args .d)) (c .before .before .before .loop .at) (c .before .before .before .before .before .before .before .pre) (c .before .before .before .loop .inv .0) (c .if1 .left)))
-    , omega (arith, c .before .before .before .loop .inv .4, ap length (listed-none (c .before .before .before .before .before .before .before .args .over) (c .before .before .before .before .before .before .before .args .takes) (now (c .before .before .before .before .before .before .before .args .p)) (now (c .before .before .before .before .before .before .before .args .g)) (now (c .before .before .before .before .before .before .before .args .d)) (c .before .before .before .loop .at) (c .before .before .before .before .before .before .before .pre) (c .before .before .before .loop .inv .0) (c .if1 .left))))
+returns c = (
+  omega (arith, c .before .before .before .loop .inv .3, ap length (grown-none (c .before .before .before .before .before .before .before .args .over) (c .before .before .before .before .before .before .before .args .takes) (now (c .before .before .before .before .before .before .before .args .p)) (now (c .before .before .before .before .before .before .before .args .g)) (now (c .before .before .before .before .before .before .before .args .d)) (c .before .before .before .loop .at) (c .before .before .before .before .before .before .before .pre) (c .before .before .before .loop .inv .0) (c .if1 .left))),
+  omega (arith, c .before .before .before .loop .inv .4, ap length (listed-none (c .before .before .before .before .before .before .before .args .over) (c .before .before .before .before .before .before .before .args .takes) (now (c .before .before .before .before .before .before .before .args .p)) (now (c .before .before .before .before .before .before .before .args .g)) (now (c .before .before .before .before .before .before .before .args .d)) (c .before .before .before .loop .at) (c .before .before .before .before .before .before .before .pre) (c .before .before .before .loop .inv .0) (c .if1 .left))),
+)
 
 pub count-both-spec : {M : Type 1} → statement M
 count-both-spec =

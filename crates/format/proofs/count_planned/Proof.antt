@@ -23,9 +23,10 @@ count-both-requires : tie.Need-count-both-requires
 count-both-requires c κs = rw (c .before .before .before .kept-of .ensures) (kept-ready (c .before .before .before .before .before .before .before .args .option) (now (c .before .before .before .before .before .before .before .args .p)) (now (c .before .before .before .before .before .before .before .args .g)) (now (c .before .before .before .before .before .before .before .args .d)) (c .before .before .before .before .before .before .before .pre .1))
 
 returns : tie.Need-returns
-returns c = 
-    ( c .count-both .ensures .0 ∙ rw (c .before .before .before .over-of .ensures, c .before .before .before .before .kept-of .ensures)
-    , c .count-both .ensures .1 ∙ rw (c .before .before .before .over-of .ensures, c .before .before .before .before .kept-of .ensures, c .before .sides-of .ensures, c .before .before .new-space .ensures))
+returns c = (
+  c .count-both .ensures .0 ∙ rw (c .before .before .before .over-of .ensures, c .before .before .before .before .kept-of .ensures),
+  c .count-both .ensures .1 ∙ rw (c .before .before .before .over-of .ensures, c .before .before .before .before .kept-of .ensures, c .before .sides-of .ensures, c .before .before .new-space .ensures),
+)
 
 pub count-planned-spec : {M : Type 1} → statement M
 count-planned-spec =

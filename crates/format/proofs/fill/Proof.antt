@@ -56,10 +56,11 @@ loop-less c =
 
 loop-again : tie.Need-loop-again Inv-loop μ-loop
 loop-again c =
-    let on : Stepped (c .before .before .before .before .before .before .before .before .before .before .before .before .before .before .before .before .before .before .before .args .over) (c .before .before .before .before .before .before .before .before .before .before .before .before .before .before .before .before .before .before .before .args .takes) (now (c .before .before .before .before .before .before .before .before .before .before .before .before .before .before .before .before .before .before .before .args .p)) (now (c .before .before .before .before .before .before .before .before .before .before .before .before .before .before .before .before .before .before .before .args .g)) (now (c .before .before .before .before .before .before .before .before .before .before .before .before .before .before .before .before .before .before .before .args .d)) (c .before .before .before .before .before .before .before .before .before .before .before .before .before .loop .at) (c .before .before .before .before .before .before .before .before .before .step .result) = stepped (c .before .before .before .before .before .before .before .before .before .before .before .before .before .before .before .before .before .before .before .args .over) (c .before .before .before .before .before .before .before .before .before .before .before .before .before .before .before .before .before .before .before .args .takes) (now (c .before .before .before .before .before .before .before .before .before .before .before .before .before .before .before .before .before .before .before .args .p)) (now (c .before .before .before .before .before .before .before .before .before .before .before .before .before .before .before .before .before .before .before .args .g)) (now (c .before .before .before .before .before .before .before .before .before .before .before .before .before .before .before .before .before .before .before .args .d)) (c .before .before .before .before .before .before .before .before .before .before .before .before .before .loop .at) (c .before .before .before .before .before .before .before .before .before .before .before .before .before .before .before .before .before .before .before .pre .0) (c .before .before .before .before .before .before .before .before .before .before .before .before .before .loop .inv .0) (c .before .before .before .before .before .before .before .before .before .before .if1 .taken) (c .before .before .before .before .before .before .before .before .before .step .result) (c .before .before .before .before .before .before .before .before .before .step .ensures) in
-    ( on .walks
-    , rw (c .before .before .before .before .before .before .before .put .ensures .1, c .before .before .before .before .before .before .before .put .ensures .0) (filled-pick (c .before .before .before .before .before .before .before .before .before .step .result .grown) (c .before .before .before .before .before .before .before .before .before .step .result .entry) _ (on .grown-left) (c .before .before .before .before .before .before .before .before .before .before .before .before .before .loop .inv .1))
-    , rw (c .before .before .before .put2 .ensures .1, c .before .before .before .put2 .ensures .0) (filled-pick (c .before .before .before .before .before .before .before .before .before .step .result .listed) (c .before .before .before .before .before .before .before .before .before .step .result .entry) _ (on .listed-left) (c .before .before .before .before .before .before .before .before .before .before .before .before .before .loop .inv .2)))
+    let on : Stepped (c .before .before .before .before .before .before .before .before .before .before .before .before .before .before .before .before .before .before .before .args .over) (c .before .before .before .before .before .before .before .before .before .before .before .before .before .before .before .before .before .before .before .args .takes) (now (c .before .before .before .before .before .before .before .before .before .before .before .before .before .before .before .before .before .before .before .args .p)) (now (c .before .before .before .before .before .before .before .before .before .before .before .before .before .before .before .before .before .before .before .args .g)) (now (c .before .before .before .before .before .before .before .before .before .before .before .before .before .before .before .before .before .before .before .args .d)) (c .before .before .before .before .before .before .before .before .before .before .before .before .before .loop .at) (c .before .before .before .before .before .before .before .before .before .step .result) = stepped (c .before .before .before .before .before .before .before .before .before .before .before .before .before .before .before .before .before .before .before .args .over) (c .before .before .before .before .before .before .before .before .before .before .before .before .before .before .before .before .before .before .before .args .takes) (now (c .before .before .before .before .before .before .before .before .before .before .before .before .before .before .before .before .before .before .before .args .p)) (now (c .before .before .before .before .before .before .before .before .before .before .before .before .before .before .before .before .before .before .before .args .g)) (now (c .before .before .before .before .before .before .before .before .before .before .before .before .before .before .before .before .before .before .before .args .d)) (c .before .before .before .before .before .before .before .before .before .before .before .before .before .loop .at) (c .before .before .before .before .before .before .before .before .before .before .before .before .before .before .before .before .before .before .before .pre .0) (c .before .before .before .before .before .before .before .before .before .before .before .before .before .loop .inv .0) (c .before .before .before .before .before .before .before .before .before .before .if1 .taken) (c .before .before .before .before .before .before .before .before .before .step .result) (c .before .before .before .before .before .before .before .before .before .step .ensures) in (
+      on .walks,
+      rw (c .before .before .before .before .before .before .before .put .ensures .1, c .before .before .before .before .before .before .before .put .ensures .0) (filled-pick (c .before .before .before .before .before .before .before .before .before .step .result .grown) (c .before .before .before .before .before .before .before .before .before .step .result .entry) _ (on .grown-left) (c .before .before .before .before .before .before .before .before .before .before .before .before .before .loop .inv .1)),
+      rw (c .before .before .before .put2 .ensures .1, c .before .before .before .put2 .ensures .0) (filled-pick (c .before .before .before .before .before .before .before .before .before .step .result .listed) (c .before .before .before .before .before .before .before .before .before .step .result .entry) _ (on .listed-left) (c .before .before .before .before .before .before .before .before .before .before .before .before .before .loop .inv .2)),
+    )
 
 same-length : tie.Need-same-length Inv-loop μ-loop
 same-length c = c .before .before .before .loop .inv .1 .same-length
@@ -68,9 +69,10 @@ same-length-2 : tie.Need-same-length-2 Inv-loop μ-loop
 same-length-2 c = c .before .before .before .loop .inv .2 .same-length
 
 returns : tie.Need-returns Inv-loop μ-loop
-returns c =
-    ( filled-all (grown-none (c .before .before .before .before .before .before .before .before .before .args .over) (c .before .before .before .before .before .before .before .before .before .args .takes) (now (c .before .before .before .before .before .before .before .before .before .args .p)) (now (c .before .before .before .before .before .before .before .before .before .args .g)) (now (c .before .before .before .before .before .before .before .before .before .args .d)) (c .before .before .before .loop .at) (c .before .before .before .before .before .before .before .before .before .pre .0) (c .before .before .before .loop .inv .0) (c .if1 .left)) (c .before .before .before .loop .inv .1)
-    , filled-all (listed-none (c .before .before .before .before .before .before .before .before .before .args .over) (c .before .before .before .before .before .before .before .before .before .args .takes) (now (c .before .before .before .before .before .before .before .before .before .args .p)) (now (c .before .before .before .before .before .before .before .before .before .args .g)) (now (c .before .before .before .before .before .before .before .before .before .args .d)) (c .before .before .before .loop .at) (c .before .before .before .before .before .before .before .before .before .pre .0) (c .before .before .before .loop .inv .0) (c .if1 .left)) (c .before .before .before .loop .inv .2))
+returns c = (
+  filled-all (grown-none (c .before .before .before .before .before .before .before .before .before .args .over) (c .before .before .before .before .before .before .before .before .before .args .takes) (now (c .before .before .before .before .before .before .before .before .before .args .p)) (now (c .before .before .before .before .before .before .before .before .before .args .g)) (now (c .before .before .before .before .before .before .before .before .before .args .d)) (c .before .before .before .loop .at) (c .before .before .before .before .before .before .before .before .before .pre .0) (c .before .before .before .loop .inv .0) (c .if1 .left)) (c .before .before .before .loop .inv .1),
+  filled-all (listed-none (c .before .before .before .before .before .before .before .before .before .args .over) (c .before .before .before .before .before .before .before .before .before .args .takes) (now (c .before .before .before .before .before .before .before .before .before .args .p)) (now (c .before .before .before .before .before .before .before .before .before .args .g)) (now (c .before .before .before .before .before .before .before .before .before .args .d)) (c .before .before .before .loop .at) (c .before .before .before .before .before .before .before .before .before .pre .0) (c .before .before .before .loop .inv .0) (c .if1 .left)) (c .before .before .before .loop .inv .2),
+)
 
 pub fill-spec : {M : Type 1} → statement M
 fill-spec =

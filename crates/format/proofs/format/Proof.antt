@@ -28,10 +28,13 @@ returns-3 : tie.Need-returns-3
 returns-3 c = fitted-no-list (c .before .before .before .before .before .before .before .before .before .before .before .args .n) (now (c .before .before .before .before .before .before .before .before .before .before .before .args .p)) (now (c .before .before .before .before .before .before .before .before .before .before .before .args .g)) (c .before .before .before .before .before .before .before .before .before .before .before .args .space) (c .before .before .before .before .before .before .before .before .before .before .before .args .option) (now (c .before .before .before .before .before .before .before .before .before .before .before .args .d)) (now (c .before .before .before .before .before .before .before .before .before .before .before .args .grown)) (now (c .before .before .before .before .before .before .before .before .before .before .before .args .list)) (sym (c .before .before .before .before .before .plan .ensures) ∙ c .before .before .before .planned2 .given .1) (c .before .if1 .left) (c .if2 .taken)
 
 fill-planned-requires : tie.Need-fill-planned-requires
-fill-planned-requires c κs = 
-    ( fitted-supplied (c .before .before .before .before .before .before .before .before .before .before .before .before .before .args .n) (now (c .before .before .before .before .before .before .before .before .before .before .before .before .before .args .p)) (now (c .before .before .before .before .before .before .before .before .before .before .before .before .before .args .g)) (c .before .before .before .before .before .before .before .before .before .before .before .before .before .args .space) (c .before .before .before .before .before .before .before .before .before .before .before .before .before .args .option) (now (c .before .before .before .before .before .before .before .before .before .before .before .before .before .args .d)) (now (c .before .before .before .before .before .before .before .before .before .before .before .before .before .args .grown)) (now (c .before .before .before .before .before .before .before .before .before .before .before .before .before .args .list)) (sym (c .before .before .before .before .before .before .before .plan .ensures) ∙ c .before .before .before .before .before .planned2 .given .1) .taken .option-within
-    , ( supplied-ready (c .before .before .before .before .before .before .before .before .before .before .before .before .before .args .n) (now (c .before .before .before .before .before .before .before .before .before .before .before .before .before .args .p)) (now (c .before .before .before .before .before .before .before .before .before .before .before .before .before .args .g)) (c .before .before .before .before .before .before .before .before .before .before .before .before .before .args .space) (c .before .before .before .before .before .before .before .before .before .before .before .before .before .args .option) (now (c .before .before .before .before .before .before .before .before .before .before .before .before .before .args .d)) (fitted-supplied (c .before .before .before .before .before .before .before .before .before .before .before .before .before .args .n) (now (c .before .before .before .before .before .before .before .before .before .before .before .before .before .args .p)) (now (c .before .before .before .before .before .before .before .before .before .before .before .before .before .args .g)) (c .before .before .before .before .before .before .before .before .before .before .before .before .before .args .space) (c .before .before .before .before .before .before .before .before .before .before .before .before .before .args .option) (now (c .before .before .before .before .before .before .before .before .before .before .before .before .before .args .d)) (now (c .before .before .before .before .before .before .before .before .before .before .before .before .before .args .grown)) (now (c .before .before .before .before .before .before .before .before .before .before .before .before .before .args .list)) (sym (c .before .before .before .before .before .before .before .plan .ensures) ∙ c .before .before .before .before .before .planned2 .given .1))
-    , (fitted-rooms (c .before .before .before .before .before .before .before .before .before .before .before .before .before .args .n) (now (c .before .before .before .before .before .before .before .before .before .before .before .before .before .args .p)) (now (c .before .before .before .before .before .before .before .before .before .before .before .before .before .args .g)) (c .before .before .before .before .before .before .before .before .before .before .before .before .before .args .space) (c .before .before .before .before .before .before .before .before .before .before .before .before .before .args .option) (now (c .before .before .before .before .before .before .before .before .before .before .before .before .before .args .d)) (now (c .before .before .before .before .before .before .before .before .before .before .before .before .before .args .grown)) (now (c .before .before .before .before .before .before .before .before .before .before .before .before .before .args .list)) (sym (c .before .before .before .before .before .before .before .plan .ensures) ∙ c .before .before .before .before .before .planned2 .given .1) (c .before .before .before .if1 .left) (c .before .before .if2 .left) .0, fitted-rooms (c .before .before .before .before .before .before .before .before .before .before .before .before .before .args .n) (now (c .before .before .before .before .before .before .before .before .before .before .before .before .before .args .p)) (now (c .before .before .before .before .before .before .before .before .before .before .before .before .before .args .g)) (c .before .before .before .before .before .before .before .before .before .before .before .before .before .args .space) (c .before .before .before .before .before .before .before .before .before .before .before .before .before .args .option) (now (c .before .before .before .before .before .before .before .before .before .before .before .before .before .args .d)) (now (c .before .before .before .before .before .before .before .before .before .before .before .before .before .args .grown)) (now (c .before .before .before .before .before .before .before .before .before .before .before .before .before .args .list)) (sym (c .before .before .before .before .before .before .before .plan .ensures) ∙ c .before .before .before .before .before .planned2 .given .1) (c .before .before .before .if1 .left) (c .before .before .if2 .left) .1)))
+fill-planned-requires c κs = (
+  fitted-supplied (c .before .before .before .before .before .before .before .before .before .before .before .before .before .args .n) (now (c .before .before .before .before .before .before .before .before .before .before .before .before .before .args .p)) (now (c .before .before .before .before .before .before .before .before .before .before .before .before .before .args .g)) (c .before .before .before .before .before .before .before .before .before .before .before .before .before .args .space) (c .before .before .before .before .before .before .before .before .before .before .before .before .before .args .option) (now (c .before .before .before .before .before .before .before .before .before .before .before .before .before .args .d)) (now (c .before .before .before .before .before .before .before .before .before .before .before .before .before .args .grown)) (now (c .before .before .before .before .before .before .before .before .before .before .before .before .before .args .list)) (sym (c .before .before .before .before .before .before .before .plan .ensures) ∙ c .before .before .before .before .before .planned2 .given .1) .taken .option-within,
+  (
+    supplied-ready (c .before .before .before .before .before .before .before .before .before .before .before .before .before .args .n) (now (c .before .before .before .before .before .before .before .before .before .before .before .before .before .args .p)) (now (c .before .before .before .before .before .before .before .before .before .before .before .before .before .args .g)) (c .before .before .before .before .before .before .before .before .before .before .before .before .before .args .space) (c .before .before .before .before .before .before .before .before .before .before .before .before .before .args .option) (now (c .before .before .before .before .before .before .before .before .before .before .before .before .before .args .d)) (fitted-supplied (c .before .before .before .before .before .before .before .before .before .before .before .before .before .args .n) (now (c .before .before .before .before .before .before .before .before .before .before .before .before .before .args .p)) (now (c .before .before .before .before .before .before .before .before .before .before .before .before .before .args .g)) (c .before .before .before .before .before .before .before .before .before .before .before .before .before .args .space) (c .before .before .before .before .before .before .before .before .before .before .before .before .before .args .option) (now (c .before .before .before .before .before .before .before .before .before .before .before .before .before .args .d)) (now (c .before .before .before .before .before .before .before .before .before .before .before .before .before .args .grown)) (now (c .before .before .before .before .before .before .before .before .before .before .before .before .before .args .list)) (sym (c .before .before .before .before .before .before .before .plan .ensures) ∙ c .before .before .before .before .before .planned2 .given .1)),
+    (fitted-rooms (c .before .before .before .before .before .before .before .before .before .before .before .before .before .args .n) (now (c .before .before .before .before .before .before .before .before .before .before .before .before .before .args .p)) (now (c .before .before .before .before .before .before .before .before .before .before .before .before .before .args .g)) (c .before .before .before .before .before .before .before .before .before .before .before .before .before .args .space) (c .before .before .before .before .before .before .before .before .before .before .before .before .before .args .option) (now (c .before .before .before .before .before .before .before .before .before .before .before .before .before .args .d)) (now (c .before .before .before .before .before .before .before .before .before .before .before .before .before .args .grown)) (now (c .before .before .before .before .before .before .before .before .before .before .before .before .before .args .list)) (sym (c .before .before .before .before .before .before .before .plan .ensures) ∙ c .before .before .before .before .before .planned2 .given .1) (c .before .before .before .if1 .left) (c .before .before .if2 .left) .0, fitted-rooms (c .before .before .before .before .before .before .before .before .before .before .before .before .before .args .n) (now (c .before .before .before .before .before .before .before .before .before .before .before .before .before .args .p)) (now (c .before .before .before .before .before .before .before .before .before .before .before .before .before .args .g)) (c .before .before .before .before .before .before .before .before .before .before .before .before .before .args .space) (c .before .before .before .before .before .before .before .before .before .before .before .before .before .args .option) (now (c .before .before .before .before .before .before .before .before .before .before .before .before .before .args .d)) (now (c .before .before .before .before .before .before .before .before .before .before .before .before .before .args .grown)) (now (c .before .before .before .before .before .before .before .before .before .before .before .before .before .args .list)) (sym (c .before .before .before .before .before .before .before .plan .ensures) ∙ c .before .before .before .before .before .planned2 .given .1) (c .before .before .before .if1 .left) (c .before .before .if2 .left) .1),
+  ),
+)
 
 cast-t20 : tie.Need-cast-t20
 cast-t20 c = omega (arith, fitted-short (c .before .before .before .before .before .before .before .before .before .before .before .before .before .before .before .before .before .before .args .n) (now (c .before .before .before .before .before .before .before .before .before .before .before .before .before .before .before .before .before .before .args .p)) (now (c .before .before .before .before .before .before .before .before .before .before .before .before .before .before .before .before .before .before .args .g)) (c .before .before .before .before .before .before .before .before .before .before .before .before .before .before .before .before .before .before .args .space) (c .before .before .before .before .before .before .before .before .before .before .before .before .before .before .before .before .before .before .args .option) (now (c .before .before .before .before .before .before .before .before .before .before .before .before .before .before .before .before .before .before .args .d)) (now (c .before .before .before .before .before .before .before .before .before .before .before .before .before .before .before .before .before .before .args .grown)) (now (c .before .before .before .before .before .before .before .before .before .before .before .before .before .before .before .before .before .before .args .list)) (sym (c .before .before .before .before .before .before .before .before .before .before .before .before .plan .ensures) ∙ c .before .before .before .before .before .before .before .before .before .before .planned2 .given .1) .0)

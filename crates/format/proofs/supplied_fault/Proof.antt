@@ -44,20 +44,21 @@ in-use-requires : tie.Need-in-use-requires
 in-use-requires c κs = search needs
 
 returns-5 : tie.Need-returns-5
-returns-5 c = 
+returns-5 c =
     let h : listMost < length (listOf (c .before .before .before .before .before .before .before .before .before .before .before .before .before .args .space) (now (c .before .before .before .before .before .before .before .before .before .before .before .before .before .args .p)) (now (c .before .before .before .before .before .before .before .before .before .before .before .before .before .args .g))) = omega (arith, c .before .in-use .ensures) in
     rw (← c .before .before .before .before .before .before .before .before .before .size-fault .ensures, c .before .before .before .before .before .before .before .before .if1 .left, ← c .before .before .before .before .before .before .before .list-fault .ensures, c .before .before .before .before .before .before .if2 .left, ← c .before .before .before .before .before .list-fault2 .ensures, c .before .before .before .before .if3 .left, ← c .before .before .before .option-fault .ensures, c .before .before .if4 .left, lt-ltb _ _ h)
 
 size-of-d-requires : tie.Need-size-of-d-requires
-size-of-d-requires c κs = 
-    ( passed-shows (tells-taken (c .before .before .before .before .before .before .before .before .before .before .before .before .before .args .space) (c .before .before .before .before .before .before .before .before .before .before .before .before .before .args .option) (now (c .before .before .before .before .before .before .before .before .before .before .before .before .before .args .d))) badOption (omega arith) (sym (c .before .before .before .option-fault .ensures) ∙ c .before .before .if4 .left) .option-within
-    , c .if5 .left)
+size-of-d-requires c κs = (
+  passed-shows (tells-taken (c .before .before .before .before .before .before .before .before .before .before .before .before .before .args .space) (c .before .before .before .before .before .before .before .before .before .before .before .before .before .args .option) (now (c .before .before .before .before .before .before .before .before .before .before .before .before .before .args .d))) badOption (omega arith) (sym (c .before .before .before .option-fault .ensures) ∙ c .before .before .if4 .left) .option-within,
+  c .if5 .left,
+)
 
 list-fault-requires-3 : tie.Need-list-fault-requires-3
 list-fault-requires-3 c κs = search needs
 
 returns-6 : tie.Need-returns-6
-returns-6 c = 
+returns-6 c =
     let h : length (listOf (c .before .before .before .before .before .before .before .before .before .before .before .before .before .before .before .args .space) (now (c .before .before .before .before .before .before .before .before .before .before .before .before .before .before .before .args .p)) (now (c .before .before .before .before .before .before .before .before .before .before .before .before .before .before .before .args .g))) ≤ listMost = omega (arith, c .before .before .before .in-use .ensures) in
     rw (← c .before .before .before .before .before .before .before .before .before .before .before .size-fault .ensures, c .before .before .before .before .before .before .before .before .before .before .if1 .left, ← c .before .before .before .before .before .before .before .before .before .list-fault .ensures, c .before .before .before .before .before .before .before .before .if2 .left, ← c .before .before .before .before .before .before .before .list-fault2 .ensures, c .before .before .before .before .before .before .if3 .left, ← c .before .before .before .before .before .option-fault .ensures, c .before .before .before .before .if4 .left, le-ltb _ _ h)
     (c .list-fault3 .ensures ∙ rw (c .before .size-of-d .ensures, c .before .before .before .in-use .ensures))

@@ -1,0 +1,42 @@
+-- Format at named inputs: the paper's night, the same scan taken as sectors, and why the law is not claimed for option 1 in space 1.
+-- Assumes nothing.
+use Prim.Native.Nat.{ℕ}
+use mathlib.Core.Path.{_≡_, refl}
+use mathlib.Core.List.{List, [], _∷_}
+use Rattle.seek.specs.Count.{countBelow}
+use Rattle.seek.specs.First.{firstBelow, firstFault}
+use Rattle.lists.specs.Union.{isIn, into, union}
+use Rattle.skip.specs.Skipping.{goodsBefore, place}
+use Rattle.skip.specs.Translation.{blocks}
+use Rattle.format.specs.Spaces.{listOf, newGrown, newList, newSpace, planFault}
+
+-- N 20, space 3, P 3, 7, G empty, option 1, D 3, 16: the new grown list is 4, 18, the new list 3, 4, 7, 18, and it is accepted
+pub scan-grown : newGrown 20 (3 ∷ 7 ∷ []) [] 3 1 (3 ∷ 16 ∷ []) ≡ 4 ∷ 18 ∷ []
+unfolding countBelow firstBelow isIn into union goodsBefore place
+scan-grown = refl
+
+pub scan-list : newList 20 (3 ∷ 7 ∷ []) [] 3 1 (3 ∷ 16 ∷ []) ≡ 3 ∷ 4 ∷ 7 ∷ 18 ∷ []
+unfolding countBelow firstBelow isIn into union goodsBefore place
+scan-list = refl
+
+pub scan-accepted : planFault 20 (3 ∷ 7 ∷ []) [] 3 1 (3 ∷ 16 ∷ []) ≡ 0
+unfolding countBelow firstBelow firstFault isIn into union goodsBefore place
+scan-accepted = refl
+
+-- the scan's numbers taken as sectors give another list: option 5 has D in sectors
+pub scan-as-sectors : newList 20 (3 ∷ 7 ∷ []) [] 3 5 (3 ∷ 16 ∷ []) ≡ 3 ∷ 7 ∷ 16 ∷ []
+unfolding into union
+scan-as-sectors = refl
+
+-- option 1 in space 1 brings in all of G too: over 4 sectors with P 0 and G 1 and nothing named, new block 0 lies on 2, and the old map has it on 1
+pub space-1-accepted : planFault 4 (0 ∷ []) (1 ∷ []) 1 1 [] ≡ 0
+unfolding countBelow firstBelow firstFault isIn into union goodsBefore place
+space-1-accepted = refl
+
+pub space-1-new : place (isIn (newList 4 (0 ∷ []) (1 ∷ []) 1 1 [])) 4 0 ≡ 2
+unfolding countBelow firstBelow isIn into union goodsBefore place
+space-1-new = refl
+
+pub space-1-old : place (isIn (listOf 1 (0 ∷ []) (1 ∷ []))) 4 (place (isIn []) (blocks 4 (listOf 1 (0 ∷ []) (1 ∷ []))) 0) ≡ 1
+unfolding countBelow firstBelow isIn into union goodsBefore place
+space-1-old = refl

@@ -1,0 +1,219 @@
+-- Demand 3 over Format's own results: an option that adds a scan's list and builds the new map over the same kinds of list as the map in use.
+-- Assumes nothing.
+use Prim.Native.Nat.{ℕ, zero, suc, _+_, _-_, _<_, _≤_}
+use mathlib.Core.Path.{_≡_, refl, sym, _∙_, ap}
+use mathlib.Core.Bool.{Bool, true, false}
+use mathlib.Core.List.{List, [], _∷_}
+use native.Mathlib.Omega.{arith}
+use lib.Dec.{eqb, ltb}
+use lib.ListN.{length}
+use borrow.Author.Tests.{eq-eqb, ne-eqb, le-ltb, lt-ltb}
+use Rattle.paper.specs.Checks.{pick, refuse, _orElse_}
+use Rattle.paper.specs.Refusals.{tooLong}
+use Rattle.paper.specs.Limits.{listMost}
+use Rattle.paper.proofs.Cases.{byEq, byLt}
+use Rattle.paper.proofs.Chain.{orElse-first, orElse-next}
+use Rattle.paper.proofs.Rows.{size-passes}
+use Rattle.lists.specs.Proper.{Rising, Inside, Proper}
+use Rattle.lists.specs.Union.{isIn, union}
+use Rattle.lists.proofs.Exact.{list-passes}
+use Rattle.lists.proofs.Unions.{union-assoc, union-holds}
+use Rattle.skip.specs.Skipping.{place, sectorsOf}
+use Rattle.skip.specs.Translation.{blocks}
+use Rattle.skip.proofs.Nights.{sectors-length, rising-sectors, night-place, joined-rising, joined-inside, joined-sectors}
+use Rattle.format.specs.Options.{inBlocks, none, add, spaceMost, meaning, grownBy}
+use Rattle.format.specs.Spaces.{listOf, sizeOfD, newGrown, newList, newSpace, optionTaken, suppliedFault, planFault}
+use Rattle.format.proofs.Planning.{Supplied, supplied-shows, tells-taken, bySpace, used-rising, used-inside}
+
+-- an option that adds a list of blocks to the grown list and keeps the space, where the space has a grown list
+pub record Scans (space option : ℕ) : Type 0 where
+  pub in-blocks : meaning option ≡ inBlocks
+  pub adds : grownBy option ≡ add
+  pub same-space : newSpace space option ≡ space
+  pub has-grown : 2 ≤ space
+
+pub option-1-in-space-3 : Scans 3 1
+option-1-in-space-3 = record { in-blocks = refl; adds = refl; same-space = refl; has-grown = omega arith }
+
+pub option-3-in-space-2 : Scans 2 3
+option-3-in-space-2 = record { in-blocks = refl; adds = refl; same-space = refl; has-grown = omega arith }
+
+-- the new grown list: G and the sectors of the named blocks
+pub grown-is : (n : ℕ) (p g : List ℕ) (space option : ℕ) (d : List ℕ) → Scans space option → newGrown n p g space option d ≡ union g (sectorsOf n (listOf space p g) d)
+grown-is n p g space option d scans = rw (scans .adds)
+
+module _ (n : ℕ) (p g : List ℕ) (space option : ℕ) (d : List ℕ) where
+  -- what is supplied passes
+  pub supplied-passes : Supplied n p g space option d → suppliedFault n p g space option d ≡ 0
+  supplied-passes supplied =
+      rw (
+        size-passes n (supplied .size),
+        list-passes n p (supplied .proper-p),
+        list-passes n g (supplied .proper-g),
+        tells-taken space option d .told (supplied .taken),
+        le-ltb listMost (length (listOf space p g)) (supplied .used),
+      )
+      (list-passes (sizeOfD n p g space option) d (supplied .proper-d))
+
+  pub plan-supplied : planFault n p g space option d ≡ 0 → Supplied n p g space option d
+  plan-supplied passes = supplied-shows n p g space option d (orElse-first (suppliedFault n p g space option d) _ passes)
+
+  short : (l : List ℕ) → refuse (ltb listMost (length l)) tooLong ≡ 0 → length l ≤ listMost
+  short l passes =
+      byLt listMost (length l) (λ long. absurd (omega (arith, rw (lt-ltb listMost (length l) long) at passes))) (λ fits. fits)
+
+  pub plan-grown : planFault n p g space option d ≡ 0 → length (newGrown n p g space option d) ≤ listMost
+  plan-grown passes =
+      short (newGrown n p g space option d)
+      (orElse-first (refuse (ltb listMost (length (newGrown n p g space option d))) tooLong) _ (orElse-next (suppliedFault n p g space option d) _ passes))
+
+  pub plan-list : planFault n p g space option d ≡ 0 → length (newList n p g space option d) ≤ listMost
+  plan-list passes =
+      short (newList n p g space option d)
+      (orElse-next (refuse (ltb listMost (length (newGrown n p g space option d))) tooLong) _ (orElse-next (suppliedFault n p g space option d) _ passes))
+
+  pub plan-passes :
+      Supplied n p g space option d → length (newGrown n p g space option d) ≤ listMost → length (newList n p g space option d) ≤ listMost →
+      planFault n p g space option d ≡ 0
+  plan-passes supplied grown list =
+      rw (
+        supplied-passes supplied,
+        le-ltb listMost (length (newGrown n p g space option d)) grown,
+        le-ltb listMost (length (newList n p g space option d)) list,
+      )
+
+  module _ (scans : Scans space option) (passes : planFault n p g space option d ≡ 0) where
+    abbrev A : List ℕ
+    A = listOf space p g
+
+    supplied : Supplied n p g space option d
+    supplied = plan-supplied passes
+
+    pub A-rising : Rising A
+    A-rising = used-rising n p g space option d (supplied .proper-p .rising) (supplied .proper-g .rising) (supplied .proper-p .inside) (supplied .proper-g .inside) (supplied .taken .space-within)
+
+    pub A-inside : Inside n A
+    A-inside = used-inside n p g space option d (supplied .proper-p .rising) (supplied .proper-g .rising) (supplied .proper-p .inside) (supplied .proper-g .inside) (supplied .taken .space-within)
+
+    pub d-size : sizeOfD n p g space option ≡ blocks n A
+    d-size = rw (eq-eqb (meaning option) inBlocks (scans .in-blocks))
+
+    pub d-rising : Rising d
+    d-rising = supplied .proper-d .rising
+
+    pub d-inside : Inside (blocks n A) d
+    d-inside = rw d-size at (supplied .proper-d .inside)
+
+    -- a list that joins G joins the list of the space
+    pub joins : (m : List ℕ) → Rising m → listOf space p (union g m) ≡ union (listOf space p g) m
+    joins m rising-m =
+        bySpace space (supplied .taken .space-within)
+        (λ e. absurd (omega (arith, scans .has-grown)))
+        (λ e. absurd (omega (arith, scans .has-grown)))
+        (λ e. rw e)
+        (λ e. rw e (sym (union-assoc p g m (supplied .proper-p .rising) (supplied .proper-g .rising) rising-m)))
+
+    -- the new list: the list in use and the sectors of the named blocks
+    pub list-is : newList n p g space option d ≡ union A (sectorsOf n A d)
+    list-is =
+        ap (λ (s : ℕ). listOf s p (newGrown n p g space option d)) (scans .same-space)
+        ∙ (ap (listOf space p) (grown-is n p g space option d scans) ∙ joins (sectorsOf n A d) (rising-sectors n A A-rising A-inside d d-rising d-inside))
+
+    -- each new block lies where you arrive by skipping the named blocks in the old numbering and following the old map
+    pub scan-places : (b : ℕ) → place (isIn (newList n p g space option d)) n b ≡ place (isIn A) n (place (isIn d) (blocks n A) b)
+    scan-places b = ap (λ (l : List ℕ). place (isIn l) n b) list-is ∙ night-place n A A-rising A-inside d d-rising d-inside b
+
+-- two nights, both accepted
+module _
+    (n : ℕ)
+    (p g : List ℕ)
+    (space option : ℕ)
+    (d e : List ℕ)
+    (scans : Scans space option)
+    (first : planFault n p g space option d ≡ 0)
+    (second : planFault n p (newGrown n p g space option d) space option e ≡ 0)
+  where
+    -- the list that joins the first night's to the second's, written in the first night's numbers
+    pub joined : List ℕ
+    joined = union d (sectorsOf (blocks n (listOf space p g)) d e)
+
+    -- the list in use in the second night
+    used-then : listOf space p (newGrown n p g space option d) ≡ union (listOf space p g) (sectorsOf n (listOf space p g) d)
+    used-then = ap (λ (s : ℕ). listOf s p (newGrown n p g space option d)) (sym (scans .same-space)) ∙ list-is n p g space option d scans first
+
+    e-rising : Rising e
+    e-rising = d-rising n p (newGrown n p g space option d) space option e scans second
+
+    e-inside : Inside (blocks n (union (listOf space p g) (sectorsOf n (listOf space p g) d))) e
+    e-inside = rw used-then at (d-inside n p (newGrown n p g space option d) space option e scans second)
+
+    M-rising : Rising (sectorsOf n (listOf space p g) d)
+    M-rising = rising-sectors n (listOf space p g) (A-rising n p g space option d scans first) (A-inside n p g space option d scans first) d (d-rising n p g space option d scans first) (d-inside n p g space option d scans first)
+
+    then-rising : Rising (sectorsOf n (listOf space p (newGrown n p g space option d)) e)
+    then-rising =
+        rising-sectors n (listOf space p (newGrown n p g space option d))
+        (A-rising n p (newGrown n p g space option d) space option e scans second)
+        (A-inside n p (newGrown n p g space option d) space option e scans second)
+        e e-rising
+        (d-inside n p (newGrown n p g space option d) space option e scans second)
+
+    -- both nights make the grown list of the joined night
+    pub nights-grown : newGrown n p (newGrown n p g space option d) space option e ≡ newGrown n p g space option joined
+    unfolding joined
+    nights-grown =
+        grown-is n p (newGrown n p g space option d) space option e scans
+        ∙ (ap (λ (l : List ℕ). union l (sectorsOf n (listOf space p (newGrown n p g space option d)) e)) (grown-is n p g space option d scans)
+        ∙ (union-assoc g (sectorsOf n (listOf space p g) d) (sectorsOf n (listOf space p (newGrown n p g space option d)) e)
+        (plan-supplied n p g space option d first .proper-g .rising) M-rising then-rising
+        ∙ (ap (λ (l : List ℕ). union g (union (sectorsOf n (listOf space p g) d) (sectorsOf n l e))) used-then
+        ∙ (ap (union g) (sym (joined-sectors n (listOf space p g)
+        (A-rising n p g space option d scans first)
+        (A-inside n p g space option d scans first)
+        d
+        (d-rising n p g space option d scans first)
+        (d-inside n p g space option d scans first)
+        e e-rising e-inside))
+        ∙ sym (grown-is n p g space option (union d (sectorsOf (blocks n (listOf space p g)) d e)) scans)))))
+
+    -- and its list
+    pub nights-list : newList n p (newGrown n p g space option d) space option e ≡ newList n p g space option joined
+    nights-list = ap (listOf (newSpace space option) p) nights-grown
+
+    -- and the joined night is accepted, given room
+    pub joined-supplied : Supplied n p g space option joined
+    unfolding joined
+    joined-supplied =
+        let was : Supplied n p g space option d = plan-supplied n p g space option d first in
+        let rises : Rising (union d (sectorsOf (blocks n (listOf space p g)) d e)) =
+        joined-rising n (listOf space p g) (A-rising n p g space option d scans first) (A-inside n p g space option d scans first) d (d-rising n p g space option d scans first) (d-inside n p g space option d scans first) e e-rising e-inside in
+        let inside : Inside (blocks n (listOf space p g)) (union d (sectorsOf (blocks n (listOf space p g)) d e)) =
+        joined-inside n (listOf space p g) (A-rising n p g space option d scans first) (A-inside n p g space option d scans first) d (d-rising n p g space option d scans first) (d-inside n p g space option d scans first) e e-rising e-inside in
+        let sectors : length (sectorsOf n (listOf space p g) (union d (sectorsOf (blocks n (listOf space p g)) d e))) ≡ length (union d (sectorsOf (blocks n (listOf space p g)) d e)) =
+        sectors-length n (listOf space p g) (A-rising n p g space option d scans first) (A-inside n p g space option d scans first) (union d (sectorsOf (blocks n (listOf space p g)) d e)) rises inside in
+        let grown : length (newGrown n p (newGrown n p g space option d) space option e) ≡ length (union g (sectorsOf n (listOf space p g) (union d (sectorsOf (blocks n (listOf space p g)) d e)))) =
+        ap length (nights-grown ∙ grown-is n p g space option (union d (sectorsOf (blocks n (listOf space p g)) d e)) scans) in
+        record {
+          size = was .size;
+          proper-p = was .proper-p;
+          proper-g = was .proper-g;
+          taken =
+              record {
+                option-within = was .taken .option-within;
+                space-within = was .taken .space-within;
+                list-taken = λ is-none. absurd (omega (arith, is-none, scans .in-blocks));
+              };
+          used = was .used;
+          proper-d =
+              record {
+                short = omega (arith, plan-grown n p (newGrown n p g space option d) space option e second, grown, sectors, union-holds g (sectorsOf n (listOf space p g) (union d (sectorsOf (blocks n (listOf space p g)) d e))));
+                rising = rises;
+                inside = rw (d-size n p g space option d scans first) inside;
+              };
+        }
+
+    pub joined-passes : planFault n p g space option joined ≡ 0
+    joined-passes =
+        plan-passes n p g space option joined joined-supplied
+        (rw nights-grown at (plan-grown n p (newGrown n p g space option d) space option e second))
+        (rw nights-list at (plan-list n p (newGrown n p g space option d) space option e second))
