@@ -21,7 +21,7 @@ use paper::Written;
 
 const COPIES_LEAST: u32 = 3;
 
-const HEADER_SIZE: usize = 16;
+pub const HEADER_SIZE: usize = 16;
 
 const CODE_MOST: u16 = 0xFFFF;
 

@@ -39,19 +39,24 @@ module _ {test : Bool} {Fault : Type 0} (tells : Tells test Fault) where
       passed-only e k (When.given f) = absurd (tells-false e f)
       passed-only e k (When.passed f) = refl
 
-pub rows : (First Next : ℕ → Type 0) {fault next : ℕ} → Exactly First fault → Exactly Next next → Exactly (First andThen Next) (fault orElse next)
-rows First Next {fault} {next} first second =
+-- rows in their order, where the later ones are known only once the earlier ones give no number
+pub rows-passed :
+    (First Next : ℕ → Type 0) {fault next : ℕ} → Exactly First fault → (fault ≡ 0 → Exactly Next next) → Exactly (First andThen Next) (fault orElse next)
+rows-passed First Next {fault} {next} first second =
     record {
       judged =
           byFault fault
-          (λ none. rw none (later (rw none at (first .judged)) (second .judged)))
+          (λ none. rw none (later (rw none at (first .judged)) (second none .judged)))
           (λ some. rw (orElse-some fault next some) (earlier some (first .judged)));
       only = only-one;
     }
   where
     only-one : (k : ℕ) → (First andThen Next) k → (fault orElse next) ≡ k
     only-one k (earlier some f) = let e : fault ≡ k = first .only k f in orElse-some fault next (λ none. some (sym e ∙ none)) ∙ e
-    only-one k (later f g) = orElse-none fault next (first .only 0 f) ∙ second .only k g
+    only-one k (later f g) = let none : fault ≡ 0 = first .only 0 f in orElse-none fault next none ∙ second none .only k g
+
+pub rows : (First Next : ℕ → Type 0) {fault next : ℕ} → Exactly First fault → Exactly Next next → Exactly (First andThen Next) (fault orElse next)
+rows First Next first second = rows-passed First Next first (λ none. second)
 
 pub tells-lt : (a b : ℕ) → Tells (ltb a b) (a < b)
 tells-lt a b = record { holds = ltb-true a b; told = lt-ltb a b }
@@ -87,6 +92,10 @@ size-exactly n = row (tells-not (tells-within 1 unitsMost n)) outOfRange
 pub passed-shows : {test : Bool} {Fact : Type 0} → Tells test Fact → (number : ℕ) → 0 < number → refuse (not test) number ≡ 0 → Fact
 passed-shows {test} tells number some none =
     byBool test (tells .holds) (λ e. let zero-given : number ≡ 0 = rw e at none in absurd (omega arith))
+
+-- and that its fault is absent, where the test tells the fault
+pub passed-not : {test : Bool} {Fault : Type 0} → Tells test Fault → (number : ℕ) → 0 < number → refuse test number ≡ 0 → Fault → ⊥
+passed-not tells number some none fault = let zero-given : number ≡ 0 = rw (tells .told fault) at none in omega arith
 
 pub size-shows : (n : ℕ) → sizeFault n ≡ 0 → Within 1 unitsMost n
 size-shows n = passed-shows (tells-within 1 unitsMost n) outOfRange (omega arith)

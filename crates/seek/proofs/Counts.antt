@@ -7,7 +7,7 @@ use native.Mathlib.Omega.{arith}
 use native.Mathlib.Nat.{add-zero, add-suc, not-suc-le-zero}
 use native.Mathlib.Decide.{le-ind}
 use Rattle.paper.specs.Checks.{pick}
-use Rattle.paper.proofs.Cases.{byBool, byLt}
+use Rattle.paper.proofs.Cases.{byBool, byLt, byEq}
 use Rattle.seek.specs.Count.{countBelow}
 
 module _ (passes : ℕ → Bool) where
@@ -29,6 +29,10 @@ module _ (passes : ℕ → Bool) where
       byBool (passes n)
       (λ e. omega (arith, count-more n e, count-le n))
       (λ e. omega (arith, count-same n e, count-le n))
+
+  pub count-none : (n : ℕ) → ((k : ℕ) → k < n → passes k ≡ false) → countBelow passes n ≡ 0
+  count-none zero none = count-zero
+  count-none (suc n) none = count-same n (none n (omega arith)) ∙ count-none n (λ k h. none k (omega arith))
 
   -- numbers that pass and numbers that do not are all numbers
   pub count-not : (n : ℕ) → countBelow passes n + countBelow (λ k. not (passes k)) n ≡ n
@@ -56,3 +60,16 @@ unfolding countBelow
 count-alike first second zero alike = refl
 count-alike first second (suc n) alike =
     rw (alike n (omega arith)) (ap (λ (k : ℕ). k + pick (second n) 1 0) (count-alike first second n (λ k h. alike k (omega arith))))
+
+-- tests that agree but at one number count alike but for it
+pub count-but-one :
+    (first second : ℕ → Bool) (n q : ℕ) → q < n → ((k : ℕ) → k < n → (k ≡ q → ⊥) → first k ≡ second k) →
+    countBelow first n + pick (second q) 1 0 ≡ countBelow second n + pick (first q) 1 0
+unfolding countBelow
+count-but-one first second zero q h alike = absurd (omega arith)
+count-but-one first second (suc n) q h alike =
+    byEq q n
+    (λ same. rw same (omega (arith, count-alike first second n (λ k l. alike k (omega arith) (λ here. omega arith)))))
+    (λ other.
+    rw (alike n (omega arith) (λ here. other (sym here)))
+    (omega (arith, count-but-one first second n q (omega arith) (λ k l away. alike k (omega arith) away))))

@@ -1,0 +1,5 @@
+pub mod Passings
+pub mod Entries
+pub mod Numbering
+pub mod Bads
+pub mod Tables

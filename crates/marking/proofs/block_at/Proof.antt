@@ -1,0 +1,38 @@
+-- `marking::block_at` meets its contract: no step wraps, since the block is no higher than the sector.
+-- Assumes nothing.
+use borrow.Author.Needs.{needs}
+use Prim.Native.Nat.{_≤_, _/_}
+use native.Mathlib.Omega.{arith}
+use native.Mathlib.Nat.{div-add-mod', mul-le-mul-left}
+use Rattle.layout.specs.Layouts.{sectorsOf}
+use Rattle.layout.proofs.Sectors.{sectors-few}
+use Rattle.marking.proofs.block_at.Statement.{statement}
+use Rattle.marking.proofs.block_at.Tie as tie
+
+add-sectors : tie.Need-add-sectors
+add-sectors c = omega (arith, sectors-few (c .before .pre .0))
+
+div-result : tie.Need-div-result
+div-result c = search needs
+
+mul-result : tie.Need-mul-result
+mul-result c =
+    let a = c .before .before .args in
+    let less : a .g .home ≤ sectorsOf (a .g) = omega arith in
+    omega (arith, mul-le-mul-left (a .sector / sectorsOf (a .g)) less, div-add-mod' (a .sector) (sectorsOf (a .g)))
+
+rem-result : tie.Need-rem-result
+rem-result c = search needs
+
+add-result : tie.Need-add-result
+add-result c =
+    let a = c .before .before .args in
+    let less : a .g .home ≤ sectorsOf (a .g) = omega arith in
+    omega (arith, mul-le-mul-left (a .sector / sectorsOf (a .g)) less, div-add-mod' (a .sector) (sectorsOf (a .g)))
+
+returns : tie.Need-returns
+returns c = search needs
+
+pub block-at-spec : {M : Type 1} → statement M
+block-at-spec =
+    tie.close (tie.spec add-sectors div-result mul-result rem-result add-result returns)

@@ -1,0 +1,116 @@
+-- Only the sector image that the block lies on is looked into: verdict, spot and part stay the same when the other image, or any other sector of this one, holds other bytes.
+-- Assumes nothing.
+use Prim.Native.Nat.{ℕ, zero, suc, _+_, _<_, _≤_}
+use mathlib.Core.Path.{_≡_, refl, sym, _∙_}
+use mathlib.Core.List.{List}
+use native.Mathlib.Omega.{arith}
+use lib.ListN.{length, getD, take, drop, length-take, length-drop}
+use lib.Seq.{sets, length-sets, getD-take, getD-drop, ext-getD}
+use denote.Ref.{RefT}
+use Rattle.paper.specs.Checks.{answer}
+use Rattle.paper.specs.Limits.{imageExtra}
+use Rattle.paper.proofs.Cases.{byBool, byLt}
+use Rattle.words.proofs.Stores.{getD-sets-before, getD-sets-after}
+use Rattle.shape.specs.declared.Shape.{Shape}
+use Rattle.layout.specs.Layouts.{layoutOf}
+use Rattle.table.specs.Lookup.{Replaced, isReplaced}
+use Rattle.table.proofs.Lookups.{tells-replaced}
+use Rattle.reading.specs.Tracks.{trackOf, sectorIn, bytesIn, imageAt, Agree}
+use Rattle.reading.specs.Faults.{lentFault, readFault}
+use Rattle.reading.specs.Promises.{spotted, verdict, DataSized}
+use Rattle.reading.proofs.Tracks.{image-inside}
+
+module _ (size : ℕ) where
+  -- two tracks that agree on a sector image have the same one there
+  pub image-alike :
+      (start : ℕ) (track other : List ℕ) → length track ≡ length other →
+      ((k : ℕ) → start ≤ k → k < start + (size + imageExtra) → getD track k 0 ≡ getD other k 0) →
+      imageAt size start track ≡ imageAt size start other
+  unfolding imageAt
+  image-alike start track other long same =
+      ext-getD 0 (take (size + imageExtra) (drop start track)) (take (size + imageExtra) (drop start other))
+      (simp (length-take, length-drop, long))
+      (λ k inside.
+      let few : k < size + imageExtra = omega (arith, length-take (size + imageExtra) (drop start track)) in
+      rw (
+        getD-take (size + imageExtra) (drop start track) k 0 few,
+        getD-take (size + imageExtra) (drop start other) k 0 few,
+        getD-drop start track k 0,
+        getD-drop start other k 0,
+      )
+      (same (start + k) (omega arith) (omega arith)))
+
+  -- bytes stored on another sector leave a sector's image
+  pub image-kept :
+      (sector other : ℕ) (track bytes : List ℕ) → (other ≡ sector → ⊥) → length bytes ≡ size + imageExtra →
+      imageAt size (bytesIn size sector) (sets track (bytesIn size other) bytes) ≡ imageAt size (bytesIn size sector) track
+  image-kept sector other track bytes apart long =
+      image-alike (bytesIn size sector) (sets track (bytesIn size other) bytes) track (length-sets track (bytesIn size other) bytes)
+      (λ k first last.
+      byLt other sector
+      (λ h. getD-sets-after track (bytesIn size other) k bytes 0 (omega (arith, image-inside size other sector h)))
+      (λ h.
+      let after : sector < other = byLt sector other (λ l. l) (λ l. absurd (apart (omega arith))) in
+      getD-sets-before track (bytesIn size other) k bytes 0 (omega (arith, image-inside size sector other after))))
+
+module _ (size : ℕ) (shape : Shape) (r : ℕ) (t : List ℕ) (b : ℕ) where
+  -- images that agree are judged alike, and their data begins at the same spot
+  module _ {home spare home′ spare′ : List ℕ} (agree : Agree size (layoutOf shape r) t b home spare home′ spare′) where
+    pub read-alike : readFault size shape r t b home spare ≡ readFault size shape r t b home′ spare′
+    unfolding readFault lentFault
+    read-alike = rw (agree .home-alike, agree .spare-alike, agree .lies-alike)
+
+    pub verdict-alike : verdict size shape r t b home spare ≡ verdict size shape r t b home′ spare′
+    verdict-alike = rw read-alike
+
+    pub spot-alike : spotted size shape r t b home spare ≡ spotted size shape r t b home′ spare′
+    spot-alike = rw read-alike
+
+  lent-ptr : (fault : ℕ) (home spare : RefT (List ℕ)) → answer fault (λ refused. home) (trackOf t b home spare) .ptr ≡ answer fault (λ refused. home .ptr) (trackOf t b (home .ptr) (spare .ptr))
+  lent-ptr zero home spare = byBool (isReplaced t b) (λ e. rw e) (λ e. rw e)
+  lent-ptr (suc fault) home spare = refl
+
+  -- the parts hold the same, and lie at the same place where the images do
+  module _
+      (home spare home′ spare′ part part′ : RefT (List ℕ))
+      (agree : Agree size (layoutOf shape r) t b (home .now) (spare .now) (home′ .now) (spare′ .now))
+      (first : DataSized size shape r t b home spare part)
+      (second : DataSized size shape r t b home′ spare′ part′)
+    where
+      pub part-alike : part .now ≡ part′ .now
+      part-alike = first .holds ∙ rw (read-alike agree, agree .lies-alike) (sym (second .holds))
+
+      pub part-placed : home .ptr ≡ home′ .ptr → spare .ptr ≡ spare′ .ptr → part .ptr ≡ part′ .ptr
+      part-placed homes spares =
+          let fault = readFault size shape r t b (home .now) (spare .now) in
+          let fault′ = readFault size shape r t b (home′ .now) (spare′ .now) in
+          let one : answer fault (λ refused. home) (trackOf t b home spare) .ptr ≡ answer fault′ (λ refused. home′) (trackOf t b home′ spare′) .ptr =
+          lent-ptr fault home spare ∙ rw (homes, spares, read-alike agree) (sym (lent-ptr fault′ home′ spare′)) in
+          first .lies ∙ rw (one, read-alike agree) (sym (second .lies))
+
+  -- the other image may hold anything of its length
+  module _ (home spare other : List ℕ) where
+    pub home-unread : Replaced t b → length home ≡ length other → Agree size (layoutOf shape r) t b home spare other spare
+    home-unread replaced long =
+        record { home-alike = long; spare-alike = refl; lies-alike = rw (tells-replaced t b .told replaced) }
+
+    pub spare-unread : (Replaced t b → ⊥) → length spare ≡ length other → Agree size (layoutOf shape r) t b home spare home other
+    spare-unread none long =
+        record {
+          home-alike = refl;
+          spare-alike = long;
+          lies-alike = byBool (isReplaced t b) (λ e. absurd (none (tells-replaced t b .holds e))) (λ e. rw e);
+        }
+
+  -- and so may any other sector of this one
+  module _ (home spare : List ℕ) (other : ℕ) (bytes : List ℕ) (apart : other ≡ sectorIn (layoutOf shape r) t b → ⊥) (long : length bytes ≡ size + imageExtra) where
+    pub sectors-unread : Agree size (layoutOf shape r) t b home spare (sets home (bytesIn size other) bytes) (sets spare (bytesIn size other) bytes)
+    sectors-unread =
+        record {
+          home-alike = sym (length-sets home (bytesIn size other) bytes);
+          spare-alike = sym (length-sets spare (bytesIn size other) bytes);
+          lies-alike =
+              byBool (isReplaced t b)
+              (λ e. rw e (sym (image-kept size (sectorIn (layoutOf shape r) t b) other spare bytes apart long)))
+              (λ e. rw e (sym (image-kept size (sectorIn (layoutOf shape r) t b) other home bytes apart long)));
+        }

@@ -1,0 +1,6 @@
+pub mod Tracks
+pub mod Exact
+pub mod Spots
+pub mod Parts
+pub mod Alike
+pub mod Written

@@ -1,0 +1,92 @@
+-- Where a block lies in two track images: the image and the sector are the ones that the relation names, the sector image lies inside the track, and its data inside it.
+-- Assumes nothing.
+use Prim.Native.Nat.{ℕ, zero, suc, _+_, _-_, _%_, _<_, _≤_}
+use mathlib.Core.Path.{_≡_, refl, sym, _∙_, ap}
+use mathlib.Core.List.{List, [], _∷_}
+use native.Mathlib.Nat.{mod-lt, mul-le-mul-right}
+use native.Mathlib.Omega.{arith}
+use lib.ListN.{length, take, drop, length-drop}
+use lib.Seq.{take-take, drop-drop, length-take-le}
+use denote.Ref.{RefT}
+use borrow.Author.Tests.{lt-ltb}
+use Rattle.paper.specs.Limits.{imageExtra}
+use Rattle.paper.proofs.Cases.{byBool}
+use Rattle.paper.proofs.Rows.{tells-lt, tells-false}
+use Rattle.image.specs.Image.{headerSize, dataOf}
+use Rattle.layout.specs.declared.Layout.{Layout}
+use Rattle.layout.specs.Layouts.{Laid, sectorsOf}
+use Rattle.layout.proofs.Words.{tells-names}
+use Rattle.layout.proofs.Sectors.{home-offset, spare-offset}
+use Rattle.table.specs.Rules.{Obeys}
+use Rattle.table.specs.Lookup.{placeOf, isReplaced, liesOn}
+use Rattle.table.proofs.Lookups.{place-names, place-once, tells-replaced}
+use Rattle.reading.specs.Tracks.{Seated, at-home, on-spare, trackOf, sectorIn, bytesIn, imageAt}
+
+module _ (g : Layout) (t : List ℕ) (b : ℕ) where
+  module _ {Track : Type 0} (home spare : Track) where
+    -- a block lies where the definitions say
+    pub seated : Seated g t b home spare (trackOf t b home spare) (sectorIn g t b)
+    unfolding sectorIn
+    seated =
+        byBool (isReplaced t b)
+        (λ e.
+        let h : placeOf t b < length t = tells-lt (placeOf t b) (length t) .holds e in
+        rw e (on-spare (placeOf t b) h (tells-names _ b .holds (place-names t b h))))
+        (λ e. rw e (at-home (tells-false (tells-replaced t b) e)))
+
+    -- and nowhere else
+    pub seated-only :
+        {track : Track} {sector : ℕ} → Obeys g t → Seated g t b home spare track sector →
+        (trackOf t b home spare ≡ track) × (sectorIn g t b ≡ sector)
+    unfolding sectorIn
+    seated-only o (at-home none) =
+        byBool (isReplaced t b) (λ e. absurd (none (tells-replaced t b .holds e))) (λ e. (rw e, rw e))
+    seated-only o (on-spare q h named) =
+        let place : placeOf t b ≡ q = place-once o q b h (tells-names _ b .told named) in
+        (rw (place, lt-ltb q (length t) h), rw (place, lt-ltb q (length t) h))
+
+  module _ (laid : Laid g) where
+    -- it is the sector that the table's look-up answers, counted inside its track
+    pub sector-lies : sectorIn g t b ≡ liesOn g t b % sectorsOf g
+    unfolding sectorIn
+    sector-lies =
+        byBool (isReplaced t b)
+        (λ e. rw e (sym (spare-offset laid (placeOf t b))))
+        (λ e. rw e (sym (home-offset laid b)))
+
+    pub sector-below : sectorIn g t b < sectorsOf g
+    sector-below = let some : 0 < sectorsOf g = omega (arith, laid .home-some) in rw sector-lies (mod-lt (liesOn g t b) some)
+
+module _ (t : List ℕ) (b : ℕ) where
+  -- what the image holds that a block lies in
+  pub track-now : (home spare : RefT (List ℕ)) → trackOf t b home spare .now ≡ trackOf t b (home .now) (spare .now)
+  track-now home spare = byBool (isReplaced t b) (λ e. rw e) (λ e. rw e)
+
+  pub track-length : (home spare : List ℕ) (long : ℕ) → length home ≡ long → length spare ≡ long → length (trackOf t b home spare) ≡ long
+  track-length home spare long first second = byBool (isReplaced t b) (λ e. rw e second) (λ e. rw e first)
+
+-- a part of the first n that ends before them is a part of the whole
+pub part-of-first : (k m n : ℕ) (l : List ℕ) → m + k ≤ n → take k (drop m (take n l)) ≡ take k (drop m l)
+part-of-first k zero n l inside = take-take k n l (omega arith)
+part-of-first k (suc m) zero l inside = absurd (omega arith)
+part-of-first k (suc m) (suc n) [] inside = refl
+part-of-first k (suc m) (suc n) (x ∷ xs) inside = part-of-first k m n xs (omega arith)
+
+module _ (size : ℕ) where
+  -- the image of a sector of the track lies inside the track
+  pub image-inside : (sector sectors : ℕ) → sector < sectors → bytesIn size sector + (size + imageExtra) ≤ bytesIn size sectors
+  image-inside sector sectors below = omega (arith, mul-le-mul-right (size + imageExtra) below)
+
+  module _ (start : ℕ) (track : List ℕ) where
+    pub image-part : take (start + (size + imageExtra) - start) (drop start track) ≡ imageAt size start track
+    unfolding imageAt
+    image-part = let long : start + (size + imageExtra) - start ≡ size + imageExtra = omega arith in rw long
+
+    pub image-long : start + (size + imageExtra) ≤ length track → length (imageAt size start track) ≡ size + imageExtra
+    unfolding imageAt
+    image-long inside = length-take-le (size + imageExtra) (drop start track) (rw (length-drop start track) (omega arith))
+
+    -- the data of the image is a part of the track
+    pub data-inside : dataOf size (imageAt size start track) ≡ take size (drop (start + headerSize) track)
+    unfolding imageAt dataOf
+    data-inside = part-of-first size headerSize (size + imageExtra) (drop start track) (omega arith) ∙ ap (take size) (drop-drop headerSize start track)

@@ -1,0 +1,36 @@
+-- Document 01, "Sector image": the checks of a read, for any number of data bytes.
+use Prim.Native.Nat.{ℕ}
+use mathlib.Core.Bool.{Bool, not, _||_}
+use mathlib.Core.List.{List}
+use lib.Dec.{eqb, leb}
+use lib.ListN.{length}
+use Rattle.paper.specs.Checks.{refuse, _orElse_}
+use Rattle.paper.specs.Refusals.{noSuchBlock, wrongLength}
+use Rattle.shape.specs.declared.Shape.{Shape}
+use Rattle.layout.specs.Layouts.{layoutOf}
+use Rattle.table.specs.Rules.{tableFault}
+use Rattle.image.specs.Image.{sectorFault}
+use Rattle.reading.specs.Tracks.{bytesIn, imageFor, headerFor}
+
+-- 5 for a block that the drive does not have
+abbrev pub blockFault : Shape → ℕ → ℕ → ℕ
+blockFault shape r b = refuse (leb (layoutOf shape r .blocks) b) noSuchBlock
+
+-- either image is not that of a whole track
+abbrev pub otherLength : ℕ → Shape → List ℕ → List ℕ → Bool
+otherLength size shape home spare =
+    not (eqb (length home) (bytesIn size (shape .sectors))) || not (eqb (length spare) (bytesIn size (shape .sectors)))
+
+-- 1, 11, 5, 14: checks of what is lent
+unfoldable pub lentFault : ℕ → Shape → ℕ → List ℕ → ℕ → List ℕ → List ℕ → ℕ
+lentFault size shape r t b home spare =
+    tableFault shape r t orElse (blockFault shape r b orElse refuse (otherLength size shape home spare) wrongLength)
+
+-- 15 to 18: checks of the sector image that the block lies on
+abbrev pub lyingFault : ℕ → Shape → ℕ → List ℕ → ℕ → List ℕ → List ℕ → ℕ
+lyingFault size shape r t b home spare =
+    sectorFault size (imageFor size (layoutOf shape r) t b home spare) (headerFor (layoutOf shape r) t b)
+
+-- 1, 11, 5, 14, 15 to 18: checks of a read
+unfoldable pub readFault : ℕ → Shape → ℕ → List ℕ → ℕ → List ℕ → List ℕ → ℕ
+readFault size shape r t b home spare = lentFault size shape r t b home spare orElse lyingFault size shape r t b home spare

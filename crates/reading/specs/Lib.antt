@@ -1,0 +1,4 @@
+pub mod Tracks
+pub mod Faults
+pub mod Judged
+pub mod Promises

@@ -1,0 +1,71 @@
+-- What the calls of `reading` promise, for any number of data bytes, and what the public ones promise at 512.
+use Prim.Native.Nat.{ℕ}
+use mathlib.Core.List.{List, []}
+use lib.ListN.{take, drop}
+use denote.Ref.{RefT}
+use Rattle.paper.specs.Checks.{answer, given}
+use Rattle.paper.specs.Promise.{Gives}
+use Rattle.paper.specs.Limits.{dataSize}
+use Rattle.shape.specs.declared.Shape.{Shape}
+use Rattle.layout.specs.Layouts.{layoutOf}
+use Rattle.image.specs.declared.Verdict.{Verdict}
+use Rattle.image.specs.declared.Verdict.the-variants.{Good, Refused as NotGood}
+use Rattle.image.specs.Image.{dataOf}
+use Rattle.image.specs.Promises.{saidVerdict, Lends}
+use Rattle.reading.specs.declared.answers.Spot.{Spot}
+use Rattle.reading.specs.declared.answers.Spot.the-variants.{InHome, InSpare, Refused as NotSpotted}
+use Rattle.reading.specs.Tracks.{trackOf, dataStart, imageFor}
+use Rattle.reading.specs.Faults.{readFault}
+
+-- refusal, image (0 that of the home track, 1 the second), offset of the data inside it
+abbrev pub saidSpot : Spot → ℕ × ℕ × ℕ
+saidSpot (InHome offset) = (0, 0, offset)
+saidSpot (InSpare offset) = (0, 1, offset)
+saidSpot (NotSpotted fault) = (fault, 0, 0)
+
+-- where the data of a block begins
+abbrev pub spotOf : ℕ → Shape → ℕ → List ℕ → ℕ → Spot
+spotOf size shape r t b = trackOf t b InHome InSpare (dataStart size (layoutOf shape r) t b)
+
+abbrev pub spotted : ℕ → Shape → ℕ → List ℕ → ℕ → List ℕ → List ℕ → Spot
+spotted size shape r t b home spare = answer (readFault size shape r t b home spare) NotSpotted (spotOf size shape r t b)
+
+-- the numbers that are said of it
+abbrev pub spotNumbers : ℕ → Shape → ℕ → List ℕ → ℕ → ℕ → ℕ × ℕ × ℕ
+spotNumbers size shape r t b fault = (fault, given fault (trackOf t b 0 1), given fault (dataStart size (layoutOf shape r) t b))
+
+abbrev pub SpotSized : ℕ → Shape → ℕ → List ℕ → ℕ → List ℕ → List ℕ → Spot → Type 0
+SpotSized size shape r t b home spare =
+    Gives saidSpot (spotted size shape r t b home spare) (spotNumbers size shape r t b (readFault size shape r t b home spare))
+
+-- the verdict
+abbrev pub verdict : ℕ → Shape → ℕ → List ℕ → ℕ → List ℕ → List ℕ → Verdict
+verdict size shape r t b home spare = answer (readFault size shape r t b home spare) NotGood Good
+
+abbrev pub JudgeSized : ℕ → Shape → ℕ → List ℕ → ℕ → List ℕ → List ℕ → Verdict → Type 0
+JudgeSized size shape r t b home spare = Gives saidVerdict (verdict size shape r t b home spare) (readFault size shape r t b home spare)
+
+-- the part that is handed back: the data where it lies in the image that the block lies in, or the empty part at the start of home
+abbrev pub PartGiven : ℕ → Shape → ℕ → List ℕ → ℕ → RefT (List ℕ) → RefT (List ℕ) → ℕ → RefT (List ℕ) → Type 0
+PartGiven size shape r t b home spare fault =
+    Lends (answer fault (λ refused. home) (trackOf t b home spare)) (given fault (dataStart size (layoutOf shape r) t b))
+    (answer fault (λ refused. []) (dataOf size (imageFor size (layoutOf shape r) t b (home .now) (spare .now))))
+
+abbrev pub DataSized : ℕ → Shape → ℕ → List ℕ → ℕ → RefT (List ℕ) → RefT (List ℕ) → RefT (List ℕ) → Type 0
+DataSized size shape r t b home spare = PartGiven size shape r t b home spare (readFault size shape r t b (home .now) (spare .now))
+
+-- the part at a spot: so many bytes from the offset on, in the image that the spot names; none at the start of home for a refusal
+pub data AtSpot (size : ℕ) (home spare part : RefT (List ℕ)) : Spot → Type 0 where
+  in-home : {offset : ℕ} → Lends home offset (take size (drop offset (home .now))) part → AtSpot size home spare part (InHome offset)
+  in-spare : {offset : ℕ} → Lends spare offset (take size (drop offset (spare .now))) part → AtSpot size home spare part (InSpare offset)
+  nowhere : {fault : ℕ} → Lends home 0 [] part → AtSpot size home spare part (NotSpotted fault)
+
+-- the public calls, at 512 data bytes
+abbrev pub Judge : Shape → ℕ → List ℕ → ℕ → List ℕ → List ℕ → Verdict → Type 0
+Judge = JudgeSized dataSize
+
+abbrev pub Data : Shape → ℕ → List ℕ → ℕ → RefT (List ℕ) → RefT (List ℕ) → RefT (List ℕ) → Type 0
+Data = DataSized dataSize
+
+abbrev pub Spots : Shape → ℕ → List ℕ → ℕ → List ℕ → List ℕ → Spot → Type 0
+Spots = SpotSized dataSize

@@ -1,0 +1,220 @@
+// A read of a revectored block from the images of two tracks, for any number of data bytes, by the public calls for 512.
+ghost use mathlib.Core.Path.{_≡_};
+ghost use Prim.Native.Nat.{_+_, _*_, _^_, _<_, _≤_};
+ghost use lib.ListN.{length};
+ghost use Rattle.paper.specs.Checks.{pick};
+ghost use Rattle.paper.specs.Limits.{sectorsMost, imageExtra};
+ghost use Rattle.image.specs.Image.{sectorFault};
+ghost use Rattle.layout.specs.Layouts.{Laid};
+ghost use Rattle.reading.specs.Tracks.{headerFor, seatOf, imageAt};
+ghost use Rattle.reading.specs.Faults.{lentFault};
+ghost use Rattle.reading.specs.Promises.{SpotSized, JudgeSized, DataSized, Judge, Data, Spots};
+
+mod answers;
+
+pub use answers::Spot;
+use image::HEADER_SIZE;
+use image::Verdict;
+use layout::Layout;
+use paper::DATA_SIZE;
+use paper::IMAGE_EXTRA;
+use paper::NO_SUCH_BLOCK;
+use paper::WRONG_LENGTH;
+use shape::Shape;
+
+// Where a block lies: whether on a spare, and on which sector of the track.
+struct Seat {
+    replaced: bool,
+    sector: usize,
+}
+
+// Where a block lies: a spare that names it comes before its home.
+fn seat_of(g: Layout, table: &[u32], block: u32) -> Seat
+    requires { ⌜ Laid g ⌝ }
+    ensures { λ r. ⌜ r ≡ seatOf g (now (table .entry)) block ⌝ }
+{
+    let place = table::place_of(table, block);
+    if place < table.len() {
+        return Seat {
+            replaced: true,
+            sector: g.home as usize + place % g.spare as usize,
+        };
+    }
+    Seat {
+        replaced: false,
+        sector: (block % g.home) as usize,
+    }
+}
+
+// The header that the sector of a block must carry.
+fn header_for(g: Layout, table: &[u32], block: u32) -> u32
+    ensures { λ r. ⌜ r ≡ headerFor g (now (table .entry)) block ⌝ }
+{
+    block
+}
+
+// The image of the track that a block lies on.
+fn track_of<'a>(replaced: bool, home: &'a [u8], spare: &'a [u8]) -> &'a [u8]
+    ensures { λ r. ⌜ r ≡ pick replaced (spare .entry) (home .entry) ⌝ }
+{
+    if replaced {
+        return spare;
+    }
+    home
+}
+
+// 15, 16, 17 or 18 for the sector image that starts at a place of a track and is judged where it lies, else 0.
+fn part_fault(size: usize, track: &[u8], start: usize, number: u32) -> u32
+    requires { ⌜ start + (size + imageExtra) ≤ length (now track) ⌝ }
+    ensures { λ r. ⌜ r ≡ sectorFault size (imageAt size start (now (track .entry))) number ⌝ }
+{
+    image::sector_fault(size, &track[start..start + (size + IMAGE_EXTRA)], number)
+}
+
+// 1, 11, 5 or 14 for what is lent, else 0: no sector is looked into.
+fn lent_fault(
+    size: usize,
+    shape: Shape,
+    r: u32,
+    table: &[u32],
+    block: u32,
+    home: &[u8],
+    spare: &[u8],
+) -> u32
+    requires { ⌜ sectorsMost * (size + imageExtra) < 2 ^ 32 ⌝ }
+    ensures { λ fault. ⌜ fault ≡ lentFault size shape r (now (table .entry)) block (now (home .entry)) (now (spare .entry)) ⌝ }
+{
+    let fault = table::table_fault(shape, r, table);
+    if fault != 0 {
+        return fault;
+    }
+    if layout::layout_of(shape, r).blocks <= block {
+        return NO_SUCH_BLOCK;
+    }
+    let long = shape.sectors as usize * (size + IMAGE_EXTRA);
+    if home.len() != long {
+        return WRONG_LENGTH;
+    }
+    if spare.len() != long {
+        return WRONG_LENGTH;
+    }
+    0
+}
+
+// Where the data of a block begins. Checks 1, 11, 5, 14, 15 to 18. Only other crates call this.
+pub fn spot_sized<'a>(
+    size: usize,
+    shape: Shape,
+    r: u32,
+    table: &[u32],
+    block: u32,
+    home: &'a [u8],
+    spare: &'a [u8],
+) -> Spot
+    requires { ⌜ sectorsMost * (size + imageExtra) < 2 ^ 32 ⌝ }
+    ensures { λ s. ⌜ SpotSized size shape r (now (table .entry)) block (now (home .entry)) (now (spare .entry)) s ⌝ }
+{
+    let fault = lent_fault(size, shape, r, table, block, home, spare);
+    if fault != 0 {
+        return Spot::Refused(fault);
+    }
+    let g = layout::layout_of(shape, r);
+    let seat = seat_of(g, table, block);
+    let start = seat.sector * (size + IMAGE_EXTRA);
+    let found = part_fault(
+        size,
+        track_of(seat.replaced, home, spare),
+        start,
+        header_for(g, table, block),
+    );
+    if found != 0 {
+        return Spot::Refused(found);
+    }
+    let offset = (start + HEADER_SIZE) as u32;
+    if seat.replaced {
+        return Spot::InSpare(offset);
+    }
+    Spot::InHome(offset)
+}
+
+// The verdict on a block. Checks 1, 11, 5, 14, 15 to 18. Only other crates call this.
+pub fn judge_sized<'a>(
+    size: usize,
+    shape: Shape,
+    r: u32,
+    table: &[u32],
+    block: u32,
+    home: &'a [u8],
+    spare: &'a [u8],
+) -> Verdict
+    requires { ⌜ sectorsMost * (size + imageExtra) < 2 ^ 32 ⌝ }
+    ensures { λ v. ⌜ JudgeSized size shape r (now (table .entry)) block (now (home .entry)) (now (spare .entry)) v ⌝ }
+{
+    match spot_sized(size, shape, r, table, block, home, spare) {
+        Spot::InHome(_) => Verdict::Good,
+        Spot::InSpare(_) => Verdict::Good,
+        Spot::Refused(fault) => Verdict::Refused(fault),
+    }
+}
+
+// The data of a good block where it lies, in whichever image that is; else the empty part at the start of home. Only other crates call this.
+pub fn data_sized<'a>(
+    size: usize,
+    shape: Shape,
+    r: u32,
+    table: &[u32],
+    block: u32,
+    home: &'a [u8],
+    spare: &'a [u8],
+) -> &'a [u8]
+    requires { ⌜ sectorsMost * (size + imageExtra) < 2 ^ 32 ⌝ }
+    ensures { λ part. ⌜ DataSized size shape r (now (table .entry)) block (home .entry) (spare .entry) part ⌝ }
+{
+    match spot_sized(size, shape, r, table, block, home, spare) {
+        Spot::InHome(offset) => &home[offset as usize..offset as usize + size],
+        Spot::InSpare(offset) => &spare[offset as usize..offset as usize + size],
+        Spot::Refused(_) => &home[0..0],
+    }
+}
+
+// The verdict on a block from the images of its home track and of its spare's track. Checks 1, 11, 5, 14, 15 to 18.
+pub fn judge<'a>(
+    shape: Shape,
+    r: u32,
+    table: &[u32],
+    block: u32,
+    home: &'a [u8],
+    spare: &'a [u8],
+) -> Verdict
+    ensures { λ v. ⌜ Judge shape r (now (table .entry)) block (now (home .entry)) (now (spare .entry)) v ⌝ }
+{
+    judge_sized(DATA_SIZE, shape, r, table, block, home, spare)
+}
+
+// The 512 bytes of a good block where they lie, in whichever image that is; the empty part at the start of home exactly when the verdict refuses.
+pub fn data<'a>(
+    shape: Shape,
+    r: u32,
+    table: &[u32],
+    block: u32,
+    home: &'a [u8],
+    spare: &'a [u8],
+) -> &'a [u8]
+    ensures { λ part. ⌜ Data shape r (now (table .entry)) block (home .entry) (spare .entry) part ⌝ }
+{
+    data_sized(DATA_SIZE, shape, r, table, block, home, spare)
+}
+
+// In which image, and how far inside it, the 512 bytes of a good block begin. Checks 1, 11, 5, 14, 15 to 18.
+pub fn spot<'a>(
+    shape: Shape,
+    r: u32,
+    table: &[u32],
+    block: u32,
+    home: &'a [u8],
+    spare: &'a [u8],
+) -> Spot
+    ensures { λ s. ⌜ Spots shape r (now (table .entry)) block (now (home .entry)) (now (spare .entry)) s ⌝ }
+{
+    spot_sized(DATA_SIZE, shape, r, table, block, home, spare)
+}

@@ -1,0 +1,2 @@
+pub mod Replacements
+pub mod Censuses

@@ -1,0 +1,2 @@
+pub mod Replacing
+pub mod Counting

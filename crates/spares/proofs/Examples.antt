@@ -1,0 +1,31 @@
+-- The shift at both ends, by computation: C 4, H 1, S 3, r 1, so that each cylinder has two homes and one spare.
+-- Assumes nothing.
+use Prim.Native.Nat.{ℕ}
+use mathlib.Core.Path.{_≡_, refl}
+use mathlib.Core.List.{List, _∷_, _++_}
+use lib.IntN.{pos, negsuc}
+use lib.ListN.{replicate}
+use Rattle.seek.specs.First.{firstBelow}
+use Rattle.seek.specs.Every.{allBelow}
+use Rattle.shape.specs.declared.Shape.{Shape}
+use Rattle.layout.specs.Layouts.{layoutOf}
+use Rattle.table.specs.Lookup.{placeOf}
+use Rattle.spares.specs.declared.Shifted.the-variants.{By}
+use Rattle.spares.specs.Promises.{shifted}
+
+abbrev small : Shape
+small = record { cylinders = 4; heads = 1; sectors = 3 }
+
+-- four places, and null beyond them
+abbrev holding : ℕ → ℕ → ℕ → ℕ → List ℕ
+holding a b c d = a ∷ b ∷ c ∷ d ∷ replicate 124 0x80000000
+
+-- block 6, of the last cylinder, at the first place: 1 − C
+pub shift-least : shifted small 1 (holding 0x30000006 0 0 0) 6 ≡ By (negsuc 2)
+unfolding placeOf firstBelow allBelow
+shift-least = refl
+
+-- block 0 at the last place: C − 1
+pub shift-most : shifted small 1 (holding 0 0 0 0x30000000) 0 ≡ By (pos 3)
+unfolding placeOf firstBelow allBelow
+shift-most = refl

@@ -1,0 +1,5 @@
+pub mod Exact
+pub mod Says
+pub mod Shifts
+pub mod Accepted
+pub mod Examples

@@ -1,0 +1,84 @@
+-- The shift: a difference of cylinders is exact in 32 bits, 0 at home, leads from the home's cylinder to the spare's, and lies within 1 − C to C − 1.
+-- Assumes nothing.
+use Prim.Native.Nat.{ℕ, zero, suc, _*_, _/_, _<_}
+use mathlib.Core.Path.{_≡_, refl}
+use mathlib.Core.List.{List}
+use native.Mathlib.Nat.{div-le-self}
+use native.Mathlib.Omega.{arith}
+use lib.IntN.{pos, natAbs, _+ℤ_, _-ℤ_, +ℤ-comm, -ℤ-+ℤ-cancel}
+use lib.ListN.{length}
+use mir.Syntax.{w32}
+use mir.Val.{SFits, toZ}
+use mir.Facts.{toZ-pos}
+use borrow.Author.Tests.{lt-ltb}
+use Rattle.paper.specs.Limits.{unitsMost}
+use Rattle.paper.proofs.Cases.{byBool, byLt}
+use Rattle.paper.proofs.Rows.{tells-lt}
+use Rattle.shape.specs.declared.Shape.{Shape}
+use Rattle.layout.specs.declared.Layout.{Layout}
+use Rattle.layout.specs.Layouts.{Laid, layoutOf, homeCylinder, spareCylinder}
+use Rattle.layout.proofs.Sectors.{blocks-few, home-cylinder-below, spare-cylinder-below}
+use Rattle.table.specs.Rules.{Obeys}
+use Rattle.table.specs.Lookup.{placeOf, Replaced, isReplaced}
+use Rattle.table.proofs.Lookups.{tells-replaced, place-spare}
+use Rattle.order.proofs.Signs.{minus-within, minus-below}
+use Rattle.spares.specs.Spares.{shiftOf, blockFault}
+use Rattle.spares.proofs.Exact.{block-ready, block-below}
+
+-- numbers below a bound differ by less than the bound, to either side
+pub difference-within : (a b bound : ℕ) → a < bound → b < bound → natAbs (pos a -ℤ pos b) < bound
+difference-within a zero bound h l = omega arith
+difference-within a (suc b) bound h l =
+    byLt a (suc b) (λ less. rw (minus-below a (suc b) less) (omega arith)) (λ more. rw (minus-within a (suc b) more) (omega arith))
+
+-- a difference of cylinders is a number of 32 bits, and so are its operands
+pub difference-fits : (a b : ℕ) → a < unitsMost → b < unitsMost → SFits w32 (pos a -ℤ pos b)
+difference-fits a zero h l = record { sfits = omega arith }
+difference-fits a (suc b) h l =
+    byLt a (suc b)
+    (λ less. rw (minus-below a (suc b) less) (record { sfits = omega arith }))
+    (λ more. rw (minus-within a (suc b) more) (record { sfits = omega arith }))
+
+pub cylinder-is : (a : ℕ) → a < unitsMost → toZ w32 a ≡ pos a
+cylinder-is a h = toZ-pos w32 (omega arith)
+
+module _ {g : Layout} (laid : Laid g) where
+  -- the cylinders of homes and spares are few
+  pub home-cylinder-few : {b : ℕ} → b < g .blocks → homeCylinder g b < unitsMost
+  home-cylinder-few {b} below = omega (arith, blocks-few laid, div-le-self b (g .home), div-le-self (b / g .home) (g .heads))
+
+  pub spare-cylinder-few : {q : ℕ} → q < g .spares → spareCylinder g q < unitsMost
+  spare-cylinder-few {q} below = omega (arith, laid .spares-fit, div-le-self q (g .spare), div-le-self (q / g .spare) (g .heads))
+
+module _ (g : Layout) (t : List ℕ) (b : ℕ) where
+  -- a block at home is not shifted
+  pub shift-at-home : (Replaced t b → ⊥) → shiftOf g t b ≡ pos 0
+  shift-at-home at-home = byBool (isReplaced t b) (λ e. absurd (at-home (tells-replaced t b .holds e))) (λ e. rw e)
+
+  pub shift-replaced : placeOf t b < length t → shiftOf g t b ≡ pos (spareCylinder g (placeOf t b)) -ℤ pos (homeCylinder g b)
+  shift-replaced h = rw (lt-ltb (placeOf t b) (length t) h)
+
+  -- the shift leads from the home's cylinder to the spare's
+  pub shift-leads : placeOf t b < length t → pos (homeCylinder g b) +ℤ shiftOf g t b ≡ pos (spareCylinder g (placeOf t b))
+  shift-leads h =
+      rw (shift-replaced h, +ℤ-comm (pos (homeCylinder g b)) (pos (spareCylinder g (placeOf t b)) -ℤ pos (homeCylinder g b)))
+      (-ℤ-+ℤ-cancel (pos (spareCylinder g (placeOf t b))) (pos (homeCylinder g b)))
+
+  -- and lies within 1 − C to C − 1
+  pub shift-within :
+      Laid g → Obeys g t → b < g .blocks → (cylinders : ℕ) → g .tracks ≡ cylinders * g .heads → natAbs (shiftOf g t b) < cylinders
+  shift-within laid o below cylinders tracks =
+      byBool (isReplaced t b)
+      (λ e.
+      let h : placeOf t b < length t = tells-lt (placeOf t b) (length t) .holds e in
+      rw e
+      (difference-within (spareCylinder g (placeOf t b)) (homeCylinder g b) cylinders
+      (spare-cylinder-below laid (place-spare o b h) cylinders tracks)
+      (home-cylinder-below laid below cylinders tracks)))
+      (λ e. rw e (omega (arith, home-cylinder-below laid below cylinders tracks)))
+
+-- the same for the call: a shift that is answered lies within 1 − C to C − 1
+pub shift-answered : (shape : Shape) (r : ℕ) (t : List ℕ) (b : ℕ) → blockFault shape r t b ≡ 0 → natAbs (shiftOf (layoutOf shape r) t b) < shape .cylinders
+shift-answered shape r t b none =
+    let ready = block-ready shape r t b none in
+    shift-within (layoutOf shape r) t b (ready .laid) (ready .obeys) (block-below shape r t b none) (shape .cylinders) refl

@@ -1,0 +1,171 @@
+// The public calls on a revectored drive: where a block lies, how far its spare is from its home, what lies on a sector, replacement, and the census.
+ghost use mathlib.Core.Path.{_≡_};
+ghost use Prim.Native.Nat.{_<_};
+ghost use lib.IntN.{pos, _-ℤ_};
+ghost use Rattle.paper.specs.Limits.{unitsMost};
+ghost use Rattle.layout.specs.Layouts.{Laid};
+ghost use Rattle.table.specs.Rules.{Obeys};
+ghost use Rattle.spares.specs.Spares.{shiftOf, blockFault};
+ghost use Rattle.spares.specs.Promises.{SectorOf, AddressOf, ShiftOf, BlockOn, BlockAt, Replacement, CensusOf};
+use layout::Layout;
+use paper::ALREADY_REPLACED;
+use paper::NO_SPARE;
+use paper::NO_SUCH_BLOCK;
+use paper::NO_SUCH_SECTOR;
+use paper::Named;
+use paper::Placed;
+use shape::Located;
+use shape::Shape;
+
+// How many cylinders a block is moved, negative toward cylinder 0.
+pub enum Shifted {
+    By(i32),
+    Refused(u32),
+}
+
+// The place that a replacement wrote.
+pub enum Replaced {
+    Place(u32),
+    Refused(u32),
+}
+
+// How many places of the table have each code.
+pub enum Counted {
+    Counts(replacing::Census),
+    Refused(u32),
+}
+
+// Refusal 1 for the drive's numbers, 11 for its table, 5 for a block number that is too high, else 0. Only other crates call this.
+pub fn block_fault(shape: Shape, r: u32, table: &[u32], block: u32) -> u32
+    ensures { λ fault. ⌜ fault ≡ blockFault shape r (now (table .entry)) block ⌝ }
+{
+    let fault = table::table_fault(shape, r, table);
+    if fault != 0 {
+        return fault;
+    }
+    if layout::layout_of(shape, r).blocks <= block {
+        return NO_SUCH_BLOCK;
+    }
+    0
+}
+
+// Block to sector number. Checks 1, 11, 5.
+pub fn sector_of(shape: Shape, r: u32, table: &[u32], block: u32) -> Placed
+    ensures { λ p. ⌜ SectorOf shape r (now (table .entry)) block p ⌝ }
+{
+    let fault = block_fault(shape, r, table, block);
+    if fault != 0 {
+        return Placed::Refused(fault);
+    }
+    Placed::At(table::lies_on(layout::layout_of(shape, r), table, block))
+}
+
+// Block to cylinder, head and sector. Checks 1, 11, 5.
+pub fn address_of(shape: Shape, r: u32, table: &[u32], block: u32) -> Located
+    ensures { λ p. ⌜ AddressOf shape r (now (table .entry)) block p ⌝ }
+{
+    let fault = block_fault(shape, r, table, block);
+    if fault != 0 {
+        return Located::Refused(fault);
+    }
+    Located::At(shape::address_at(
+        shape,
+        table::lies_on(layout::layout_of(shape, r), table, block),
+    ))
+}
+
+// The signed number of cylinders from a home to a spare.
+fn cylinders_between(home: u32, spare: u32) -> i32
+    requires { ⌜ home < unitsMost ⌝ }
+    requires { ⌜ spare < unitsMost ⌝ }
+    ensures { λ d. ⌜ d ≡ pos spare -ℤ pos home ⌝ }
+{
+    spare as i32 - home as i32
+}
+
+// The shift of a block. Only other crates call this.
+pub fn shift_of(g: Layout, table: &[u32], block: u32) -> i32
+    requires { ⌜ Laid g ⌝ }
+    requires { ⌜ Obeys g (now table) ⌝ }
+    requires { ⌜ block < g .blocks ⌝ }
+    ensures { λ d. ⌜ d ≡ shiftOf g (now (table .entry)) block ⌝ }
+{
+    let place = table::place_of(table, block);
+    if place < table.len() {
+        let home = layout::home_cylinder(g, block);
+        return cylinders_between(home, layout::spare_cylinder(g, place as u32));
+    }
+    0
+}
+
+// How far a block's spare is from its home. Checks 1, 11, 5.
+pub fn shift(shape: Shape, r: u32, table: &[u32], block: u32) -> Shifted
+    ensures { λ p. ⌜ ShiftOf shape r (now (table .entry)) block p ⌝ }
+{
+    let fault = block_fault(shape, r, table, block);
+    if fault != 0 {
+        return Shifted::Refused(fault);
+    }
+    Shifted::By(shift_of(layout::layout_of(shape, r), table, block))
+}
+
+// Sector number to block. Checks 1, 11, 6.
+pub fn block_on(shape: Shape, r: u32, table: &[u32], sector: u32) -> Named
+    ensures { λ p. ⌜ BlockOn shape r (now (table .entry)) sector p ⌝ }
+{
+    let fault = table::table_fault(shape, r, table);
+    if fault != 0 {
+        return Named::Refused(fault);
+    }
+    if shape::size_of(shape) <= sector {
+        return Named::Refused(NO_SUCH_SECTOR);
+    }
+    table::lying_on(layout::layout_of(shape, r), table, sector)
+}
+
+// Cylinder, head and sector to block. Checks 1, 11, 6.
+pub fn block_at(shape: Shape, r: u32, table: &[u32], cylinder: u32, head: u32, sector: u32) -> Named
+    ensures { λ p. ⌜ BlockAt shape r (now (table .entry)) cylinder head sector p ⌝ }
+{
+    let fault = table::table_fault(shape, r, table);
+    if fault != 0 {
+        return Named::Refused(fault);
+    }
+    let fault = shape::place_fault(shape, cylinder, head, sector);
+    if fault != 0 {
+        return Named::Refused(fault);
+    }
+    let sector = shape::sector_at(shape, cylinder, head, sector);
+    table::lying_on(layout::layout_of(shape, r), table, sector)
+}
+
+// Replaces a block: writes its descriptor at the first free place in its search order, and answers the place. Checks 1, 11, 5, 12, 13.
+pub fn replace(shape: Shape, r: u32, table: &mut [u32], block: u32) -> Replaced
+    ensures { λ p. ⌜ Replacement shape r (now (table .entry)) block p (now (table .exit)) ⌝ }
+{
+    let fault = block_fault(shape, r, table, block);
+    if fault != 0 {
+        return Replaced::Refused(fault);
+    }
+    if table::place_of(table, block) < table.len() {
+        return Replaced::Refused(ALREADY_REPLACED);
+    }
+    let g = layout::layout_of(shape, r);
+    let place = replacing::spare_for(g, table, block);
+    if table.len() <= place {
+        return Replaced::Refused(NO_SPARE);
+    }
+    replacing::store(g, table, block, place);
+    Replaced::Place(place as u32)
+}
+
+// Counts the descriptors of each code. Checks 1, 11.
+pub fn census(shape: Shape, r: u32, table: &[u32]) -> Counted
+    ensures { λ p. ⌜ CensusOf shape r (now (table .entry)) p ⌝ }
+{
+    let fault = table::table_fault(shape, r, table);
+    if fault != 0 {
+        return Counted::Refused(fault);
+    }
+    Counted::Counts(replacing::census_of(table))
+}
