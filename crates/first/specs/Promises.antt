@@ -1,4 +1,4 @@
--- What the public call of `first` promises.
+-- What the public call `spares::first_table` promises, which `first` makes.
 use Prim.Native.Nat.{ℕ}
 use mathlib.Core.List.{List}
 use Rattle.paper.specs.Checks.{answer, given}
@@ -12,7 +12,7 @@ use Rattle.layout.specs.Layouts.{layoutOf}
 use Rattle.table.specs.Rules.{tableLength}
 use Rattle.first.specs.First.{firstTable, firstFault}
 
--- what `first_table` answers: the table's length
+-- what `spares::first_table` answers: the table's length
 abbrev pub tabled : Shape → ℕ → List ℕ → List ℕ → Written
 tabled shape r list room = answer (firstFault shape r list room) Refused (Length (tableLength (layoutOf shape r)))
 

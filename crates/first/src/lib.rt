@@ -92,8 +92,8 @@ pub fn first_fault(shape: Shape, r: u32, list: &[u32], room: &[u32]) -> u32
     spare_fault(g, list)
 }
 
-// The first table of a list of bad sectors: its length, and the table in the first places of the room. Checks 1, the list's, 7, 13. `spares::first_table` is this call.
-pub fn first_table(shape: Shape, r: u32, list: &[u32], room: &mut [u32]) -> Written
+// The first table of a list of bad sectors: its length, and the table in the first places of the room. Checks 1, the list's, 7, 13. Only other crates call this: the public call is `spares::first_table`.
+pub fn build_first(shape: Shape, r: u32, list: &[u32], room: &mut [u32]) -> Written
     ensures { λ answer. ⌜ FirstTable shape r (now (list .entry)) (now (room .entry)) answer (now (room .exit)) ⌝ }
 {
     let fault = first_fault(shape, r, list, room);

@@ -3,3 +3,4 @@ pub mod Says
 pub mod Shifts
 pub mod Accepted
 pub mod Examples
+pub mod Histories

@@ -1,4 +1,4 @@
-// The public calls on a revectored drive: where a block lies, how far its spare is from its home, what lies on a sector, replacement, and the census.
+// The public calls on a revectored drive: where a block lies, how far its spare is from its home, what lies on a sector, replacement, the census, and a first table.
 ghost use mathlib.Core.Path.{_≡_};
 ghost use Prim.Native.Nat.{_<_};
 ghost use lib.IntN.{pos, _-ℤ_};
@@ -6,6 +6,7 @@ ghost use Rattle.paper.specs.Limits.{unitsMost};
 ghost use Rattle.layout.specs.Layouts.{Laid};
 ghost use Rattle.table.specs.Rules.{Obeys};
 ghost use Rattle.spares.specs.Spares.{shiftOf, blockFault};
+ghost use Rattle.first.specs.Promises.{FirstTable};
 ghost use Rattle.spares.specs.Promises.{SectorOf, AddressOf, ShiftOf, BlockOn, BlockAt, Replacement, CensusOf};
 use layout::Layout;
 use paper::ALREADY_REPLACED;
@@ -14,6 +15,7 @@ use paper::NO_SUCH_BLOCK;
 use paper::NO_SUCH_SECTOR;
 use paper::Named;
 use paper::Placed;
+use paper::Written;
 use shape::Located;
 use shape::Shape;
 
@@ -168,4 +170,11 @@ pub fn census(shape: Shape, r: u32, table: &[u32]) -> Counted
         return Counted::Refused(fault);
     }
     Counted::Counts(replacing::census_of(table))
+}
+
+// The first table of a list of bad sectors, into the first places of the room: its length. Checks 1, list, 7, 13.
+pub fn first_table(shape: Shape, r: u32, list: &[u32], room: &mut [u32]) -> Written
+    ensures { λ w. ⌜ FirstTable shape r (now (list .entry)) (now (room .entry)) w (now (room .exit)) ⌝ }
+{
+    first::build_first(shape, r, list, room)
 }

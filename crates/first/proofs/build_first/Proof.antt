@@ -1,4 +1,4 @@
--- `first::first_table` meets its contract: where a check refuses nothing is written, and where none does the checks show what the table needs.
+-- `first::build_first` meets its contract: where a check refuses nothing is written, and where none does the checks show what the table needs.
 -- Assumes nothing.
 use borrow.Author.Needs.{needs}
 use mathlib.Core.Path.{_≡_, sym, _∙_, ap}
@@ -13,8 +13,8 @@ use Rattle.table.proofs.Obeying.{table-few}
 use Rattle.first.specs.First.{firstTable}
 use Rattle.first.proofs.Exact.{laid-proper, first-shows}
 use Rattle.first.proofs.Says.{first-refused, first-accepted}
-use Rattle.first.proofs.first_table.Statement.{statement}
-use Rattle.first.proofs.first_table.Tie as tie
+use Rattle.first.proofs.build_first.Statement.{statement}
+use Rattle.first.proofs.build_first.Tie as tie
 
 first-fault-requires : tie.Need-first-fault-requires
 first-fault-requires c κs = search needs
@@ -61,8 +61,8 @@ returns-2 c =
     let long : c .table-length .result ≡ tableLength (layoutOf (a .shape) (a .r)) = c .table-length .ensures ∙ ap tableLength (c .before .before .before .before .before .layout-of .ensures) in
     first-accepted (a .shape) (a .r) (now (a .list)) (now (a .room)) (c .table-length .result) _ (sym (c .before .before .before .before .before .before .before .first-fault .ensures) ∙ c .before .before .before .before .before .before .if1 .left) long (c .before .before .before .build .ensures ∙ ap (λ (g : Layout). written (firstTable g (now (a .list))) (now (a .room))) (c .before .before .before .before .before .layout-of .ensures))
 
-pub first-table-spec : {M : Type 1} → statement M
-first-table-spec =
+pub build-first-spec : {M : Type 1} → statement M
+build-first-spec =
     tie.close
     (tie.spec
     first-fault-requires
