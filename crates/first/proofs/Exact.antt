@@ -12,7 +12,7 @@ use Rattle.paper.specs.Refusals.{noRoom, noSpare}
 use Rattle.paper.specs.Exactly.{Exactly, When}
 use Rattle.paper.proofs.Cases.{byBool}
 use Rattle.paper.proofs.Chain.{orElse-first, orElse-next}
-use Rattle.paper.proofs.Rows.{tells-lt, row, rows}
+use Rattle.paper.proofs.Rows.{tells-lt, row, rows, not-over}
 use Rattle.lists.specs.Proper.{Proper, listFault, ListJudged}
 use Rattle.lists.proofs.Exact.{list-exactly, list-shows}
 use Rattle.shape.specs.declared.Shape.{Shape}
@@ -27,11 +27,6 @@ use Rattle.first.specs.First.{firstFault, FirstJudged}
 -- a list over the drive's sectors, counted by the layout
 pub laid-proper : {shape : Shape} {r : ℕ} {list : List ℕ} → Drives shape r → Proper (sizeOf shape) list → Proper (layoutOf shape r .tracks * sectorsOf (layoutOf shape r)) list
 laid-proper drives proper = rw (drive-whole drives) proper
-
--- a check that two numbers are in order shows it where it gives no number
-order-shows : (a b number : ℕ) → 0 < number → refuse (ltb a b) number ≡ 0 → b ≤ a
-order-shows a b number some none =
-    byBool (ltb a b) (λ e. let zero-given : number ≡ 0 = rw e at none in absurd (omega arith)) (ltb-false a b)
 
 module _ (shape : Shape) (r : ℕ) (list room : List ℕ) where
   -- what is known where no check refuses
@@ -51,8 +46,8 @@ module _ (shape : Shape) (r : ℕ) (list room : List ℕ) where
         shaped = drive .0;
         drives = drive .1;
         proper = list-shows (sizeOf shape) list (orElse-first (listFault (sizeOf shape) list) _ rest);
-        fits = order-shows (length room) (tableLength (layoutOf shape r)) noRoom (omega arith) (orElse-first (refuse (ltb (length room) (tableLength (layoutOf shape r))) noRoom) _ last);
-        enough = order-shows (goodSpares (layoutOf shape r) list) (length (badHomes (layoutOf shape r) list)) noSpare (omega arith) (orElse-next (refuse (ltb (length room) (tableLength (layoutOf shape r))) noRoom) _ last);
+        fits = not-over (length room) (tableLength (layoutOf shape r)) noRoom (omega arith) (orElse-first (refuse (ltb (length room) (tableLength (layoutOf shape r))) noRoom) _ last);
+        enough = not-over (goodSpares (layoutOf shape r) list) (length (badHomes (layoutOf shape r) list)) noSpare (omega arith) (orElse-next (refuse (ltb (length room) (tableLength (layoutOf shape r))) noRoom) _ last);
       }
 
   -- 1, 2, 3, 4, 7 and 13 are given for a first table exactly when the paper says so

@@ -10,12 +10,11 @@ use borrow.Author.Tests.{lt-ltb, le-ltb}
 use Rattle.paper.specs.Checks.{refuse, _orElse_, answer, given}
 use Rattle.paper.specs.Refusals.{tooLong, noRoom}
 use Rattle.paper.specs.Limits.{listMost}
-use Rattle.paper.proofs.Cases.{byLt}
-use Rattle.paper.proofs.Chain.{orElse-some, orElse-first, orElse-next, answer-refused, answer-accepted}
+use Rattle.paper.proofs.Chain.{orElse-some, answer-refused, answer-accepted}
 use Rattle.lists.specs.Union.{written}
 use Rattle.format.specs.Spaces.{newGrown, newList, newSpace, suppliedFault, planFault, formatFault}
 use Rattle.format.specs.Plans.{plannedGrown, plannedList}
-use Rattle.format.proofs.Planning.{Supplied, supplied-shows, planned-grown, planned-list}
+use Rattle.format.proofs.Planning.{Supplied, plan-shows, plan-grown, plan-list, planned-grown, planned-list}
 use Rattle.format.specs.Promises.{saidFormatted, planned, formatted, Formats}
 use Rattle.format.specs.declared.Planned.{Planned}
 use Rattle.format.specs.declared.Planned.the-variants.{Fits, Refused as NotPlanned}
@@ -131,18 +130,11 @@ module _
     fitted = plan-fitted n p g space option d a b fits
 
     pub fitted-supplied : Supplied n p g space option d
-    fitted-supplied = supplied-shows n p g space option d (orElse-first (suppliedFault n p g space option d) _ (fitted .0))
+    fitted-supplied = plan-shows n p g space option d (fitted .0)
 
     pub fitted-short : (a ≤ listMost) × (b ≤ listMost)
     fitted-short =
-        let lengths = orElse-next (suppliedFault n p g space option d) _ (fitted .0) in (
-          rw (fitted .1) (length-shows (newGrown n p g space option d) (orElse-first (refuse (ltb listMost (length (newGrown n p g space option d))) tooLong) _ lengths)),
-          rw (fitted .2) (length-shows (newList n p g space option d) (orElse-next (refuse (ltb listMost (length (newGrown n p g space option d))) tooLong) _ lengths)),
-        )
-      where
-        length-shows : (l : List ℕ) → refuse (ltb listMost (length l)) tooLong ≡ 0 → length l ≤ listMost
-        length-shows l none =
-            byLt listMost (length l) (λ long. absurd (omega (arith, rw (lt-ltb listMost (length l) long) at none))) (λ short. short)
+        (rw (fitted .1) (plan-grown n p g space option d (fitted .0)), rw (fitted .2) (plan-list n p g space option d (fitted .0)))
 
     pub fitted-no-grown : length grown < a → Formats n p g space option d grown list (Refused noRoom) grown list
     fitted-no-grown short = format-no-grown-room n p g space option d grown list (fitted .0) (rw (fitted .1) at short)

@@ -14,7 +14,7 @@ use Rattle.paper.specs.Refusals.{tooLong, badOption}
 use Rattle.paper.specs.Limits.{unitsMost, listMost, Within, sizeFault}
 use Rattle.paper.proofs.Cases.{byBool, byEq, byLt}
 use Rattle.paper.proofs.Chain.{orElse-first, orElse-next}
-use Rattle.paper.proofs.Rows.{Tells, tells-le, tells-eq, tells-both, passed-shows, size-shows}
+use Rattle.paper.proofs.Rows.{Tells, tells-le, tells-eq, tells-both, passed-shows, not-over, size-shows}
 use Rattle.lists.specs.Proper.{Rising, Inside, Proper, listFault}
 use Rattle.lists.specs.Union.{isIn, union}
 use Rattle.lists.proofs.Exact.{list-shows}
@@ -25,7 +25,7 @@ use Rattle.skip.specs.Walk.{passes, walked}
 use Rattle.skip.specs.Translation.{blocks}
 use Rattle.skip.proofs.Walks.{walk-is-place, passes-nil}
 use Rattle.format.specs.Options.{none, inBlocks, inSectors, keep, add, clear, replace, asBefore, optionMost, spaceMost, meaning, grownBy}
-use Rattle.format.specs.Spaces.{listOf, sizeOfD, newGrown, newList, newSpace, optionTaken, OptionTaken, optionFault, suppliedFault}
+use Rattle.format.specs.Spaces.{listOf, sizeOfD, newGrown, newList, newSpace, optionTaken, OptionTaken, optionFault, suppliedFault, planFault}
 use Rattle.format.specs.Walking.{mappedOver, grownOf, listedOf, Ready}
 use Rattle.format.specs.Plans.{sidesOf, noSides, overOf, takesOf, keepsGrown, keptOf, plannedGrown, plannedList}
 
@@ -135,15 +135,23 @@ module _ (n : ℕ) (p g : List ℕ) (space option : ℕ) (d : List ℕ) where
         proper-p = list-shows n p (orElse-first (listFault n p) _ none₂);
         proper-g = list-shows n g (orElse-first (listFault n g) _ none₃);
         taken = passed-shows (tells-taken space option d) badOption (omega arith) (orElse-first (optionFault space option d) _ none₄);
-        used = short (orElse-first (refuse (ltb listMost (length (listOf space p g))) tooLong) _ none₅);
+        used = not-over listMost (length (listOf space p g)) tooLong (omega arith) (orElse-first (refuse (ltb listMost (length (listOf space p g))) tooLong) _ none₅);
         proper-d = list-shows (sizeOfD n p g space option) d none₆;
       }
-    where
-      short : refuse (ltb listMost (length (listOf space p g))) tooLong ≡ 0 → length (listOf space p g) ≤ listMost
-      short none =
-          byLt listMost (length (listOf space p g))
-          (λ long. absurd (omega (arith, rw (lt-ltb listMost (length (listOf space p g)) long) at none)))
-          (λ fits. fits)
+
+  -- what a chain that passes up to the new list's length shows
+  pub plan-shows : planFault n p g space option d ≡ 0 → Supplied n p g space option d
+  plan-shows none = supplied-shows (orElse-first (suppliedFault n p g space option d) _ none)
+
+  pub plan-grown : planFault n p g space option d ≡ 0 → length (newGrown n p g space option d) ≤ listMost
+  plan-grown none =
+      not-over listMost (length (newGrown n p g space option d)) tooLong (omega arith)
+      (orElse-first (refuse (ltb listMost (length (newGrown n p g space option d))) tooLong) _ (orElse-next (suppliedFault n p g space option d) _ none))
+
+  pub plan-list : planFault n p g space option d ≡ 0 → length (newList n p g space option d) ≤ listMost
+  plan-list none =
+      not-over listMost (length (newList n p g space option d)) tooLong (omega arith)
+      (orElse-next (refuse (ltb listMost (length (newGrown n p g space option d))) tooLong) _ (orElse-next (suppliedFault n p g space option d) _ none))
 
   -- the list in use of proper lists rises and lies inside
   module _ (rising-p : Rising p) (rising-g : Rising g) (inside-p : Inside n p) (inside-g : Inside n g) (h : space ≤ spaceMost) where

@@ -12,7 +12,6 @@ use Rattle.paper.specs.Checks.{pick, refuse, _orElse_}
 use Rattle.paper.specs.Refusals.{tooLong}
 use Rattle.paper.specs.Limits.{listMost}
 use Rattle.paper.proofs.Cases.{byEq, byLt}
-use Rattle.paper.proofs.Chain.{orElse-first, orElse-next}
 use Rattle.paper.proofs.Rows.{size-passes}
 use Rattle.lists.specs.Proper.{Rising, Inside, Proper}
 use Rattle.lists.specs.Union.{isIn, union}
@@ -23,7 +22,7 @@ use Rattle.skip.specs.Translation.{blocks}
 use Rattle.skip.proofs.Nights.{sectors-length, rising-sectors, night-place, joined-rising, joined-inside, joined-sectors}
 use Rattle.format.specs.Options.{inBlocks, none, add, spaceMost, meaning, grownBy}
 use Rattle.format.specs.Spaces.{listOf, sizeOfD, newGrown, newList, newSpace, optionTaken, suppliedFault, planFault}
-use Rattle.format.proofs.Planning.{Supplied, supplied-shows, tells-taken, bySpace, used-rising, used-inside}
+use Rattle.format.proofs.Planning.{Supplied, tells-taken, bySpace, used-rising, used-inside, plan-shows, plan-grown, plan-list}
 
 -- an option that adds a list of blocks to the grown list and keeps the space, where the space has a grown list
 pub record Scans (space option : ℕ) : Type 0 where
@@ -55,23 +54,6 @@ module _ (n : ℕ) (p g : List ℕ) (space option : ℕ) (d : List ℕ) where
       )
       (list-passes (sizeOfD n p g space option) d (supplied .proper-d))
 
-  pub plan-supplied : planFault n p g space option d ≡ 0 → Supplied n p g space option d
-  plan-supplied passes = supplied-shows n p g space option d (orElse-first (suppliedFault n p g space option d) _ passes)
-
-  short : (l : List ℕ) → refuse (ltb listMost (length l)) tooLong ≡ 0 → length l ≤ listMost
-  short l passes =
-      byLt listMost (length l) (λ long. absurd (omega (arith, rw (lt-ltb listMost (length l) long) at passes))) (λ fits. fits)
-
-  pub plan-grown : planFault n p g space option d ≡ 0 → length (newGrown n p g space option d) ≤ listMost
-  plan-grown passes =
-      short (newGrown n p g space option d)
-      (orElse-first (refuse (ltb listMost (length (newGrown n p g space option d))) tooLong) _ (orElse-next (suppliedFault n p g space option d) _ passes))
-
-  pub plan-list : planFault n p g space option d ≡ 0 → length (newList n p g space option d) ≤ listMost
-  plan-list passes =
-      short (newList n p g space option d)
-      (orElse-next (refuse (ltb listMost (length (newGrown n p g space option d))) tooLong) _ (orElse-next (suppliedFault n p g space option d) _ passes))
-
   pub plan-passes :
       Supplied n p g space option d → length (newGrown n p g space option d) ≤ listMost → length (newList n p g space option d) ≤ listMost →
       planFault n p g space option d ≡ 0
@@ -87,7 +69,7 @@ module _ (n : ℕ) (p g : List ℕ) (space option : ℕ) (d : List ℕ) where
     A = listOf space p g
 
     supplied : Supplied n p g space option d
-    supplied = plan-supplied passes
+    supplied = plan-shows n p g space option d passes
 
     pub A-rising : Rising A
     A-rising = used-rising n p g space option d (supplied .proper-p .rising) (supplied .proper-g .rising) (supplied .proper-p .inside) (supplied .proper-g .inside) (supplied .taken .space-within)
@@ -165,7 +147,7 @@ module _
         grown-is n p (newGrown n p g space option d) space option e scans
         ∙ (ap (λ (l : List ℕ). union l (sectorsOf n (listOf space p (newGrown n p g space option d)) e)) (grown-is n p g space option d scans)
         ∙ (union-assoc g (sectorsOf n (listOf space p g) d) (sectorsOf n (listOf space p (newGrown n p g space option d)) e)
-        (plan-supplied n p g space option d first .proper-g .rising) M-rising then-rising
+        (plan-shows n p g space option d first .proper-g .rising) M-rising then-rising
         ∙ (ap (λ (l : List ℕ). union g (union (sectorsOf n (listOf space p g) d) (sectorsOf n l e))) used-then
         ∙ (ap (union g) (sym (joined-sectors n (listOf space p g)
         (A-rising n p g space option d scans first)
@@ -184,7 +166,7 @@ module _
     pub joined-supplied : Supplied n p g space option joined
     unfolding joined
     joined-supplied =
-        let was : Supplied n p g space option d = plan-supplied n p g space option d first in
+        let was : Supplied n p g space option d = plan-shows n p g space option d first in
         let rises : Rising (union d (sectorsOf (blocks n (listOf space p g)) d e)) =
         joined-rising n (listOf space p g) (A-rising n p g space option d scans first) (A-inside n p g space option d scans first) d (d-rising n p g space option d scans first) (d-inside n p g space option d scans first) e e-rising e-inside in
         let inside : Inside (blocks n (listOf space p g)) (union d (sectorsOf (blocks n (listOf space p g)) d e)) =

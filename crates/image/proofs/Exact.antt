@@ -13,15 +13,12 @@ use Rattle.paper.specs.Limits.{imageExtra}
 use Rattle.paper.specs.Refusals.{noRoom, wrongLength, noAddress, otherBlock}
 use Rattle.paper.proofs.Cases.{byEq, byLt}
 use Rattle.paper.proofs.Chain.{orElse-none, orElse-first, orElse-next}
-use Rattle.paper.proofs.Rows.{Tells, tells-not, tells-lt, row, rows, passed-shows}
+use Rattle.paper.proofs.Rows.{Tells, tells-not, tells-lt, row, rows, passed-shows, tells-eq}
 use Rattle.image.specs.Code.{complement}
 use Rattle.image.specs.Image.{copiesLeast, times, copies, Stands, headerOf, storedIn, foundIn, lengthFault, addressFault, codeFault, sectorFault, headerFault, imageFault, writeFault}
 use Rattle.image.specs.Judged.{LengthJudged, AddressJudged, SectorJudged, HeaderJudged, ImageJudged, WriteJudged}
 use Rattle.image.proofs.Coding.{good-not-forced}
 use Rattle.image.proofs.Copies.{stands-header}
-
-tells-eq : (a b : ℕ) → Tells (eqb a b) (a ≡ b)
-tells-eq a b = record { holds = eqb-true a b; told = eq-eqb a b }
 
 pub length-exactly : (long : ℕ) (bytes : List ℕ) → Exactly (LengthJudged long bytes) (lengthFault long bytes)
 length-exactly long bytes = row (tells-not (tells-eq (length bytes) long)) wrongLength

@@ -11,11 +11,6 @@ pub head-says : (fault number : ℕ) → saidHead (answer fault NoHead (Number n
 head-says zero number = refl
 head-says (suc fault) number = refl
 
--- a number of a call that refuses is 0
-pub given-refused : (fault number : ℕ) → (fault ≡ 0 → ⊥) → given fault number ≡ 0
-given-refused zero number some = absurd (some refl)
-given-refused (suc fault) number some = refl
-
 pub verdict-says : (fault : ℕ) → saidVerdict (answer fault NotGood Good) ≡ fault
 verdict-says zero = refl
 verdict-says (suc fault) = refl

@@ -9,15 +9,8 @@ use native.Mathlib.Omega.{arith}
 use lib.Dec.{eqb}
 use lib.Arith.{digits-div, digits-mod}
 use Rattle.paper.proofs.Cases.{byBool}
-use Rattle.paper.proofs.Rows.{Tells, tells-eq, tells-both}
+use Rattle.paper.proofs.Rows.{Tells, tells-eq, tells-both, tells-either}
 use Rattle.layout.specs.Descriptors.{atPrimary, elsewhere, codeUnit, wordOf, codeOf, numberOf, Allocated, isAllocated, Names, names}
-
--- either of two tests
-pub tells-either : {s t : Bool} {F G : Type 0} → Tells s F → Tells t G → Tells (s || t) (F ⊎ G)
-tells-either {s} {t} {F} {G} f g = record { holds = held; told = ⊎-elim (λ h. rw (f .told h)) (λ h. byBool s (λ e. rw e) (λ e. rw e (g .told h))) }
-  where
-    held : (s || t) ≡ true → F ⊎ G
-    held e = byBool s (λ h. inl (f .holds h)) (λ h. inr (g .holds (rw h at e)))
 
 -- the parts of a word that is made of a code and a number below the code's unit
 pub code-of-word : (code number : ℕ) → number < codeUnit → codeOf (wordOf code number) ≡ code

@@ -13,12 +13,12 @@ use Rattle.paper.specs.Limits.{pageFrame, entrySize, unitsMost, listingMost}
 use Rattle.paper.specs.Exactly.{Exactly, When, earlier, later}
 use Rattle.paper.proofs.Cases.{byBool}
 use Rattle.paper.proofs.Chain.{orElse-first, orElse-next}
-use Rattle.paper.proofs.Rows.{row, rows, tells-lt}
+use Rattle.paper.proofs.Rows.{row, rows, tells-lt, not-over}
 use Rattle.lists.specs.Proper.{Proper, Inside, LowestFault}
 use Rattle.words.proofs.Runs.{length-entriesAt}
 use Rattle.page.specs.Layout.{LaidOut, kindOf, unitsOf, entryCount, entriesOf, entriesPlace}
 use Rattle.page.specs.Pages.{pageFault, PageJudged}
-use Rattle.page.proofs.Exact.{not-over, page-laid-out, page-exactly}
+use Rattle.page.proofs.Exact.{page-laid-out, page-exactly}
 use Rattle.page.proofs.Back.{read-proper}
 use Rattle.page.proofs.Bytes.{stored-written}
 use Rattle.listing_text.specs.Text.{ListingJudged, listing, listingFault, refusedWord, line, lineMost, listingRoom, frameText, entriesText, pageText, Puts, Lists}

@@ -14,18 +14,11 @@ use Rattle.paper.specs.Limits.{pageFrame, entrySize, pageMost, kindMost, unitsM
 use Rattle.paper.specs.Exactly.{Exactly}
 use Rattle.paper.proofs.Cases.{byLt}
 use Rattle.paper.proofs.Chain.{orElse-first, orElse-next}
-use Rattle.paper.proofs.Rows.{Tells, tells-false, tells-not, tells-both, tells-lt, tells-le, tells-within, passed-shows, row, rows, size-exactly, size-shows}
+use Rattle.paper.proofs.Rows.{Tells, tells-false, tells-not, tells-both, tells-lt, tells-le, tells-within, passed-shows, row, rows, size-exactly, size-shows, tells-eq, not-over}
 use Rattle.lists.specs.Proper.{Proper, placesFault, listFault}
 use Rattle.lists.proofs.Exact.{places-exactly, list-exactly, list-shows}
 use Rattle.page.specs.Layout.{lengthOf, version, versionOf, kindOf, unitsOf, entryCount, entriesOf, endOf, allOnes, Broken, LaidOut, laidOut}
 use Rattle.page.specs.Pages.{pageFault, readFault, writeFault, pageLength, PageJudged, ReadJudged, WriteJudged}
-
-tells-eq : (a b : ℕ) → Tells (eqb a b) (a ≡ b)
-tells-eq a b = record { holds = eqb-true a b; told = eq-eqb a b }
-
--- a comparison that refuses nothing shows the other order
-pub not-over : (a b number : ℕ) → 0 < number → refuse (ltb a b) number ≡ 0 → b ≤ a
-not-over a b number some none = byLt a b (λ less. absurd (omega (arith, rw (lt-ltb a b less) at none))) (λ h. h)
 
 -- the first of the tests that fails gives its cause
 cause :

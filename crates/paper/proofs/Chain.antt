@@ -41,6 +41,11 @@ module _ {ℓ} {X : Type ℓ} where
   pub answer-accepted : (fault : ℕ) (refused : ℕ → X) (accepted : X) → fault ≡ 0 → answer fault refused accepted ≡ accepted
   answer-accepted fault refused accepted none = rw none
 
+-- a number of a call that refuses is 0
+pub given-refused : (fault number : ℕ) → (fault ≡ 0 → ⊥) → given fault number ≡ 0
+given-refused zero number some = absurd (some refl)
+given-refused (suc fault) number some = refl
+
 -- what an answer says
 pub placed-says : (fault sector : ℕ) → saidPlaced (answer fault NotPlaced (At sector)) ≡ (fault, given fault sector)
 placed-says zero sector = refl

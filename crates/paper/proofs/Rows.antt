@@ -3,6 +3,7 @@
 use Prim.Native.Nat.{ℕ, zero, suc, _<_, _≤_}
 use mathlib.Core.Path.{_≡_, refl, sym, _∙_}
 use mathlib.Core.Bool.{Bool, true, false, not, _&&_, _||_, true≢false}
+use mathlib.Core.Logic.{_⊎_, inl, inr, ⊎-elim}
 use native.Mathlib.Omega.{arith}
 use lib.Dec.{leb, ltb, eqb}
 use borrow.Author.Tests.{ltb-true, lt-ltb, leb-true, le-leb, eqb-true, eq-eqb, not-true}
@@ -10,7 +11,7 @@ use Rattle.paper.specs.Checks.{refuse, _orElse_}
 use Rattle.paper.specs.Exactly.{When, _andThen_, earlier, later, Exactly}
 use Rattle.paper.specs.Limits.{Within, within, unitsMost, sizeFault, SizeJudged}
 use Rattle.paper.specs.Refusals.{outOfRange}
-use Rattle.paper.proofs.Cases.{byBool, byFault}
+use Rattle.paper.proofs.Cases.{byBool, byLt, byFault}
 use Rattle.paper.proofs.Chain.{orElse-some, orElse-none}
 
 -- a test holds exactly where the condition does
@@ -82,6 +83,12 @@ tells-both {s} {t} f g =
       told = λ h. rw (f .told (h .0), g .told (h .1));
     }
 
+pub tells-either : {s t : Bool} {F G : Type 0} → Tells s F → Tells t G → Tells (s || t) (F ⊎ G)
+tells-either {s} {t} {F} {G} f g = record { holds = held; told = ⊎-elim (λ h. rw (f .told h)) (λ h. byBool s (λ e. rw e) (λ e. rw e (g .told h))) }
+  where
+    held : (s || t) ≡ true → F ⊎ G
+    held e = byBool s (λ h. inl (f .holds h)) (λ h. inr (g .holds (rw h at e)))
+
 pub tells-within : (least most number : ℕ) → Tells (within least most number) (Within least most number)
 tells-within least most number = tells-both (tells-le least number) (tells-le number most)
 
@@ -96,6 +103,19 @@ passed-shows {test} tells number some none =
 -- and that its fault is absent, where the test tells the fault
 pub passed-not : {test : Bool} {Fault : Type 0} → Tells test Fault → (number : ℕ) → 0 < number → refuse test number ≡ 0 → Fault → ⊥
 passed-not tells number some none fault = let zero-given : number ≡ 0 = rw (tells .told fault) at none in omega arith
+
+-- a comparison that refuses nothing shows the other order
+pub not-over : (most number refusal : ℕ) → 0 < refusal → refuse (ltb most number) refusal ≡ 0 → number ≤ most
+not-over most number refusal some none =
+    byLt most number
+    (λ over. let given : refusal ≡ 0 = rw (lt-ltb most number over) at none in absurd (omega arith))
+    (λ fits. fits)
+
+pub below-shows : (bound number refusal : ℕ) → 0 < refusal → refuse (leb bound number) refusal ≡ 0 → number < bound
+below-shows bound number refusal some none =
+    byLt number bound
+    (λ less. less)
+    (λ more. let given : refusal ≡ 0 = rw (le-leb bound number more) at none in absurd (omega arith))
 
 pub size-shows : (n : ℕ) → sizeFault n ≡ 0 → Within 1 unitsMost n
 size-shows n = passed-shows (tells-within 1 unitsMost n) outOfRange (omega arith)

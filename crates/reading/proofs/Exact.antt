@@ -12,12 +12,11 @@ use Rattle.paper.specs.Exactly.{Exactly, _andThen_}
 use Rattle.paper.specs.Refusals.{noSuchBlock, wrongLength}
 use Rattle.paper.proofs.Cases.{byLt, byEq}
 use Rattle.paper.proofs.Chain.{orElse-assoc, orElse-first, orElse-next}
-use Rattle.paper.proofs.Rows.{Tells, tells-eq, tells-le, tells-not, row, rows, rows-passed}
+use Rattle.paper.proofs.Rows.{Tells, tells-eq, tells-le, tells-not, row, rows, rows-passed, tells-either}
 use Rattle.shape.specs.declared.Shape.{Shape}
 use Rattle.shape.specs.Shapes.{Shaped}
 use Rattle.layout.specs.declared.Layout.{Layout}
 use Rattle.layout.specs.Layouts.{Drives, Laid, layoutOf, driveFault}
-use Rattle.layout.proofs.Words.{tells-either}
 use Rattle.layout.proofs.Exact.{drive-shows}
 use Rattle.table.specs.Rules.{Obeys, tableFault, TableJudged}
 use Rattle.table.proofs.Exact.{table-shows, table-exactly}

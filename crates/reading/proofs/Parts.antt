@@ -7,13 +7,12 @@ use native.Mathlib.Omega.{arith}
 use lib.ListN.{length}
 use denote.Ref.{RefT}
 use Rattle.paper.proofs.Cases.{byBool, byFault}
-use Rattle.paper.proofs.Chain.{answer-refused, answer-accepted}
+use Rattle.paper.proofs.Chain.{answer-refused, answer-accepted, given-refused}
 use Rattle.shape.specs.declared.Shape.{Shape}
 use Rattle.layout.specs.Layouts.{layoutOf}
 use Rattle.table.specs.Lookup.{isReplaced}
 use Rattle.image.specs.Image.{dataOf}
 use Rattle.image.specs.Promises.{Lends}
-use Rattle.image.proofs.Says.{given-refused}
 use Rattle.image.proofs.Images.{length-data}
 use Rattle.reading.specs.declared.answers.Spot.the-variants.{Refused as NotSpotted}
 use Rattle.reading.specs.Tracks.{trackOf, startOf, dataStart, imageFor}

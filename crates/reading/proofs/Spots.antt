@@ -11,7 +11,7 @@ use denote.Ref.{RefT}
 use Rattle.paper.specs.Checks.{pick, answer, given}
 use Rattle.paper.specs.Limits.{sectorsMost, imageExtra}
 use Rattle.paper.proofs.Cases.{byBool, byFault}
-use Rattle.paper.proofs.Chain.{orElse-some, orElse-none, orElse-first, answer-refused}
+use Rattle.paper.proofs.Chain.{orElse-some, orElse-none, orElse-first, answer-refused, given-refused}
 use Rattle.paper.proofs.Kept.{gives}
 use Rattle.shape.specs.declared.Shape.{Shape}
 use Rattle.layout.specs.declared.Layout.{Layout}
@@ -19,7 +19,6 @@ use Rattle.layout.specs.Layouts.{layoutOf}
 use Rattle.layout.proofs.Layings.{track-whole}
 use Rattle.table.specs.Lookup.{isReplaced}
 use Rattle.image.specs.Image.{sectorFault}
-use Rattle.image.proofs.Says.{given-refused}
 use Rattle.reading.specs.declared.Seat.{Seat}
 use Rattle.reading.specs.declared.answers.Spot.{Spot}
 use Rattle.reading.specs.declared.answers.Spot.the-variants.{InHome, InSpare, Refused as NotSpotted}

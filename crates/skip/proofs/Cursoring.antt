@@ -10,7 +10,7 @@ use lib.ListN.{length}
 use Rattle.paper.specs.Checks.{refuse, _orElse_, answer, given}
 use Rattle.paper.specs.Refusals.{noSuchBlock, strayCursor}
 use Rattle.paper.proofs.Chain.{orElse-first, orElse-next, answer-refused, answer-accepted}
-use Rattle.paper.proofs.Rows.{Tells, tells-le, tells-eq, tells-both, passed-shows}
+use Rattle.paper.proofs.Rows.{Tells, tells-le, tells-eq, tells-both, passed-shows, below-shows}
 use Rattle.lists.specs.Proper.{Proper, spaceFault}
 use Rattle.lists.specs.Union.{isIn}
 use Rattle.lists.proofs.Exact.{space-list, space-size}
@@ -24,7 +24,7 @@ use Rattle.skip.specs.Promises.{saidJob}
 use Rattle.skip.specs.declared.Cursor.{Cursor}
 use Rattle.skip.specs.declared.Job.{Job}
 use Rattle.skip.specs.declared.Job.the-variants.{Ready, At, Refused}
-use Rattle.skip.proofs.Shown.{below-shows, block-proper, block-below}
+use Rattle.skip.proofs.Shown.{block-proper, block-below}
 use Rattle.skip.proofs.Walks.{below-place, passes-mono, walk-is-place}
 
 -- the count before a block is what the block before it passes

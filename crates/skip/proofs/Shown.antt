@@ -6,6 +6,7 @@ use mathlib.Core.List.{List}
 use native.Mathlib.Omega.{arith}
 use lib.Dec.{leb}
 use borrow.Author.Tests.{le-leb}
+use Rattle.paper.proofs.Rows.{below-shows}
 use Rattle.paper.specs.Checks.{refuse, _orElse_}
 use Rattle.paper.specs.Refusals.{noSuchBlock, noSuchSector}
 use Rattle.paper.specs.Limits.{unitsMost}
@@ -18,13 +19,6 @@ use Rattle.skip.specs.Skipping.{place}
 use Rattle.skip.specs.Walk.{walked}
 use Rattle.skip.specs.Translation.{blocks, blockFault, sectorFault}
 use Rattle.skip.proofs.Walks.{walk-is-place}
-
--- a number that is not refused is below its bound
-pub below-shows : (bound number refusal : ℕ) → 0 < refusal → refuse (leb bound number) refusal ≡ 0 → number < bound
-below-shows bound number refusal some none =
-    byLt number bound
-    (λ less. less)
-    (λ more. let given : refusal ≡ 0 = rw (le-leb bound number more) at none in absurd (omega arith))
 
 module _ (n : ℕ) (a : List ℕ) where
   pub block-space : (b : ℕ) → blockFault n a b ≡ 0 → spaceFault n a ≡ 0

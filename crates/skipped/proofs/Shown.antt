@@ -5,6 +5,7 @@ use mathlib.Core.Path.{_≡_, sym, _∙_}
 use mathlib.Core.List.{List}
 use native.Mathlib.Omega.{arith}
 use lib.Dec.{leb}
+use Rattle.paper.proofs.Rows.{below-shows}
 use Rattle.paper.specs.Checks.{refuse}
 use Rattle.paper.specs.Refusals.{noSuchBlock}
 use Rattle.paper.specs.Limits.{unitsMost}
@@ -20,7 +21,6 @@ use Rattle.shape.proofs.Bounds.{size-fits}
 use Rattle.skip.specs.Skipping.{place}
 use Rattle.skip.specs.Walk.{walked}
 use Rattle.skip.specs.Translation.{blocks}
-use Rattle.skip.proofs.Shown.{below-shows}
 use Rattle.skip.proofs.Walks.{walk-is-place}
 use Rattle.skipped.specs.Drive.{driveFault, blockFault, placeFault}
 

@@ -8,12 +8,12 @@ use native.Mathlib.Omega.{arith}
 use lib.Dec.{eqb, ltb}
 use borrow.Author.Tests.{le-leb, lt-leb, eq-eqb, ne-eqb, not-true}
 use Rattle.paper.proofs.Cases.{byBool, byLt, byEq}
-use Rattle.paper.proofs.Rows.{Tells, tells-eq, tells-lt, tells-both, tells-false}
+use Rattle.paper.proofs.Rows.{Tells, tells-eq, tells-lt, tells-both, tells-false, tells-either}
 use Rattle.layout.specs.declared.Layout.{Layout}
 use Rattle.layout.specs.Layouts.{Laid}
 use Rattle.layout.specs.Descriptors.{free, atPrimary, elsewhere, unusable, null, codeUnit, wordOf, codeOf, numberOf, primary, Allocated, names}
 use Rattle.layout.proofs.Sectors.{blocks-few}
-use Rattle.layout.proofs.Words.{tells-either, code-of-word, number-of-word, tells-bare, tells-names}
+use Rattle.layout.proofs.Words.{code-of-word, number-of-word, tells-bare, tells-names}
 use Rattle.table.specs.Rules.{codeAt, mayStand, Misplaced, null-missing, null-early, unknown-code, number-carried, no-home, not-primary, is-primary}
 
 -- what the word w is where it may stand at place q

@@ -3,9 +3,8 @@
 use borrow.Author.Needs.{needs}
 use mathlib.Core.Path.{_≡_, sym, _∙_}
 use native.Mathlib.Omega.{arith}
-use Rattle.paper.proofs.Chain.{answer-refused, answer-accepted}
+use Rattle.paper.proofs.Chain.{answer-refused, answer-accepted, given-refused}
 use Rattle.image.specs.Image.{headerSize, imageFault}
-use Rattle.image.proofs.Says.{given-refused}
 use Rattle.image.proofs.Exact.{image-length}
 use Rattle.image.proofs.Images.{data-part}
 use Rattle.image.proofs.data_sized.Statement.{statement}
