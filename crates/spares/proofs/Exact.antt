@@ -32,6 +32,10 @@ pub record Ready (shape : Shape) (r : ℕ) (t : List ℕ) : Type 0 where
   pub laid : Laid (layoutOf shape r)
   pub obeys : Obeys (layoutOf shape r) t
 
+-- a sector below N is one of the layout's
+pub sector-within : {shape : Shape} {r s : ℕ} → Drives shape r → s < sizeOf shape → s < layoutOf shape r .tracks * sectorsOf (layoutOf shape r)
+sector-within drives below = rw (drive-whole drives) below
+
 module _ (shape : Shape) (r : ℕ) (t : List ℕ) where
   pub table-ready : tableFault shape r t ≡ 0 → Ready shape r t
   table-ready none =
@@ -67,10 +71,6 @@ module _ (shape : Shape) (r : ℕ) (t : List ℕ) where
         rows (When alreadyReplaced (Replaced t b)) (When noSpare (NoneFree t))
         (row (tells-replaced t b) alreadyReplaced)
         (row (tells-none-free (ready .laid) (ready .obeys) (block-below none)) noSpare))
-
-  -- a sector below N is one of the layout's
-  pub sector-within : {s : ℕ} → Drives shape r → s < sizeOf shape → s < layoutOf shape r .tracks * sectorsOf (layoutOf shape r)
-  sector-within drives below = rw (drive-whole drives) below
 
   pub block-on-exactly : (s : ℕ) → Exactly (BlockOnJudged shape r t s) (blockOnFault shape r t s)
   block-on-exactly s =

@@ -18,20 +18,23 @@ returns c = gives (located-says _ _) (rw (← c .before .block-fault .ensures) (
 
 layout-of-requires : tie.Need-layout-of-requires
 layout-of-requires c κs =
+    let a = c .before .before .before .args in
     let none = sym (c .before .block-fault .ensures) ∙ c .if1 .left in
-    let ready = block-ready (c .before .before .before .args .shape) (c .before .before .before .args .r) (now (c .before .before .before .args .table)) (c .before .before .before .args .block) none in
+    let ready = block-ready (a .shape) (a .r) (now (a .table)) (a .block) none in
     (ready .shaped, ready .drives)
 
 lies-on-requires : tie.Need-lies-on-requires
 lies-on-requires c κs =
+    let a = c .before .before .before .before .args in
     let none = sym (c .before .before .block-fault .ensures) ∙ c .before .if1 .left in
-    let ready = block-ready (c .before .before .before .before .args .shape) (c .before .before .before .before .args .r) (now (c .before .before .before .before .args .table)) (c .before .before .before .before .args .block) none in
-    rw (c .layout-of .ensures) (ready .laid, (ready .obeys, block-below (c .before .before .before .before .args .shape) (c .before .before .before .before .args .r) (now (c .before .before .before .before .args .table)) (c .before .before .before .before .args .block) none))
+    let ready = block-ready (a .shape) (a .r) (now (a .table)) (a .block) none in
+    rw (c .layout-of .ensures) (ready .laid, (ready .obeys, block-below (a .shape) (a .r) (now (a .table)) (a .block) none))
 
 address-at-requires : tie.Need-address-at-requires
 address-at-requires c κs =
+    let a = c .before .before .before .before .before .args in
     let none = sym (c .before .before .before .block-fault .ensures) ∙ c .before .before .if1 .left in
-    let ready = block-ready (c .before .before .before .before .before .args .shape) (c .before .before .before .before .before .args .r) (now (c .before .before .before .before .before .args .table)) (c .before .before .before .before .before .args .block) none in
+    let ready = block-ready (a .shape) (a .r) (now (a .table)) (a .block) none in
     ready .shaped
 
 returns-2 : tie.Need-returns-2

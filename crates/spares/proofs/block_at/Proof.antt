@@ -18,32 +18,41 @@ table-fault-requires : tie.Need-table-fault-requires
 table-fault-requires c κs = search needs
 
 returns : tie.Need-returns
-returns c = gives (lying-says _ (layoutOf (c .before .before .before .args .shape) (c .before .before .before .args .r)) (now (c .before .before .before .args .table)) (sectorAt (c .before .before .before .args .shape) (c .before .before .before .args .cylinder) (c .before .before .before .args .head) (c .before .before .before .args .sector))) (rw (← c .before .table-fault .ensures, orElse-some _ _ (c .if1 .taken)) (sym (answer-refused _ _ _ (c .if1 .taken))))
+returns c =
+    let a = c .before .before .before .args in
+    gives (lying-says _ (layoutOf (a .shape) (a .r)) (now (a .table)) (sectorAt (a .shape) (a .cylinder) (a .head) (a .sector))) (rw (← c .before .table-fault .ensures, orElse-some _ _ (c .if1 .taken)) (sym (answer-refused _ _ _ (c .if1 .taken))))
 
 place-fault-requires : tie.Need-place-fault-requires
 place-fault-requires c κs = search needs
 
 returns-2 : tie.Need-returns-2
-returns-2 c = gives (lying-says _ (layoutOf (c .before .before .before .before .before .args .shape) (c .before .before .before .before .before .args .r)) (now (c .before .before .before .before .before .args .table)) (sectorAt (c .before .before .before .before .before .args .shape) (c .before .before .before .before .before .args .cylinder) (c .before .before .before .before .before .args .head) (c .before .before .before .before .before .args .sector))) (rw (← c .before .before .before .table-fault .ensures, c .before .before .if1 .left, ← c .before .place-fault .ensures) (sym (answer-refused _ _ _ (c .if2 .taken))))
+returns-2 c =
+    let a = c .before .before .before .before .before .args in
+    gives (lying-says _ (layoutOf (a .shape) (a .r)) (now (a .table)) (sectorAt (a .shape) (a .cylinder) (a .head) (a .sector))) (rw (← c .before .before .before .table-fault .ensures, c .before .before .if1 .left, ← c .before .place-fault .ensures) (sym (answer-refused _ _ _ (c .if2 .taken))))
 
 sector-at-requires : tie.Need-sector-at-requires
 sector-at-requires c κs =
-    let ready = table-ready (c .before .before .before .before .before .args .shape) (c .before .before .before .before .before .args .r) (now (c .before .before .before .before .before .args .table)) (sym (c .before .before .before .table-fault .ensures) ∙ c .before .before .if1 .left) in
+    let a = c .before .before .before .before .before .args in
+    let ready = table-ready (a .shape) (a .r) (now (a .table)) (sym (c .before .before .before .table-fault .ensures) ∙ c .before .before .if1 .left) in
     (ready .shaped, place-shows _ _ _ _ (sym (c .before .place-fault .ensures) ∙ c .if2 .left))
 
 layout-of-requires : tie.Need-layout-of-requires
 layout-of-requires c κs =
-    let ready = table-ready (c .before .before .before .before .before .before .args .shape) (c .before .before .before .before .before .before .args .r) (now (c .before .before .before .before .before .before .args .table)) (sym (c .before .before .before .before .table-fault .ensures) ∙ c .before .before .before .if1 .left) in
+    let a = c .before .before .before .before .before .before .args in
+    let ready = table-ready (a .shape) (a .r) (now (a .table)) (sym (c .before .before .before .before .table-fault .ensures) ∙ c .before .before .before .if1 .left) in
     (ready .shaped, ready .drives)
 
 lying-on-requires : tie.Need-lying-on-requires
 lying-on-requires c κs =
-    let ready = table-ready (c .before .before .before .before .before .before .before .args .shape) (c .before .before .before .before .before .before .before .args .r) (now (c .before .before .before .before .before .before .before .args .table)) (sym (c .before .before .before .before .before .table-fault .ensures) ∙ c .before .before .before .before .if1 .left) in
-    let on-drive = place-shows (c .before .before .before .before .before .before .before .args .shape) (c .before .before .before .before .before .before .before .args .cylinder) (c .before .before .before .before .before .before .before .args .head) (c .before .before .before .before .before .before .before .args .sector) (sym (c .before .before .before .place-fault .ensures) ∙ c .before .before .if2 .left) in
-    rw (c .layout-of .ensures, c .before .sector-at .ensures) (ready .laid, (ready .obeys, sector-within (c .before .before .before .before .before .before .before .args .shape) (c .before .before .before .before .before .before .before .args .r) (now (c .before .before .before .before .before .before .before .args .table)) (ready .drives) (sector-below (ready .shaped) on-drive)))
+    let a = c .before .before .before .before .before .before .before .args in
+    let ready = table-ready (a .shape) (a .r) (now (a .table)) (sym (c .before .before .before .before .before .table-fault .ensures) ∙ c .before .before .before .before .if1 .left) in
+    let on-drive = place-shows (a .shape) (a .cylinder) (a .head) (a .sector) (sym (c .before .before .before .place-fault .ensures) ∙ c .before .before .if2 .left) in
+    rw (c .layout-of .ensures, c .before .sector-at .ensures) (ready .laid, (ready .obeys, sector-within (ready .drives) (sector-below (ready .shaped) on-drive)))
 
 returns-3 : tie.Need-returns-3
-returns-3 c = gives (lying-says _ (layoutOf (c .before .before .before .before .before .before .before .before .args .shape) (c .before .before .before .before .before .before .before .before .args .r)) (now (c .before .before .before .before .before .before .before .before .args .table)) (sectorAt (c .before .before .before .before .before .before .before .before .args .shape) (c .before .before .before .before .before .before .before .before .args .cylinder) (c .before .before .before .before .before .before .before .before .args .head) (c .before .before .before .before .before .before .before .before .args .sector))) (rw (← c .before .before .before .before .before .before .table-fault .ensures, c .before .before .before .before .before .if1 .left, ← c .before .before .before .before .place-fault .ensures, c .before .before .before .if2 .left, c .lying-on .ensures, c .before .layout-of .ensures, c .before .before .sector-at .ensures))
+returns-3 c =
+    let a = c .before .before .before .before .before .before .before .before .args in
+    gives (lying-says _ (layoutOf (a .shape) (a .r)) (now (a .table)) (sectorAt (a .shape) (a .cylinder) (a .head) (a .sector))) (rw (← c .before .before .before .before .before .before .table-fault .ensures, c .before .before .before .before .before .if1 .left, ← c .before .before .before .before .place-fault .ensures, c .before .before .before .if2 .left, c .lying-on .ensures, c .before .layout-of .ensures, c .before .before .sector-at .ensures))
 
 pub block-at-spec : {M : Type 1} → statement M
 block-at-spec =

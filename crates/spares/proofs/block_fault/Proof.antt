@@ -2,6 +2,9 @@
 -- Assumes nothing.
 use borrow.Author.Needs.{needs}
 use mathlib.Core.Path.{sym, _∙_}
+use Prim.Native.Nat.{_<_, _≤_}
+use native.Mathlib.Omega.{arith}
+use Rattle.layout.specs.Layouts.{layoutOf}
 use borrow.Author.Tests.{le-leb, lt-leb}
 use denote.Ref.{now}
 use Rattle.paper.proofs.Chain.{orElse-some}
@@ -17,14 +20,21 @@ returns c = rw (← c .before .table-fault .ensures) (sym (orElse-some _ _ (c .i
 
 layout-of-requires : tie.Need-layout-of-requires
 layout-of-requires c κs =
-    let ready = table-ready (c .before .before .before .args .shape) (c .before .before .before .args .r) (now (c .before .before .before .args .table)) (sym (c .before .table-fault .ensures) ∙ c .if1 .left) in
+    let a = c .before .before .before .args in
+    let ready = table-ready (a .shape) (a .r) (now (a .table)) (sym (c .before .table-fault .ensures) ∙ c .if1 .left) in
     (ready .shaped, ready .drives)
 
 returns-2 : tie.Need-returns-2
-returns-2 c = rw (← c .before .before .before .before .table-fault .ensures, c .before .before .before .if1 .left, le-leb _ _ (rw (c .before .before .layout-of .ensures) at (c .if2 .taken)))
+returns-2 c =
+    let a = c .before .before .before .before .before .before .args in
+    let past : layoutOf (a .shape) (a .r) .blocks ≤ a .block = omega (arith, rw (c .before .before .layout-of .ensures) at (c .if2 .taken)) in
+    rw (← c .before .before .before .before .table-fault .ensures, c .before .before .before .if1 .left, le-leb _ _ past)
 
 returns-3 : tie.Need-returns-3
-returns-3 c = rw (← c .before .before .before .before .table-fault .ensures, c .before .before .before .if1 .left, lt-leb _ _ (rw (c .before .before .layout-of .ensures) at (c .if2 .left)))
+returns-3 c =
+    let a = c .before .before .before .before .before .before .args in
+    let below : a .block < layoutOf (a .shape) (a .r) .blocks = omega (arith, rw (c .before .before .layout-of .ensures) at (c .if2 .left)) in
+    rw (← c .before .before .before .before .table-fault .ensures, c .before .before .before .if1 .left, lt-leb _ _ below)
 
 pub block-fault-spec : {M : Type 1} → statement M
 block-fault-spec =

@@ -2,6 +2,9 @@
 -- Assumes nothing.
 use borrow.Author.Needs.{needs}
 use mathlib.Core.Path.{sym, _∙_}
+use Prim.Native.Nat.{_<_, _≤_}
+use native.Mathlib.Omega.{arith}
+use Rattle.shape.specs.Shapes.{sizeOf}
 use borrow.Author.Tests.{le-leb, lt-leb}
 use denote.Ref.{now}
 use Rattle.paper.proofs.Chain.{orElse-some, answer-refused}
@@ -16,28 +19,40 @@ table-fault-requires : tie.Need-table-fault-requires
 table-fault-requires c κs = search needs
 
 returns : tie.Need-returns
-returns c = gives (lying-says _ (layoutOf (c .before .before .before .args .shape) (c .before .before .before .args .r)) (now (c .before .before .before .args .table)) (c .before .before .before .args .sector)) (rw (← c .before .table-fault .ensures, orElse-some _ _ (c .if1 .taken)) (sym (answer-refused _ _ _ (c .if1 .taken))))
+returns c =
+    let a = c .before .before .before .args in
+    gives (lying-says _ (layoutOf (a .shape) (a .r)) (now (a .table)) (a .sector)) (rw (← c .before .table-fault .ensures, orElse-some _ _ (c .if1 .taken)) (sym (answer-refused _ _ _ (c .if1 .taken))))
 
 size-of-requires : tie.Need-size-of-requires
 size-of-requires c κs =
-    let ready = table-ready (c .before .before .before .args .shape) (c .before .before .before .args .r) (now (c .before .before .before .args .table)) (sym (c .before .table-fault .ensures) ∙ c .if1 .left) in
+    let a = c .before .before .before .args in
+    let ready = table-ready (a .shape) (a .r) (now (a .table)) (sym (c .before .table-fault .ensures) ∙ c .if1 .left) in
     ready .shaped
 
 returns-2 : tie.Need-returns-2
-returns-2 c = gives (lying-says _ (layoutOf (c .before .before .before .before .before .args .shape) (c .before .before .before .before .before .args .r)) (now (c .before .before .before .before .before .args .table)) (c .before .before .before .before .before .args .sector)) (rw (← c .before .before .before .table-fault .ensures, c .before .before .if1 .left, ← c .before .size-of .ensures, le-leb _ _ (c .if2 .taken)))
+returns-2 c =
+    let a = c .before .before .before .before .before .args in
+    let past : c .before .size-of .result ≤ a .sector = omega arith in
+    gives (lying-says _ (layoutOf (a .shape) (a .r)) (now (a .table)) (a .sector)) (rw (← c .before .before .before .table-fault .ensures, c .before .before .if1 .left, ← c .before .size-of .ensures, le-leb _ _ past))
 
 layout-of-requires : tie.Need-layout-of-requires
 layout-of-requires c κs =
-    let ready = table-ready (c .before .before .before .before .before .args .shape) (c .before .before .before .before .before .args .r) (now (c .before .before .before .before .before .args .table)) (sym (c .before .before .before .table-fault .ensures) ∙ c .before .before .if1 .left) in
+    let a = c .before .before .before .before .before .args in
+    let ready = table-ready (a .shape) (a .r) (now (a .table)) (sym (c .before .before .before .table-fault .ensures) ∙ c .before .before .if1 .left) in
     (ready .shaped, ready .drives)
 
 lying-on-requires : tie.Need-lying-on-requires
 lying-on-requires c κs =
-    let ready = table-ready (c .before .before .before .before .before .before .args .shape) (c .before .before .before .before .before .before .args .r) (now (c .before .before .before .before .before .before .args .table)) (sym (c .before .before .before .before .table-fault .ensures) ∙ c .before .before .before .if1 .left) in
-    rw (c .layout-of .ensures) (ready .laid, (ready .obeys, sector-within (c .before .before .before .before .before .before .args .shape) (c .before .before .before .before .before .before .args .r) (now (c .before .before .before .before .before .before .args .table)) (ready .drives) (rw (c .before .before .size-of .ensures) at (c .before .if2 .left))))
+    let a = c .before .before .before .before .before .before .args in
+    let ready = table-ready (a .shape) (a .r) (now (a .table)) (sym (c .before .before .before .before .table-fault .ensures) ∙ c .before .before .before .if1 .left) in
+    let below : a .sector < sizeOf (a .shape) = omega (arith, c .before .before .size-of .ensures) in
+    rw (c .layout-of .ensures) (ready .laid, (ready .obeys, sector-within (ready .drives) below))
 
 returns-3 : tie.Need-returns-3
-returns-3 c = gives (lying-says _ (layoutOf (c .before .before .before .before .before .before .before .args .shape) (c .before .before .before .before .before .before .before .args .r)) (now (c .before .before .before .before .before .before .before .args .table)) (c .before .before .before .before .before .before .before .args .sector)) (rw (← c .before .before .before .before .before .table-fault .ensures, c .before .before .before .before .if1 .left, ← c .before .before .before .size-of .ensures, lt-leb _ _ (c .before .before .if2 .left), c .lying-on .ensures, c .before .layout-of .ensures))
+returns-3 c =
+    let a = c .before .before .before .before .before .before .before .args in
+    let below : a .sector < c .before .before .before .size-of .result = omega arith in
+    gives (lying-says _ (layoutOf (a .shape) (a .r)) (now (a .table)) (a .sector)) (rw (← c .before .before .before .before .before .table-fault .ensures, c .before .before .before .before .if1 .left, ← c .before .before .before .size-of .ensures, lt-leb _ _ below, c .lying-on .ensures, c .before .layout-of .ensures))
 
 pub block-on-spec : {M : Type 1} → statement M
 block-on-spec =

@@ -20,7 +20,8 @@ returns c = gives (counted-says _ _) (rw (← c .before .table-fault .ensures) (
 
 census-of-requires : tie.Need-census-of-requires
 census-of-requires c κs =
-    let ready = table-ready (c .before .before .before .args .shape) (c .before .before .before .args .r) (now (c .before .before .before .args .table)) (sym (c .before .table-fault .ensures) ∙ c .if1 .left) in
+    let a = c .before .before .before .args in
+    let ready = table-ready (a .shape) (a .r) (now (a .table)) (sym (c .before .table-fault .ensures) ∙ c .if1 .left) in
     omega (arith, ready .obeys .long, table-few (ready .laid))
 
 returns-2 : tie.Need-returns-2

@@ -35,42 +35,48 @@ same-length-2 c = search needs
 
 returns-2 : tie.Need-returns-2
 returns-2 c =
+    let a = c .before .before .before .before .before .before .before .args in
     let none = sym (c .before .before .before .before .block-fault .ensures) ∙ c .before .before .before .if1 .left in
-    let fault = replace-twice (c .before .before .before .before .before .before .before .args .shape) (c .before .before .before .before .before .before .before .args .r) (now (c .before .before .before .before .before .before .before .args .table)) (c .before .before .before .before .before .before .before .args .block) none (rw (← c .before .place-of .ensures) (lt-ltb _ _ (c .if2 .taken))) in
+    let fault = replace-twice (a .shape) (a .r) (now (a .table)) (a .block) none (rw (← c .before .place-of .ensures) (lt-ltb _ _ (c .if2 .taken))) in
     fills (replaced-says _ _) (rw fault) (rw fault)
 
 layout-of-requires : tie.Need-layout-of-requires
 layout-of-requires c κs =
+    let a = c .before .before .before .before .before .before .before .args in
     let none = sym (c .before .before .before .before .block-fault .ensures) ∙ c .before .before .before .if1 .left in
-    let ready = block-ready (c .before .before .before .before .before .before .before .args .shape) (c .before .before .before .before .before .before .before .args .r) (now (c .before .before .before .before .before .before .before .args .table)) (c .before .before .before .before .before .before .before .args .block) none in
+    let ready = block-ready (a .shape) (a .r) (now (a .table)) (a .block) none in
     (ready .shaped, ready .drives)
 
 spare-for-requires : tie.Need-spare-for-requires
 spare-for-requires c κs =
+    let a = c .before .before .before .before .before .before .before .before .before .args in
     let none = sym (c .before .before .before .before .before .before .block-fault .ensures) ∙ c .before .before .before .before .before .if1 .left in
-    let ready = block-ready (c .before .before .before .before .before .before .before .before .before .args .shape) (c .before .before .before .before .before .before .before .before .before .args .r) (now (c .before .before .before .before .before .before .before .before .before .args .table)) (c .before .before .before .before .before .before .before .before .before .args .block) none in
-    rw (c .before .layout-of .ensures) (ready .laid, (ready .obeys, block-below (c .before .before .before .before .before .before .before .before .before .args .shape) (c .before .before .before .before .before .before .before .before .before .args .r) (now (c .before .before .before .before .before .before .before .before .before .args .table)) (c .before .before .before .before .before .before .before .before .before .args .block) none))
+    let ready = block-ready (a .shape) (a .r) (now (a .table)) (a .block) none in
+    rw (c .before .layout-of .ensures) (ready .laid, (ready .obeys, block-below (a .shape) (a .r) (now (a .table)) (a .block) none))
 
 same-length-3 : tie.Need-same-length-3
 same-length-3 c = search needs
 
 returns-3 : tie.Need-returns-3
 returns-3 c =
+    let a = c .before .before .before .before .before .before .before .before .before .before .before .args in
     let none = sym (c .before .before .before .before .before .before .before .before .block-fault .ensures) ∙ c .before .before .before .before .before .before .before .if1 .left in
-    let found : c .before .spare-for .result ≡ spareFor (layoutOf (c .before .before .before .before .before .before .before .before .before .before .before .args .shape) (c .before .before .before .before .before .before .before .before .before .before .before .args .r)) (now (c .before .before .before .before .before .before .before .before .before .before .before .args .table)) (c .before .before .before .before .before .before .before .before .before .before .before .args .block) = rw (c .before .before .before .layout-of .ensures) at (c .before .spare-for .ensures) in
-    let fault = replace-fails (c .before .before .before .before .before .before .before .before .before .before .before .args .shape) (c .before .before .before .before .before .before .before .before .before .before .before .args .r) (now (c .before .before .before .before .before .before .before .before .before .before .before .args .table)) (c .before .before .before .before .before .before .before .before .before .before .before .args .block) none (rw (← c .before .before .before .before .before .place-of .ensures) (le-ltb _ _ (c .before .before .before .before .if2 .left))) (rw (← found) (le-leb _ _ (c .if3 .taken))) in
+    let found : c .before .spare-for .result ≡ spareFor (layoutOf (a .shape) (a .r)) (now (a .table)) (a .block) = rw (c .before .before .before .layout-of .ensures) at (c .before .spare-for .ensures) in
+    let fault = replace-fails (a .shape) (a .r) (now (a .table)) (a .block) none (rw (← c .before .before .before .before .before .place-of .ensures) (le-ltb _ _ (c .before .before .before .before .if2 .left))) (rw (← found) (le-leb _ _ (c .if3 .taken))) in
     fills (replaced-says _ _) (rw fault) (rw fault)
 
 store-requires : tie.Need-store-requires
 store-requires c κs =
+    let a = c .before .before .before .before .before .before .before .before .before .before .before .before .args in
     let none = sym (c .before .before .before .before .before .before .before .before .before .block-fault .ensures) ∙ c .before .before .before .before .before .before .before .before .if1 .left in
-    let ready = block-ready (c .before .before .before .before .before .before .before .before .before .before .before .before .args .shape) (c .before .before .before .before .before .before .before .before .before .before .before .before .args .r) (now (c .before .before .before .before .before .before .before .before .before .before .before .before .args .table)) (c .before .before .before .before .before .before .before .before .before .before .before .before .args .block) none in
-    rw (c .before .before .before .before .layout-of .ensures) (ready .laid, (block-below (c .before .before .before .before .before .before .before .before .before .before .before .before .args .shape) (c .before .before .before .before .before .before .before .before .before .before .before .before .args .r) (now (c .before .before .before .before .before .before .before .before .before .before .before .before .args .table)) (c .before .before .before .before .before .before .before .before .before .before .before .before .args .block) none, omega arith))
+    let ready = block-ready (a .shape) (a .r) (now (a .table)) (a .block) none in
+    rw (c .before .before .before .before .layout-of .ensures) (ready .laid, (block-below (a .shape) (a .r) (now (a .table)) (a .block) none, omega arith))
 
 cast-t20 : tie.Need-cast-t20
 cast-t20 c =
+    let a = c .before .before .before .before .before .before .before .before .before .before .before .before .before .before .before .args in
     let none = sym (c .before .before .before .before .before .before .before .before .before .before .before .before .block-fault .ensures) ∙ c .before .before .before .before .before .before .before .before .before .before .before .if1 .left in
-    let ready = block-ready (c .before .before .before .before .before .before .before .before .before .before .before .before .before .before .before .args .shape) (c .before .before .before .before .before .before .before .before .before .before .before .before .before .before .before .args .r) (now (c .before .before .before .before .before .before .before .before .before .before .before .before .before .before .before .args .table)) (c .before .before .before .before .before .before .before .before .before .before .before .before .before .before .before .args .block) none in
+    let ready = block-ready (a .shape) (a .r) (now (a .table)) (a .block) none in
     omega (arith, ready .obeys .long, table-few (ready .laid))
 
 same-length-4 : tie.Need-same-length-4
@@ -78,10 +84,11 @@ same-length-4 c = search needs
 
 returns-4 : tie.Need-returns-4
 returns-4 c =
+    let a = c .before .before .before .before .before .before .before .before .before .before .before .before .before .before .before .args in
     let none = sym (c .before .before .before .before .before .before .before .before .before .before .before .before .block-fault .ensures) ∙ c .before .before .before .before .before .before .before .before .before .before .before .if1 .left in
-    let found : c .before .before .before .before .before .spare-for .result ≡ spareFor (layoutOf (c .before .before .before .before .before .before .before .before .before .before .before .before .before .before .before .args .shape) (c .before .before .before .before .before .before .before .before .before .before .before .before .before .before .before .args .r)) (now (c .before .before .before .before .before .before .before .before .before .before .before .before .before .before .before .args .table)) (c .before .before .before .before .before .before .before .before .before .before .before .before .before .before .before .args .block) = rw (c .before .before .before .before .before .before .before .layout-of .ensures) at (c .before .before .before .before .before .spare-for .ensures) in
-    let fault = replace-passes (c .before .before .before .before .before .before .before .before .before .before .before .before .before .before .before .args .shape) (c .before .before .before .before .before .before .before .before .before .before .before .before .before .before .before .args .r) (now (c .before .before .before .before .before .before .before .before .before .before .before .before .before .before .before .args .table)) (c .before .before .before .before .before .before .before .before .before .before .before .before .before .before .before .args .block) none (rw (← c .before .before .before .before .before .before .before .before .before .place-of .ensures) (le-ltb _ _ (c .before .before .before .before .before .before .before .before .if2 .left))) (rw (← found) (lt-leb _ _ (c .before .before .before .before .if3 .left))) in
-    let written : set (now (c .before .before .before .before .before .before .before .before .before .before .before .before .before .before .before .args .table)) (c .before .before .before .before .before .spare-for .result) (descriptorAt (c .before .before .before .before .before .before .before .layout-of .result) (c .before .before .before .before .before .spare-for .result) (c .before .before .before .before .before .before .before .before .before .before .before .before .before .before .before .args .block)) ≡ replacedIn (layoutOf (c .before .before .before .before .before .before .before .before .before .before .before .before .before .before .before .args .shape) (c .before .before .before .before .before .before .before .before .before .before .before .before .before .before .before .args .r)) (now (c .before .before .before .before .before .before .before .before .before .before .before .before .before .before .before .args .table)) (c .before .before .before .before .before .before .before .before .before .before .before .before .before .before .before .args .block) = rw (found, c .before .before .before .before .before .before .before .layout-of .ensures) in
+    let found : c .before .before .before .before .before .spare-for .result ≡ spareFor (layoutOf (a .shape) (a .r)) (now (a .table)) (a .block) = rw (c .before .before .before .before .before .before .before .layout-of .ensures) at (c .before .before .before .before .before .spare-for .ensures) in
+    let fault = replace-passes (a .shape) (a .r) (now (a .table)) (a .block) none (rw (← c .before .before .before .before .before .before .before .before .before .place-of .ensures) (le-ltb _ _ (c .before .before .before .before .before .before .before .before .if2 .left))) (rw (← found) (lt-leb _ _ (c .before .before .before .before .if3 .left))) in
+    let written : set (now (a .table)) (c .before .before .before .before .before .spare-for .result) (descriptorAt (c .before .before .before .before .before .before .before .layout-of .result) (c .before .before .before .before .before .spare-for .result) (a .block)) ≡ replacedIn (layoutOf (a .shape) (a .r)) (now (a .table)) (a .block) = rw (found, c .before .before .before .before .before .before .before .layout-of .ensures) in
     fills (replaced-says _ _) (rw fault (ap Place found)) (rw fault (c .before .before .store .ensures ∙ written))
 
 pub replace-spec : {M : Type 1} → statement M

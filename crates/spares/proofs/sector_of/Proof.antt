@@ -17,15 +17,17 @@ returns c = gives (placed-says _ _) (rw (← c .before .block-fault .ensures) (s
 
 layout-of-requires : tie.Need-layout-of-requires
 layout-of-requires c κs =
+    let a = c .before .before .before .args in
     let none = sym (c .before .block-fault .ensures) ∙ c .if1 .left in
-    let ready = block-ready (c .before .before .before .args .shape) (c .before .before .before .args .r) (now (c .before .before .before .args .table)) (c .before .before .before .args .block) none in
+    let ready = block-ready (a .shape) (a .r) (now (a .table)) (a .block) none in
     (ready .shaped, ready .drives)
 
 lies-on-requires : tie.Need-lies-on-requires
 lies-on-requires c κs =
+    let a = c .before .before .before .before .args in
     let none = sym (c .before .before .block-fault .ensures) ∙ c .before .if1 .left in
-    let ready = block-ready (c .before .before .before .before .args .shape) (c .before .before .before .before .args .r) (now (c .before .before .before .before .args .table)) (c .before .before .before .before .args .block) none in
-    rw (c .layout-of .ensures) (ready .laid, (ready .obeys, block-below (c .before .before .before .before .args .shape) (c .before .before .before .before .args .r) (now (c .before .before .before .before .args .table)) (c .before .before .before .before .args .block) none))
+    let ready = block-ready (a .shape) (a .r) (now (a .table)) (a .block) none in
+    rw (c .layout-of .ensures) (ready .laid, (ready .obeys, block-below (a .shape) (a .r) (now (a .table)) (a .block) none))
 
 returns-2 : tie.Need-returns-2
 returns-2 c = gives (placed-says _ _) (rw (← c .before .before .before .block-fault .ensures, c .before .before .if1 .left, c .lies-on .ensures, c .before .layout-of .ensures))

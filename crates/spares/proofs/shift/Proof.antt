@@ -22,19 +22,22 @@ returns c = gives (shifted-says _ _) (rw (← c .before .block-fault .ensures) (
 
 layout-of-requires : tie.Need-layout-of-requires
 layout-of-requires c κs =
+    let a = c .before .before .before .args in
     let none = sym (c .before .block-fault .ensures) ∙ c .if1 .left in
-    let ready = block-ready (c .before .before .before .args .shape) (c .before .before .before .args .r) (now (c .before .before .before .args .table)) (c .before .before .before .args .block) none in
+    let ready = block-ready (a .shape) (a .r) (now (a .table)) (a .block) none in
     (ready .shaped, ready .drives)
 
 shift-of-requires : tie.Need-shift-of-requires
 shift-of-requires c κs =
+    let a = c .before .before .before .before .args in
     let none = sym (c .before .before .block-fault .ensures) ∙ c .before .if1 .left in
-    let ready = block-ready (c .before .before .before .before .args .shape) (c .before .before .before .before .args .r) (now (c .before .before .before .before .args .table)) (c .before .before .before .before .args .block) none in
-    rw (c .layout-of .ensures) (ready .laid, (ready .obeys, block-below (c .before .before .before .before .args .shape) (c .before .before .before .before .args .r) (now (c .before .before .before .before .args .table)) (c .before .before .before .before .args .block) none))
+    let ready = block-ready (a .shape) (a .r) (now (a .table)) (a .block) none in
+    rw (c .layout-of .ensures) (ready .laid, (ready .obeys, block-below (a .shape) (a .r) (now (a .table)) (a .block) none))
 
 returns-2 : tie.Need-returns-2
 returns-2 c =
-    let value : c .shift-of .result ≡ shiftOf (layoutOf (c .before .before .before .before .before .args .shape) (c .before .before .before .before .before .args .r)) (now (c .before .before .before .before .before .args .table)) (c .before .before .before .before .before .args .block) = rw (c .before .layout-of .ensures) at (c .shift-of .ensures) in
+    let a = c .before .before .before .before .before .args in
+    let value : c .shift-of .result ≡ shiftOf (layoutOf (a .shape) (a .r)) (now (a .table)) (a .block) = rw (c .before .layout-of .ensures) at (c .shift-of .ensures) in
     gives (shifted-says _ _) (rw (← c .before .before .before .block-fault .ensures, c .before .before .if1 .left) (ap By (read-again _ (c .shift-of .ok) ∙ value)))
 
 pub shift-spec : {M : Type 1} → statement M

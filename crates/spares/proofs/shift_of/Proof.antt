@@ -31,15 +31,17 @@ spare-cylinder-requires c κs = search needs
 
 cylinders-between-requires : tie.Need-cylinders-between-requires
 cylinders-between-requires c κs =
-    let in-table : placeOf (now (c .before .before .before .before .before .args .table)) (c .before .before .before .before .before .args .block) < length (now (c .before .before .before .before .before .args .table)) = rw (c .before .before .before .place-of .ensures) at (c .before .before .if1 .taken) in
+    let a = c .before .before .before .before .before .args in
+    let in-table : placeOf (now (a .table)) (a .block) < length (now (a .table)) = rw (c .before .before .before .place-of .ensures) at (c .before .before .if1 .taken) in
     let home : c .before .home-cylinder .result < unitsMost = rw (c .before .home-cylinder .ensures) (home-cylinder-few (c .before .before .before .before .before .pre .0) (c .before .before .before .before .before .pre .1 .1)) in
-    let spare : c .spare-cylinder .result < unitsMost = rw (c .spare-cylinder .ensures, c .before .before .before .place-of .ensures) (spare-cylinder-few (c .before .before .before .before .before .pre .0) (place-spare (c .before .before .before .before .before .pre .1 .0) (c .before .before .before .before .before .args .block) in-table)) in
+    let spare : c .spare-cylinder .result < unitsMost = rw (c .spare-cylinder .ensures, c .before .before .before .place-of .ensures) (spare-cylinder-few (c .before .before .before .before .before .pre .0) (place-spare (c .before .before .before .before .before .pre .1 .0) (a .block) in-table)) in
     (omega arith, omega arith)
 
 returns : tie.Need-returns
 returns c =
+    let a = c .before .before .before .before .before .before .args in
     let between = c .cylinders-between in
-    let replaced : shiftOf (c .before .before .before .before .before .before .args .g) (now (c .before .before .before .before .before .before .args .table)) (c .before .before .before .before .before .before .args .block) ≡ pos (c .before .spare-cylinder .result) -ℤ pos (c .before .before .home-cylinder .result) = rw (← c .before .before .before .before .place-of .ensures, lt-ltb _ _ (c .before .before .before .if1 .taken), c .before .before .home-cylinder .ensures, c .before .spare-cylinder .ensures) in
+    let replaced : shiftOf (a .g) (now (a .table)) (a .block) ≡ pos (c .before .spare-cylinder .result) -ℤ pos (c .before .before .home-cylinder .result) = rw (← c .before .before .before .before .place-of .ensures, lt-ltb _ _ (c .before .before .before .if1 .taken), c .before .before .home-cylinder .ensures, c .before .spare-cylinder .ensures) in
     read-again _ (between .ok) ∙ between .ensures ∙ sym replaced
 
 returns-2 : tie.Need-returns-2
