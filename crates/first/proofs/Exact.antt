@@ -1,4 +1,4 @@
--- The checks of a first table give exactly the numbers of the paper's rows, and show what a first table needs where they give none.
+-- The checks of a first table give exactly the numbers of the paper's rows, and show what a first table needs, and so what it is, where they give none.
 -- Assumes nothing.
 use Prim.Native.Nat.{ℕ, _*_, _<_, _≤_}
 use mathlib.Core.Path.{_≡_}
@@ -6,11 +6,9 @@ use mathlib.Core.List.{List}
 use native.Mathlib.Omega.{arith}
 use lib.Dec.{ltb}
 use lib.ListN.{length}
-use borrow.Author.Tests.{ltb-false}
 use Rattle.paper.specs.Checks.{refuse, _orElse_}
 use Rattle.paper.specs.Refusals.{noRoom, noSpare}
 use Rattle.paper.specs.Exactly.{Exactly, When}
-use Rattle.paper.proofs.Cases.{byBool}
 use Rattle.paper.proofs.Chain.{orElse-first, orElse-next}
 use Rattle.paper.proofs.Rows.{tells-lt, row, rows, not-over}
 use Rattle.lists.specs.Proper.{Proper, listFault, ListJudged}
@@ -18,11 +16,12 @@ use Rattle.lists.proofs.Exact.{list-exactly, list-shows}
 use Rattle.shape.specs.declared.Shape.{Shape}
 use Rattle.shape.specs.Shapes.{Shaped, sizeOf}
 use Rattle.layout.specs.Layouts.{Drives, layoutOf, driveFault, DriveJudged, sectorsOf}
-use Rattle.layout.proofs.Layings.{drive-whole}
+use Rattle.layout.proofs.Layings.{laid, drive-whole}
 use Rattle.layout.proofs.Exact.{drive-shows, drive-exactly}
 use Rattle.table.specs.Rules.{tableLength}
 use Rattle.marking.specs.Marks.{badHomes, goodSpares}
-use Rattle.first.specs.First.{firstFault, FirstJudged}
+use Rattle.first.specs.First.{firstTable, firstFault, FirstJudged, Starts}
+use Rattle.first.proofs.Tables.{first-starts}
 
 -- a list over the drive's sectors, counted by the layout
 pub laid-proper : {shape : Shape} {r : ℕ} {list : List ℕ} → Drives shape r → Proper (sizeOf shape) list → Proper (layoutOf shape r .tracks * sectorsOf (layoutOf shape r)) list
@@ -49,6 +48,12 @@ module _ (shape : Shape) (r : ℕ) (list room : List ℕ) where
         fits = not-over (length room) (tableLength (layoutOf shape r)) noRoom (omega arith) (orElse-first (refuse (ltb (length room) (tableLength (layoutOf shape r))) noRoom) _ last);
         enough = not-over (goodSpares (layoutOf shape r) list) (length (badHomes (layoutOf shape r) list)) noSpare (omega arith) (orElse-next (refuse (ltb (length room) (tableLength (layoutOf shape r))) noRoom) _ last);
       }
+
+  -- a first table that is accepted is what the paper says of it
+  pub first-made : firstFault shape r list room ≡ 0 → Starts (layoutOf shape r) list (firstTable (layoutOf shape r) list)
+  first-made none =
+      let buildable : Buildable = first-shows none in
+      first-starts (layoutOf shape r) list (buildable .enough) (laid (buildable .shaped) (buildable .drives))
 
   -- 1, 2, 3, 4, 7 and 13 are given for a first table exactly when the paper says so
   pub first-exactly : Exactly (FirstJudged shape r list room) (firstFault shape r list room)

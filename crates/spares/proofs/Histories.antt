@@ -9,13 +9,11 @@ use Rattle.paper.proofs.Chain.{orElse-first}
 use Rattle.shape.specs.declared.Shape.{Shape}
 use Rattle.layout.specs.Layouts.{layoutOf, driveFault}
 use Rattle.layout.specs.Descriptors.{free}
-use Rattle.layout.proofs.Layings.{laid}
 use Rattle.table.specs.Rules.{tableFault}
 use Rattle.replacing.specs.Counting.{codeCount}
 use Rattle.marking.specs.Marks.{badSpares, badHomes}
-use Rattle.first.specs.First.{firstTable, firstFault, Starts}
-use Rattle.first.proofs.Exact.{Buildable, first-shows}
-use Rattle.first.proofs.Tables.{first-starts}
+use Rattle.first.specs.First.{firstTable, firstFault}
+use Rattle.first.proofs.Exact.{first-made}
 use Rattle.spares.specs.History.{Call, reads, replaces, afterCall, acceptedBy, afterAll, accepted}
 use Rattle.spares.proofs.Exact.{table-passes}
 use Rattle.spares.proofs.Accepted.{after-passes, free-after}
@@ -42,14 +40,9 @@ module _ (shape : Shape) (r : ℕ) where
   history-frees t (call ∷ calls) = omega (arith, history-frees (afterCall shape r t call) calls, call-frees t call)
 
   module _ (list room : List ℕ) (none : firstFault shape r list room ≡ 0) where
-    starts : Starts (layoutOf shape r) list (firstTable (layoutOf shape r) list)
-    starts =
-        let shown : Buildable shape r list room = first-shows shape r list room none in
-        first-starts (layoutOf shape r) list (shown .enough) (laid (shown .shaped) (shown .drives))
-
     -- a first table passes
     pub first-passes : tableFault shape r (firstTable (layoutOf shape r) list) ≡ 0
-    first-passes = table-passes shape r (firstTable (layoutOf shape r) list) (orElse-first (driveFault shape r) _ none) (starts .obeys)
+    first-passes = table-passes shape r (firstTable (layoutOf shape r) list) (orElse-first (driveFault shape r) _ none) (first-made shape r list room none .obeys)
 
     -- free = spares − bad spares − bad home blocks − accepted replacements
     pub census-law :
@@ -57,4 +50,4 @@ module _ (shape : Shape) (r : ℕ) where
         codeCount (afterAll shape r (firstTable (layoutOf shape r) list) calls) free
         ≡ layoutOf shape r .spares - badSpares (layoutOf shape r) list - length (badHomes (layoutOf shape r) list)
         - accepted shape r (firstTable (layoutOf shape r) list) calls
-    census-law calls = omega (arith, history-frees (firstTable (layoutOf shape r) list) calls, starts .free-left)
+    census-law calls = omega (arith, history-frees (firstTable (layoutOf shape r) list) calls, first-made shape r list room none .free-left)
