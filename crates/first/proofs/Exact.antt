@@ -6,7 +6,7 @@ use mathlib.Core.List.{List}
 use native.Mathlib.Omega.{arith}
 use lib.Dec.{ltb}
 use lib.ListN.{length}
-use Rattle.paper.specs.Checks.{refuse, _orElse_}
+use Rattle.paper.specs.Checks.{refuse}
 use Rattle.paper.specs.Refusals.{noRoom, noSpare}
 use Rattle.paper.specs.Exactly.{Exactly, When}
 use Rattle.paper.proofs.Chain.{orElse-first, orElse-next}

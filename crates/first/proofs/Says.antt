@@ -5,7 +5,6 @@ use mathlib.Core.Path.{_≡_, sym}
 use mathlib.Core.List.{List}
 use lib.ListN.{length}
 use borrow.Author.Tests.{lt-ltb, le-ltb}
-use Rattle.paper.specs.Checks.{_orElse_}
 use Rattle.paper.specs.Refusals.{noRoom}
 use Rattle.paper.specs.declared.Written.the-variants.{Length, Refused}
 use Rattle.paper.proofs.Chain.{orElse-some, answer-refused, written-says}

@@ -1,6 +1,6 @@
 -- The first table: the bad home blocks are ready to be replaced in the marked table, and so the first table is what the paper says of it.
 -- Assumes nothing.
-use Prim.Native.Nat.{ℕ, _+_, _-_, _<_, _≤_}
+use Prim.Native.Nat.{ℕ, _<_, _≤_}
 use mathlib.Core.Path.{_≡_, sym, _∙_, ap}
 use mathlib.Core.Bool.{true, false, true≢false}
 use mathlib.Core.List.{List, _++_}
@@ -14,7 +14,7 @@ use Rattle.lists.specs.Union.{isIn, written}
 use Rattle.lists.proofs.Members.{members-inside}
 use Rattle.layout.specs.declared.Layout.{Layout}
 use Rattle.layout.specs.Layouts.{Laid}
-use Rattle.layout.specs.Descriptors.{free, unusable, codeOf}
+use Rattle.layout.specs.Descriptors.{unusable, codeOf}
 use Rattle.table.specs.Rules.{tableLength}
 use Rattle.table.proofs.Lookups.{tells-replaced}
 use Rattle.marking.specs.Marks.{isBadSpare, isBadHome, badHomes, goodSpares, marked}

@@ -4,10 +4,9 @@ use Prim.Native.Nat.{ℕ, zero, suc, _<_, _≤_}
 use mathlib.Core.Path.{_≡_, refl, sym, _∙_, ap}
 use mathlib.Core.List.{List}
 use native.Mathlib.Omega.{arith}
-use lib.Dec.{ltb}
 use lib.ListN.{length}
 use borrow.Author.Tests.{lt-ltb, le-ltb}
-use Rattle.paper.specs.Checks.{refuse, _orElse_, answer, given}
+use Rattle.paper.specs.Checks.{answer, given}
 use Rattle.paper.specs.Refusals.{tooLong, noRoom}
 use Rattle.paper.specs.Limits.{listMost}
 use Rattle.paper.proofs.Chain.{orElse-some, answer-refused, answer-accepted}
@@ -16,9 +15,7 @@ use Rattle.format.specs.Spaces.{newGrown, newList, newSpace, suppliedFau
 use Rattle.format.specs.Plans.{plannedGrown, plannedList}
 use Rattle.format.proofs.Planning.{Supplied, plan-shows, plan-grown, plan-list, planned-grown, planned-list}
 use Rattle.format.specs.Promises.{saidFormatted, planned, formatted, Formats}
-use Rattle.format.specs.declared.Planned.{Planned}
 use Rattle.format.specs.declared.Planned.the-variants.{Fits, Refused as NotPlanned}
-use Rattle.format.specs.declared.Formatted.{Formatted}
 use Rattle.format.specs.declared.Formatted.the-variants.{Done, Refused}
 
 formatted-says :

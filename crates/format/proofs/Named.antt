@@ -1,14 +1,13 @@
 -- Format at named inputs: the paper's night, the same scan taken as sectors, and why the law is not claimed for option 1 in space 1.
 -- Assumes nothing.
-use Prim.Native.Nat.{ℕ}
 use mathlib.Core.Path.{_≡_, refl}
-use mathlib.Core.List.{List, [], _∷_}
+use mathlib.Core.List.{[], _∷_}
 use Rattle.seek.specs.Count.{countBelow}
 use Rattle.seek.specs.First.{firstBelow, firstFault}
 use Rattle.lists.specs.Union.{isIn, into, union}
 use Rattle.skip.specs.Skipping.{goodsBefore, place}
 use Rattle.skip.specs.Translation.{blocks}
-use Rattle.format.specs.Spaces.{listOf, newGrown, newList, newSpace, planFault}
+use Rattle.format.specs.Spaces.{listOf, newGrown, newList, planFault}
 
 -- N 20, space 3, P 3, 7, G empty, option 1, D 3, 16: the new grown list is 4, 18, the new list 3, 4, 7, 18, and it is accepted
 pub scan-grown : newGrown 20 (3 ∷ 7 ∷ []) [] 3 1 (3 ∷ 16 ∷ []) ≡ 4 ∷ 18 ∷ []

@@ -1,9 +1,9 @@
 -- What both passes along P, G and D cite: how the walk begins, what a step gives, and that nothing is left where the walk ends.
 -- Assumes nothing.
 use Prim.Native.Nat.{ℕ, _+_, _<_, _≤_}
-use mathlib.Core.Path.{_≡_, refl, sym, _∙_, ap}
+use mathlib.Core.Path.{_≡_, refl, _∙_, ap}
 use mathlib.Core.Bool.{Bool, true, false}
-use mathlib.Core.List.{List, [], _∷_, map}
+use mathlib.Core.List.{List, [], _∷_}
 use native.Mathlib.Omega.{arith}
 use native.Mathlib.Nat.{add-zero}
 use lib.ListN.{length, drop, set}
@@ -12,8 +12,7 @@ use Rattle.seek.proofs.Drops.{drop-past}
 use Rattle.lists.specs.Union.{union}
 use Rattle.lists.proofs.Unions.{union-none}
 use Rattle.lists.proofs.Filling.{Filled, filled-more}
-use Rattle.skip.specs.Walk.{walked}
-use Rattle.format.specs.Walking.{one, stepAt, mappedOver, grownLeft, listedLeft, Ready, Walks}
+use Rattle.format.specs.Walking.{one, stepAt, grownLeft, listedLeft, Ready, Walks}
 use Rattle.format.specs.declared.Sides.{Sides}
 use Rattle.format.specs.declared.Walker.{Walker}
 use Rattle.format.specs.declared.Taken.{Taken}

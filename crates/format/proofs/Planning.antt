@@ -1,33 +1,33 @@
 -- What the walk makes for an option and a space is the new grown list and the new list, once all that is supplied passes its checks.
 -- Assumes nothing.
-use Prim.Native.Nat.{ℕ, zero, suc, _+_, _-_, _<_, _≤_}
+use Prim.Native.Nat.{ℕ, suc, _<_, _≤_}
 use mathlib.Core.Path.{_≡_, refl, sym, _∙_, ap}
-use mathlib.Core.Bool.{Bool, true, false, not, _&&_, _||_, true≢false}
+use mathlib.Core.Bool.{not, _||_, true≢false}
 use mathlib.Core.List.{List, [], _∷_, map}
 use native.Mathlib.Omega.{arith}
 use native.Mathlib.Nat.{add-zero}
-use lib.Dec.{eqb, ltb, leb}
+use lib.Dec.{eqb, ltb}
 use lib.ListN.{length, getD}
-use borrow.Author.Tests.{eq-eqb, ne-eqb, eqb-false, eqb-true, lt-ltb, le-ltb}
-use Rattle.paper.specs.Checks.{pick, refuse, _orElse_}
+use borrow.Author.Tests.{eq-eqb, ne-eqb}
+use Rattle.paper.specs.Checks.{pick, refuse}
 use Rattle.paper.specs.Refusals.{tooLong, badOption}
 use Rattle.paper.specs.Limits.{unitsMost, listMost, Within, sizeFault}
 use Rattle.paper.proofs.Cases.{byBool, byEq, byLt}
 use Rattle.paper.proofs.Chain.{orElse-first, orElse-next}
-use Rattle.paper.proofs.Rows.{Tells, tells-le, tells-eq, tells-both, passed-shows, not-over, size-shows}
+use Rattle.paper.proofs.Rows.{Tells, tells-le, tells-both, passed-shows, not-over, size-shows}
 use Rattle.lists.specs.Proper.{Rising, Inside, Proper, listFault}
 use Rattle.lists.specs.Union.{isIn, union}
 use Rattle.lists.proofs.Exact.{list-shows}
 use Rattle.lists.proofs.Risings.{rising-nil}
 use Rattle.lists.proofs.Unions.{union-none, union-nothing, rising-union, inside-union}
 use Rattle.skip.specs.Skipping.{place, sectorsOf}
-use Rattle.skip.specs.Walk.{passes, walked}
+use Rattle.skip.specs.Walk.{walked}
 use Rattle.skip.specs.Translation.{blocks}
 use Rattle.skip.proofs.Walks.{walk-is-place, passes-nil}
-use Rattle.format.specs.Options.{none, inBlocks, inSectors, keep, add, clear, replace, asBefore, optionMost, spaceMost, meaning, grownBy}
+use Rattle.format.specs.Options.{none, inBlocks, inSectors, keep, add, clear, replace, optionMost, spaceMost, meaning, grownBy}
 use Rattle.format.specs.Spaces.{listOf, sizeOfD, newGrown, newList, newSpace, optionTaken, OptionTaken, optionFault, suppliedFault, planFault}
-use Rattle.format.specs.Walking.{mappedOver, grownOf, listedOf, Ready}
-use Rattle.format.specs.Plans.{sidesOf, noSides, overOf, takesOf, keepsGrown, keptOf, plannedGrown, plannedList}
+use Rattle.format.specs.Walking.{mappedOver, Ready}
+use Rattle.format.specs.Plans.{sidesOf, takesOf, keepsGrown, keptOf, plannedGrown, plannedList}
 
 -- numbers up to a small bound, one by one
 module _ {G : Type 0} where

@@ -1,27 +1,22 @@
 -- Demand 3 over Format's own results: an option that adds a scan's list and builds the new map over the same kinds of list as the map in use.
 -- Assumes nothing.
-use Prim.Native.Nat.{ℕ, zero, suc, _+_, _-_, _<_, _≤_}
+use Prim.Native.Nat.{ℕ, _≤_}
 use mathlib.Core.Path.{_≡_, refl, sym, _∙_, ap}
-use mathlib.Core.Bool.{Bool, true, false}
-use mathlib.Core.List.{List, [], _∷_}
+use mathlib.Core.List.{List}
 use native.Mathlib.Omega.{arith}
-use lib.Dec.{eqb, ltb}
 use lib.ListN.{length}
-use borrow.Author.Tests.{eq-eqb, ne-eqb, le-ltb, lt-ltb}
-use Rattle.paper.specs.Checks.{pick, refuse, _orElse_}
-use Rattle.paper.specs.Refusals.{tooLong}
+use borrow.Author.Tests.{eq-eqb, le-ltb}
 use Rattle.paper.specs.Limits.{listMost}
-use Rattle.paper.proofs.Cases.{byEq, byLt}
 use Rattle.paper.proofs.Rows.{size-passes}
-use Rattle.lists.specs.Proper.{Rising, Inside, Proper}
+use Rattle.lists.specs.Proper.{Rising, Inside}
 use Rattle.lists.specs.Union.{isIn, union}
 use Rattle.lists.proofs.Exact.{list-passes}
 use Rattle.lists.proofs.Unions.{union-assoc, union-holds}
 use Rattle.skip.specs.Skipping.{place, sectorsOf}
 use Rattle.skip.specs.Translation.{blocks}
 use Rattle.skip.proofs.Nights.{sectors-length, rising-sectors, night-place, joined-rising, joined-inside, joined-sectors}
-use Rattle.format.specs.Options.{inBlocks, none, add, spaceMost, meaning, grownBy}
-use Rattle.format.specs.Spaces.{listOf, sizeOfD, newGrown, newList, newSpace, optionTaken, suppliedFault, planFault}
+use Rattle.format.specs.Options.{inBlocks, add, meaning, grownBy}
+use Rattle.format.specs.Spaces.{listOf, sizeOfD, newGrown, newList, newSpace, suppliedFault, planFault}
 use Rattle.format.proofs.Planning.{Supplied, tells-taken, bySpace, used-rising, used-inside, plan-shows, plan-grown, plan-list}
 
 -- an option that adds a list of blocks to the grown list and keeps the space, where the space has a grown list

@@ -1,26 +1,18 @@
 -- The walk along P, G and D goes right: each step takes the least entry off what is left of every list.
 -- Assumes nothing.
-use Prim.Native.Nat.{ℕ, zero, suc, _+_, _-_, _<_, _≤_}
-use mathlib.Core.Path.{_≡_, refl, sym, _∙_, ap}
-use mathlib.Core.Bool.{Bool, true, false, not, _&&_, _||_, and-false, and-true}
-use mathlib.Core.List.{List, [], _∷_, map}
+use Prim.Native.Nat.{ℕ, _+_, _<_, _≤_}
+use mathlib.Core.Path.{_≡_, sym}
+use mathlib.Core.Bool.{Bool, true, false, not, _&&_, _||_}
+use mathlib.Core.List.{List}
 use native.Mathlib.Omega.{arith}
 use native.Mathlib.Nat.{add-zero}
-use lib.Dec.{eqb, ltb, leb}
+use lib.Dec.{eqb}
 use lib.ListN.{length, getD, drop}
-use lib.Seq.{drop-drop}
-use borrow.Author.Tests.{eq-eqb, ne-eqb, lt-ltb, le-ltb, le-leb, lt-leb, eqb-true, eqb-false}
-use Rattle.paper.specs.Checks.{pick}
-use Rattle.paper.specs.Limits.{unitsMost, listMost}
-use Rattle.paper.proofs.Cases.{byBool, byEq, byLt}
+use borrow.Author.Tests.{eq-eqb, ne-eqb, lt-ltb, le-ltb, le-leb, lt-leb}
+use Rattle.paper.proofs.Cases.{byEq, byLt}
 use Rattle.seek.proofs.Drops.{drop-next, drop-past}
-use Rattle.lists.specs.Proper.{Rising, Inside}
-use Rattle.lists.specs.Union.{union}
-use Rattle.lists.proofs.Offs.{starts, off, Least, whole, pick-starts, pick-off, pick-least, union-least, union-starts, union-off}
-use Rattle.skip.specs.Walk.{passes, walked}
-use Rattle.skip.proofs.Walks.{passes-on, passes-stop, passes-nil, passes-mono}
-use Rattle.skip.proofs.Passing.{passes-from}
-use Rattle.format.specs.Walking.{ended, headAt, mappedAt, least, one, entryAt, fromP, fromG, fromD, isSkipped, inGrown, nextAt, stepAt, mappedOver, grownOf, listedOf, grownLeft, listedLeft, Walks}
+use Rattle.lists.proofs.Offs.{starts, off, Least}
+use Rattle.format.specs.Walking.{ended, headAt, mappedAt, least, one, stepAt}
 use Rattle.format.specs.declared.Sides.{Sides}
 use Rattle.format.specs.declared.Walker.{Walker}
 use Rattle.format.specs.declared.Taken.{Taken}

@@ -12,7 +12,7 @@ ghost use lib.Dec.{eqb};
 ghost use Rattle.format.specs.Options.{none, inBlocks, keep, add, asBefore, optionMost, spaceMost, rows, cell, meaning};
 ghost use Rattle.format.specs.Spaces.{listOf, newSpace, optionFault, suppliedFault};
 ghost use Rattle.format.specs.Walking.{ended, headAt, mappedAt, least, one, stepAt, Ready, Walks, grownOf, listedOf};
-ghost use Rattle.format.specs.Plans.{sidesOf, overOf, takesOf, keptOf, plannedGrown, plannedList};
+ghost use Rattle.format.specs.Plans.{sidesOf, overOf, keptOf, plannedGrown, plannedList};
 ghost use Rattle.format.specs.Promises.{planned, Formats};
 use paper::BAD_OPTION;
 use paper::LIST_MOST;

@@ -2,13 +2,10 @@
 -- Assumes nothing.
 use Prim.Native.Nat.{ℕ, _<_}
 use mathlib.Core.Path.{_≡_, sym, _∙_, ap}
-use mathlib.Core.Bool.{Bool, true, _||_}
-use mathlib.Core.Logic.{_⊎_, inl, inr, ⊎-elim}
 use native.Mathlib.Nat.{div-add-mod'}
 use native.Mathlib.Omega.{arith}
 use lib.Dec.{eqb}
 use lib.Arith.{digits-div, digits-mod}
-use Rattle.paper.proofs.Cases.{byBool}
 use Rattle.paper.proofs.Rows.{Tells, tells-eq, tells-both, tells-either}
 use Rattle.layout.specs.Descriptors.{atPrimary, elsewhere, codeUnit, wordOf, codeOf, numberOf, Allocated, isAllocated, Names, names}
 

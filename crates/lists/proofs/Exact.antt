@@ -1,14 +1,14 @@
 -- The list's check gives exactly the numbers of the paper's rows, and a list that it passes is proper.
 -- Assumes nothing.
 use Prim.Native.Nat.{ℕ, zero, suc, _-_, _<_, _≤_}
-use mathlib.Core.Path.{_≡_, refl, sym, _∙_, ap}
-use mathlib.Core.Bool.{Bool, true, false, not, _||_, true≢false}
+use mathlib.Core.Path.{_≡_, refl, sym, _∙_}
+use mathlib.Core.Bool.{true, false, true≢false}
 use mathlib.Core.List.{List}
 use native.Mathlib.Omega.{arith}
-use lib.Dec.{ltb, leb, eqb, eqb·suc-zero}
+use lib.Dec.{ltb, eqb·suc-zero}
 use lib.ListN.{length, getD}
-use borrow.Author.Tests.{ltb-true, ltb-false, lt-ltb, le-ltb, le-leb, lt-leb}
-use Rattle.paper.specs.Checks.{refuse, _orElse_}
+use borrow.Author.Tests.{ltb-true, lt-ltb, le-ltb, le-leb, lt-leb}
+use Rattle.paper.specs.Checks.{refuse}
 use Rattle.paper.specs.Refusals.{tooLong, notRising, outside}
 use Rattle.paper.specs.Limits.{listMost, sizeFault, unitsMost, Within}
 use Rattle.paper.specs.Exactly.{Exactly}

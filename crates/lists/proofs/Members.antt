@@ -1,14 +1,13 @@
 -- Membership: an entry is in the list and a member is an entry, and two rising lists with the same members are the same list.
 -- Assumes nothing.
-use Prim.Native.Nat.{ℕ, zero, suc, _+_, _<_, _≤_}
-use mathlib.Core.Path.{_≡_, refl, sym, _∙_, ap}
-use mathlib.Core.Bool.{Bool, true, false, _||_, true≢false}
+use Prim.Native.Nat.{ℕ, zero, suc, _<_, _≤_}
+use mathlib.Core.Path.{_≡_, refl, sym, _∙_}
+use mathlib.Core.Bool.{true, false, true≢false}
 use mathlib.Core.List.{List, [], _∷_}
 use native.Mathlib.Omega.{arith}
-use lib.Dec.{eqb}
 use lib.ListN.{length, getD}
 use borrow.Author.Tests.{eq-eqb, ne-eqb}
-use Rattle.paper.proofs.Cases.{byBool, byEq, byLt}
+use Rattle.paper.proofs.Cases.{byBool, byEq}
 use Rattle.lists.specs.Proper.{Rising, Inside}
 use Rattle.lists.specs.Union.{isIn}
 use Rattle.lists.proofs.Risings.{Above, rising-tail, rising-above}

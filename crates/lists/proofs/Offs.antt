@@ -1,15 +1,14 @@
 -- Taking the least number off the front of lists: it comes off a union as it comes off both lists.
 -- Assumes nothing.
-use Prim.Native.Nat.{ℕ, zero, suc, _+_, _<_, _≤_}
-use mathlib.Core.Path.{_≡_, refl, sym, _∙_, ap}
+use Prim.Native.Nat.{ℕ, _≤_}
+use mathlib.Core.Path.{_≡_, refl, sym, ap}
 use mathlib.Core.Bool.{Bool, true, false, _&&_, _||_, or-false}
 use mathlib.Core.List.{List, [], _∷_}
 use native.Mathlib.Omega.{arith}
 use lib.Dec.{eqb}
-use lib.ListN.{length, getD, drop}
 use borrow.Author.Tests.{eq-eqb, ne-eqb}
 use Rattle.paper.specs.Checks.{pick}
-use Rattle.paper.proofs.Cases.{byBool, byEq, byLt}
+use Rattle.paper.proofs.Cases.{byEq, byLt}
 use Rattle.lists.specs.Union.{union}
 use Rattle.lists.proofs.Unions.{union-none, union-nothing, union-less, union-same, union-more}
 

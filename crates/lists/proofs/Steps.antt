@@ -1,7 +1,7 @@
 -- The steps of a merge, over what is left of two lists: which entry goes next, and what is then left.
 -- Assumes nothing.
 use Prim.Native.Nat.{ℕ, _+_, _<_, _≤_}
-use mathlib.Core.Path.{_≡_, _∙_, sym, ap}
+use mathlib.Core.Path.{_≡_}
 use mathlib.Core.List.{List, [], _∷_}
 use lib.ListN.{length, getD, drop}
 use Rattle.seek.proofs.Drops.{drop-next, drop-past}

@@ -2,18 +2,17 @@
 -- Assumes nothing.
 use Prim.Native.Nat.{ℕ, zero, suc, _+_, _<_, _≤_}
 use mathlib.Core.Path.{_≡_, refl, sym, _∙_, ap}
-use mathlib.Core.Bool.{Bool, true, false, _||_, true≢false, or-assoc, or-comm, or-self, or-false, or-true}
+use mathlib.Core.Bool.{Bool, true, false, _||_, or-assoc, or-comm, or-false}
 use mathlib.Core.List.{List, [], _∷_}
 use native.Mathlib.Omega.{arith}
-use lib.Dec.{eqb, ltb}
-use lib.ListN.{length, getD}
+use lib.Dec.{eqb}
+use lib.ListN.{length}
 use borrow.Author.Tests.{eq-eqb, ne-eqb, lt-ltb, le-ltb}
-use Rattle.paper.specs.Checks.{pick}
-use Rattle.paper.proofs.Cases.{byBool, byEq, byLt}
-use Rattle.lists.specs.Proper.{Rising, Inside, Proper}
+use Rattle.paper.proofs.Cases.{byEq, byLt}
+use Rattle.lists.specs.Proper.{Rising, Inside}
 use Rattle.lists.specs.Union.{isIn, into, union}
-use Rattle.lists.proofs.Risings.{Above, rising-nil, rising-tail, rising-above, rising-cons, above-weaker}
-use Rattle.lists.proofs.Members.{not-in-nil, in-here, in-there, member-inside, members-inside, members-above, above-member, same-members}
+use Rattle.lists.proofs.Risings.{Above, rising-tail, rising-above, rising-cons, above-weaker}
+use Rattle.lists.proofs.Members.{not-in-nil, member-inside, members-inside, members-above, above-member, same-members}
 
 -- how a union goes on
 pub union-none : (b : List ℕ) → union [] b ≡ b

@@ -3,7 +3,7 @@ ghost use mathlib.Core.Path.{_≡_};
 ghost use mathlib.Core.List.{map};
 ghost use Prim.Native.Nat.{_+_, _-_, _<_, _≤_, _%_};
 ghost use lib.IntN.{pos, natAbs, _+ℤ_};
-ghost use lib.ListN.{length, take, drop};
+ghost use lib.ListN.{take, drop};
 ghost use Rattle.paper.specs.Limits.{tableBlock};
 ghost use Rattle.seek.specs.Search.{firstOr, rising};
 ghost use Rattle.order.specs.Order.{turns, offsetOf, placeIn, isFree, freeAt, blockOrder, firstFree};

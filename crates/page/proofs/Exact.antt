@@ -1,18 +1,17 @@
 -- The checks of reading and writing a page give exactly the numbers of the paper's rows, and what passes them is laid out or may be written.
 -- Assumes nothing.
-use Prim.Native.Nat.{ℕ, _*_, _-_, _%_, _<_, _≤_}
+use Prim.Native.Nat.{ℕ, _*_, _-_, _%_, _≤_}
 use mathlib.Core.Path.{_≡_, sym}
 use mathlib.Core.Bool.{Bool, true, false, not, _&&_}
 use mathlib.Core.List.{List}
 use native.Mathlib.Omega.{arith}
 use lib.ListN.{length}
 use lib.Dec.{eqb, ltb}
-use borrow.Author.Tests.{eqb-true, eq-eqb, lt-ltb, not-true}
+use borrow.Author.Tests.{eqb-true, eq-eqb, not-true}
 use Rattle.paper.specs.Checks.{refuse}
 use Rattle.paper.specs.Refusals.{badPage, noRoom}
 use Rattle.paper.specs.Limits.{pageFrame, entrySize, pageMost, kindMost, unitsMost, Within, within, sizeFault}
 use Rattle.paper.specs.Exactly.{Exactly}
-use Rattle.paper.proofs.Cases.{byLt}
 use Rattle.paper.proofs.Chain.{orElse-first, orElse-next}
 use Rattle.paper.proofs.Rows.{Tells, tells-false, tells-not, tells-both, tells-lt, tells-le, tells-within, passed-shows, row, rows, size-exactly, size-shows, tells-eq, not-over}
 use Rattle.lists.specs.Proper.{Proper, placesFault, listFault}

@@ -4,13 +4,10 @@ use Prim.Native.Nat.{ℕ, zero, suc}
 use mathlib.Core.Path.{_≡_, refl}
 use native.Mathlib.Omega.{arith}
 use mathlib.Core.Bool.{Bool, true, false}
-use Rattle.paper.specs.Checks.{pick, refuse, _orElse_, answer, given}
+use Rattle.paper.specs.Checks.{pick, _orElse_, answer, given}
 use Rattle.paper.specs.Answers.{saidPlaced, saidNamed, saidWritten}
-use Rattle.paper.specs.declared.Placed.{Placed}
 use Rattle.paper.specs.declared.Placed.the-variants.{At, Refused as NotPlaced}
-use Rattle.paper.specs.declared.Named.{Named}
 use Rattle.paper.specs.declared.Named.the-variants.{Block, NoBlock, Refused as NotNamed}
-use Rattle.paper.specs.declared.Written.{Written}
 use Rattle.paper.specs.declared.Written.the-variants.{Length, Refused as NotWritten}
 
 pub orElse-some : (fault next : ℕ) → (fault ≡ 0 → ⊥) → (fault orElse next) ≡ fault

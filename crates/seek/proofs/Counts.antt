@@ -4,10 +4,9 @@ use Prim.Native.Nat.{ℕ, zero, suc, _+_, _-_, _<_, _≤_}
 use mathlib.Core.Path.{_≡_, refl, sym, _∙_, ap}
 use mathlib.Core.Bool.{Bool, true, false, not}
 use native.Mathlib.Omega.{arith}
-use native.Mathlib.Nat.{add-zero, add-suc, not-suc-le-zero}
-use native.Mathlib.Decide.{le-ind}
+use native.Mathlib.Nat.{add-zero, add-suc}
 use Rattle.paper.specs.Checks.{pick}
-use Rattle.paper.proofs.Cases.{byBool, byLt, byEq}
+use Rattle.paper.proofs.Cases.{byBool, byEq}
 use Rattle.seek.specs.Count.{countBelow}
 
 module _ (passes : ℕ → Bool) where

@@ -1,10 +1,10 @@
 -- The laws of "every number below a bound passes": it holds exactly where each one does.
 -- Assumes nothing.
-use Prim.Native.Nat.{ℕ, zero, suc, _+_, _<_}
+use Prim.Native.Nat.{ℕ, zero, suc, _<_}
 use mathlib.Core.Path.{_≡_, refl, sym, _∙_, ap}
-use mathlib.Core.Bool.{Bool, true, false, _&&_, true≢false}
+use mathlib.Core.Bool.{Bool, true, false, true≢false}
 use native.Mathlib.Omega.{arith}
-use Rattle.paper.proofs.Cases.{byBool, byEq, byLt}
+use Rattle.paper.proofs.Cases.{byBool, byEq}
 use Rattle.paper.proofs.Rows.{and-left, and-right}
 use Rattle.seek.specs.Every.{allBelow}
 

@@ -1,11 +1,11 @@
 -- The laws of a search: what it finds passes, nothing before it does, and only it is so; and the same for faults.
 -- Assumes nothing.
-use Prim.Native.Nat.{ℕ, zero, suc, _+_, _<_, _≤_}
+use Prim.Native.Nat.{ℕ, zero, suc, _<_, _≤_}
 use mathlib.Core.Path.{_≡_, refl, sym, _∙_, ap}
-use mathlib.Core.Bool.{Bool, true, false, true≢false}
+use mathlib.Core.Bool.{Bool, true, false}
 use native.Mathlib.Omega.{arith}
-use Rattle.paper.specs.Checks.{pick, _orElse_}
-use Rattle.paper.proofs.Cases.{byBool, byLt, byEq, byFault}
+use Rattle.paper.specs.Checks.{pick}
+use Rattle.paper.proofs.Cases.{byBool, byEq, byFault}
 use Rattle.paper.proofs.Chain.{orElse-some, orElse-none, orElse-first, orElse-next}
 use Rattle.seek.specs.First.{firstBelow, firstFault}
 

@@ -2,13 +2,10 @@
 -- Assumes nothing.
 use Prim.Native.Nat.{ℕ, _<_, _≤_}
 use mathlib.Core.Path.{_≡_}
-use mathlib.Core.Bool.{Bool, not}
 use native.Mathlib.Omega.{arith}
-use Rattle.paper.specs.Checks.{refuse}
 use Rattle.paper.specs.Refusals.{outOfRange, noSuchSector}
 use Rattle.paper.specs.Limits.{Within, cylindersMost, headsMost, sectorsLeast, sectorsMost}
 use Rattle.paper.specs.Exactly.{Exactly, When}
-use Rattle.paper.proofs.Cases.{byBool}
 use Rattle.paper.proofs.Rows.{Tells, tells-lt, tells-le, tells-not, tells-both, tells-within, passed-shows, row, rows}
 use Rattle.shape.specs.declared.Shape.{Shape}
 use Rattle.shape.specs.Shapes.{Shaped, shaped, sizeOf, shapeFault, ShapeJudged}

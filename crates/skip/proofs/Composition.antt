@@ -1,8 +1,8 @@
 -- More blocks go bad: the new place of a block is the old place of its place among the blocks that stay, and two such nights are one.
 -- Assumes nothing.
-use Prim.Native.Nat.{ℕ, zero, suc, _+_, _<_, _≤_}
-use mathlib.Core.Path.{_≡_, refl, sym, _∙_, ap}
-use mathlib.Core.Bool.{Bool, true, false, not, _||_, or-assoc}
+use Prim.Native.Nat.{ℕ, zero, suc}
+use mathlib.Core.Path.{_≡_, sym, _∙_, ap}
+use mathlib.Core.Bool.{Bool, true, false, or-assoc}
 use native.Mathlib.Omega.{arith}
 use Rattle.paper.proofs.Cases.{byBool, byLt}
 use Rattle.skip.specs.Skipping.{goodsBefore, Lies, place, after}

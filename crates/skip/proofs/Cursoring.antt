@@ -2,12 +2,11 @@
 -- Assumes nothing.
 use Prim.Native.Nat.{ℕ, zero, suc, _+_, _-_, _<_, _≤_}
 use mathlib.Core.Path.{_≡_, refl, sym, _∙_, ap}
-use mathlib.Core.Bool.{Bool, true, false, not, _&&_}
+use mathlib.Core.Bool.{not}
 use mathlib.Core.List.{List}
 use native.Mathlib.Omega.{arith}
-use lib.Dec.{leb, eqb}
-use lib.ListN.{length}
-use Rattle.paper.specs.Checks.{refuse, _orElse_, answer, given}
+use lib.Dec.{leb}
+use Rattle.paper.specs.Checks.{refuse, answer, given}
 use Rattle.paper.specs.Refusals.{noSuchBlock, strayCursor}
 use Rattle.paper.proofs.Chain.{orElse-first, orElse-next, answer-refused, answer-accepted}
 use Rattle.paper.proofs.Rows.{Tells, tells-le, tells-eq, tells-both, passed-shows, below-shows}
@@ -22,7 +21,6 @@ use Rattle.skip.specs.Translation.{blocks, blockFault, translated}
 use Rattle.skip.specs.Cursors.{skippedBefore, cursorAt, noCursor, Belongs, belongs, cursorFault, stepFault, started, stepped}
 use Rattle.skip.specs.Promises.{saidJob}
 use Rattle.skip.specs.declared.Cursor.{Cursor}
-use Rattle.skip.specs.declared.Job.{Job}
 use Rattle.skip.specs.declared.Job.the-variants.{Ready, At, Refused}
 use Rattle.skip.proofs.Shown.{block-proper, block-below}
 use Rattle.skip.proofs.Walks.{below-place, passes-mono, walk-is-place}

@@ -1,18 +1,18 @@
 -- When a block passes just so many entries: the entry before that place is passed and the entry at it is not.
 -- Assumes nothing.
-use Prim.Native.Nat.{ℕ, zero, suc, _+_, _-_, _<_, _≤_}
-use mathlib.Core.Path.{_≡_, refl, sym, _∙_, ap}
-use mathlib.Core.Bool.{Bool, true, false, true≢false}
+use Prim.Native.Nat.{ℕ, _+_, _-_, _<_, _≤_}
+use mathlib.Core.Path.{_≡_, sym}
+use mathlib.Core.Bool.{true, false, true≢false}
 use mathlib.Core.List.{List}
 use native.Mathlib.Omega.{arith}
-use lib.Dec.{eqb, ltb}
-use lib.ListN.{length, getD, drop}
+use lib.Dec.{eqb}
+use lib.ListN.{length, getD}
 use borrow.Author.Tests.{eq-eqb, ne-eqb, lt-ltb, le-ltb, ltb-true, ltb-false}
-use Rattle.paper.proofs.Cases.{byBool, byLt, byEq}
+use Rattle.paper.proofs.Cases.{byLt, byEq}
 use Rattle.lists.specs.Proper.{Rising}
-use Rattle.skip.specs.Walk.{passes, walked, isBehind, isAhead}
+use Rattle.skip.specs.Walk.{passes, isBehind, isAhead}
 use Rattle.skip.proofs.Walks.{passes-le}
-use Rattle.skip.proofs.Passing.{passes-from, passes-here, passes-past, passed-entry, ahead-entry, passes-at-least}
+use Rattle.skip.proofs.Passing.{passes-from, passes-here, passed-entry, passes-at-least}
 
 module _ (a : List ℕ) (b d : ℕ) where
   pub just-short : length a < d → eqb d (passes a b) ≡ false

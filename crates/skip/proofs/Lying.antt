@@ -1,12 +1,12 @@
 -- Skipping over any test: a block below the number of good units lies on exactly one unit, the one that `place` gives, and blocks lie in rising order.
 -- Assumes nothing.
-use Prim.Native.Nat.{ℕ, zero, suc, _+_, _<_, _≤_}
+use Prim.Native.Nat.{ℕ, zero, suc, _<_, _≤_}
 use mathlib.Core.Path.{_≡_, refl, sym, _∙_, ap}
 use mathlib.Core.Bool.{Bool, true, false, not, _&&_, true≢false}
 use native.Mathlib.Omega.{arith}
 use lib.Dec.{eqb}
 use borrow.Author.Tests.{eq-eqb, eqb-true}
-use Rattle.paper.proofs.Cases.{byBool, byLt, byEq}
+use Rattle.paper.proofs.Cases.{byBool, byLt}
 use Rattle.seek.proofs.Counts.{count-zero, count-more, count-same, count-le, count-mono, count-strict, count-alike}
 use Rattle.seek.proofs.Firsts.{first-is, first-none, first-alike}
 use Rattle.skip.specs.Skipping.{goodsBefore, Lies, place}

@@ -1,7 +1,7 @@
 -- A range of units of a larger space, seen by itself: its blocks are those of the space from the range's first block on.
 -- Assumes nothing.
-use Prim.Native.Nat.{ℕ, _+_, _-_, _<_, _≤_}
-use mathlib.Core.Path.{_≡_, refl, sym, _∙_, ap}
+use Prim.Native.Nat.{ℕ, _+_, _<_, _≤_}
+use mathlib.Core.Path.{_≡_, _∙_, ap}
 use mathlib.Core.Bool.{Bool, not}
 use native.Mathlib.Omega.{arith}
 use Rattle.seek.proofs.Counts.{count-add}

@@ -1,16 +1,14 @@
 -- What a passed check of a block or a sector shows: a proper list over an N in range, and a number below its bound.
 -- Assumes nothing.
 use Prim.Native.Nat.{ℕ, _<_, _≤_}
-use mathlib.Core.Path.{_≡_, sym, _∙_}
+use mathlib.Core.Path.{_≡_, sym}
 use mathlib.Core.List.{List}
 use native.Mathlib.Omega.{arith}
 use lib.Dec.{leb}
-use borrow.Author.Tests.{le-leb}
 use Rattle.paper.proofs.Rows.{below-shows}
-use Rattle.paper.specs.Checks.{refuse, _orElse_}
+use Rattle.paper.specs.Checks.{refuse}
 use Rattle.paper.specs.Refusals.{noSuchBlock, noSuchSector}
 use Rattle.paper.specs.Limits.{unitsMost}
-use Rattle.paper.proofs.Cases.{byLt}
 use Rattle.paper.proofs.Chain.{orElse-first, orElse-next}
 use Rattle.lists.specs.Proper.{Proper, spaceFault}
 use Rattle.lists.proofs.Exact.{space-list, space-size}

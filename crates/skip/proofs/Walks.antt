@@ -2,15 +2,13 @@
 -- Assumes nothing.
 use Prim.Native.Nat.{ℕ, zero, suc, _+_, _-_, _<_, _≤_}
 use mathlib.Core.Path.{_≡_, refl, sym, _∙_, ap}
-use mathlib.Core.Bool.{Bool, true, false, true≢false}
+use mathlib.Core.Bool.{true, false, true≢false}
 use mathlib.Core.List.{List, [], _∷_}
 use native.Mathlib.Omega.{arith}
-use lib.Dec.{ltb, leb}
-use lib.ListN.{length, getD, drop}
+use lib.ListN.{length, getD}
 use borrow.Author.Tests.{le-leb, lt-leb, lt-ltb, le-ltb}
-use Rattle.paper.specs.Checks.{pick}
 use Rattle.paper.proofs.Cases.{byBool, byLt, byEq}
-use Rattle.lists.specs.Proper.{Rising, Inside, Proper}
+use Rattle.lists.specs.Proper.{Rising, Inside}
 use Rattle.lists.specs.Union.{isIn}
 use Rattle.lists.proofs.Risings.{Above, rising-tail, rising-above, inside-tail}
 use Rattle.lists.proofs.Members.{not-in-nil, in-here, in-there, not-in-above}

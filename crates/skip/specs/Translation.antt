@@ -1,6 +1,5 @@
 -- Document 01, "Skipping": block to sector and sector to block on N sectors with a list of bad ones, with their checks.
 use Prim.Native.Nat.{ℕ, _-_, _≤_}
-use mathlib.Core.Bool.{Bool}
 use mathlib.Core.List.{List}
 use lib.Dec.{leb}
 use lib.ListN.{length}

@@ -4,7 +4,7 @@ ghost use Prim.Native.Nat.{_≤_, _<_};
 ghost use lib.Dec.{eqb};
 ghost use lib.ListN.{length};
 ghost use Rattle.paper.specs.Limits.{listMost, unitsMost};
-ghost use Rattle.lists.specs.Proper.{Rising, Proper, spaceFault};
+ghost use Rattle.lists.specs.Proper.{Rising, Proper};
 ghost use Rattle.skip.specs.Walk.{passes, walked, entriesBelow, isBehind, isAhead};
 ghost use Rattle.skip.specs.Translation.{blocks, blockFault, sectorFault, blockOn};
 ghost use Rattle.skip.specs.Cursors.{belongs, cursorFault, stepFault};

@@ -1,7 +1,7 @@
 -- The census law: whatever calls follow a first table, the free places are the spares less the bad spares, the bad home blocks and the accepted replacements.
 -- Assumes nothing.
 use Prim.Native.Nat.{ℕ, _+_, _-_}
-use mathlib.Core.Path.{_≡_, refl, sym, _∙_}
+use mathlib.Core.Path.{_≡_}
 use mathlib.Core.List.{List, [], _∷_}
 use native.Mathlib.Omega.{arith}
 use lib.ListN.{length}

@@ -1,7 +1,7 @@
 -- `format::count_both` meets its contract. The loop's invariant: the walk goes right, and what is counted and what is left of each list are its whole length.
 -- Assumes nothing.
 use Prim.Native.Nat.{_≤_, _-_, _+_}
-use mathlib.Core.Path.{_≡_, refl, ap}
+use mathlib.Core.Path.{_≡_, ap}
 use native.Mathlib.Omega.{arith}
 use lib.ListN.{length}
 use denote.Ref.{now}

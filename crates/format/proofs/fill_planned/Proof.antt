@@ -1,7 +1,7 @@
 -- `format::fill_planned` meets its contract: both passes walk what the plan lays out.
 -- Assumes nothing.
 use borrow.Author.Needs.{needs}
-use mathlib.Core.Path.{_≡_, sym, _∙_}
+use mathlib.Core.Path.{_∙_}
 use denote.Ref.{now}
 use Rattle.format.proofs.Planning.{kept-ready}
 use Rattle.format.proofs.fill_planned.Statement.{statement}

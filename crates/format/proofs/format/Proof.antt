@@ -1,7 +1,7 @@
 -- `format::format` meets its contract: where the plan fits and both rooms have place, the second pass writes what the first has counted; else nothing is written.
 -- Assumes nothing.
 use borrow.Author.Needs.{needs}
-use mathlib.Core.Path.{_≡_, sym, _∙_}
+use mathlib.Core.Path.{sym, _∙_}
 use native.Mathlib.Omega.{arith}
 use denote.Ref.{now}
 use Rattle.format.proofs.Planning.{supplied-ready}

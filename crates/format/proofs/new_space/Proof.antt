@@ -1,7 +1,7 @@
 -- `format::new_space` meets its contract: the cell of the row, or the space as before.
 -- Assumes nothing.
 use borrow.Author.Needs.{needs}
-use mathlib.Core.Path.{_≡_, sym, _∙_}
+use mathlib.Core.Path.{sym, _∙_}
 use borrow.Author.Tests.{eq-eqb, ne-eqb}
 use Rattle.format.specs.Options.{spaceBy, asBefore}
 use Rattle.format.proofs.new_space.Statement.{statement}

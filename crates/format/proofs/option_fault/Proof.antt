@@ -1,7 +1,7 @@
 -- `format::option_fault` meets its contract: each return is a case of the test.
 -- Assumes nothing.
 use borrow.Author.Needs.{needs}
-use mathlib.Core.Path.{_≡_, sym, _∙_}
+use mathlib.Core.Path.{sym, _∙_}
 use borrow.Author.Tests.{eq-eqb, ne-eqb, le-leb, lt-leb}
 use Rattle.format.specs.Options.{meaning, none}
 use Rattle.format.proofs.option_fault.Statement.{statement}

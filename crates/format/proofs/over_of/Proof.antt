@@ -1,7 +1,7 @@
 -- `format::over_of` meets its contract: the cell of the row decides.
 -- Assumes nothing.
 use borrow.Author.Needs.{needs}
-use mathlib.Core.Path.{_≡_, sym, _∙_}
+use mathlib.Core.Path.{sym, _∙_}
 use borrow.Author.Tests.{eq-eqb, ne-eqb}
 use Rattle.format.specs.Options.{meaning, inBlocks}
 use Rattle.format.proofs.over_of.Statement.{statement}

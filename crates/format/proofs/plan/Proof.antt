@@ -1,13 +1,11 @@
 -- `format::plan` meets its contract: what the walk counts are the lengths of the two lists that are stated.
 -- Assumes nothing.
 use borrow.Author.Needs.{needs}
-use Prim.Native.Nat.{_<_, _≤_}
 use mathlib.Core.Path.{_≡_, sym, _∙_, ap}
 use native.Mathlib.Omega.{arith}
 use lib.ListN.{length}
 use denote.Ref.{now}
 use Rattle.format.specs.Spaces.{newGrown, newList}
-use Rattle.format.specs.declared.Planned.the-variants.{Fits}
 use Rattle.format.proofs.Planning.{supplied-shows, supplied-ready, planned-grown, planned-list}
 use Rattle.format.proofs.Answering.{plan-supplied, plan-grown-long, plan-list-long, plan-fits}
 use Rattle.format.proofs.plan.Statement.{statement}

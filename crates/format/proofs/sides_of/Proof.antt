@@ -1,7 +1,6 @@
 -- `format::sides_of` meets its contract: both sides are computed as the definition says.
 -- Assumes nothing.
 use borrow.Author.Needs.{needs}
-use mathlib.Core.Path.{_≡_}
 use Rattle.format.proofs.sides_of.Statement.{statement}
 use Rattle.format.proofs.sides_of.Tie as tie
 

@@ -1,9 +1,8 @@
 -- `format::size_of_d` meets its contract: the cell of the row decides, and a difference below 0 is 0.
 -- Assumes nothing.
 use borrow.Author.Needs.{needs}
-use Prim.Native.Nat.{ℕ, _-_}
 use native.Mathlib.Omega.{arith}
-use mathlib.Core.Path.{_≡_, sym, _∙_}
+use mathlib.Core.Path.{sym, _∙_}
 use borrow.Author.Tests.{eq-eqb, ne-eqb}
 use Rattle.format.specs.Options.{meaning, inBlocks}
 use Rattle.format.proofs.size_of_d.Statement.{statement}

@@ -1,8 +1,7 @@
 -- `lists::merge` meets its contract. The loop's invariant: what is written and then what is left of the union are the union, and the room beyond what is written is as it was.
 -- Assumes nothing.
 use Prim.Native.Nat.{_≤_, _-_, _+_}
-use mathlib.Core.Path.{_≡_, refl, sym, _∙_, ap}
-use mathlib.Core.List.{List, [], _∷_, _++_}
+use mathlib.Core.Path.{ap}
 use native.Mathlib.Omega.{arith}
 use lib.ListN.{length, drop, take}
 use denote.Ref.{now}

@@ -1,7 +1,7 @@
 -- `lists::space_fault` meets its contract: the two checks follow one another as in the definition.
 -- Assumes nothing.
 use borrow.Author.Needs.{needs}
-use mathlib.Core.Path.{sym, _∙_}
+use mathlib.Core.Path.{sym}
 use Rattle.paper.proofs.Chain.{orElse-some}
 use Rattle.lists.proofs.space_fault.Statement.{statement}
 use Rattle.lists.proofs.space_fault.Tie as tie

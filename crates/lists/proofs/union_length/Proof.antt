@@ -1,7 +1,7 @@
 -- `lists::union_length` meets its contract. The loop's invariant: the entries counted and those of the union still to come are all of its entries.
 -- Assumes nothing.
 use Prim.Native.Nat.{_≤_, _-_, _+_}
-use mathlib.Core.Path.{_≡_, refl, sym, _∙_, ap}
+use mathlib.Core.Path.{_≡_, ap}
 use native.Mathlib.Omega.{arith}
 use lib.ListN.{length, drop}
 use denote.Ref.{now}

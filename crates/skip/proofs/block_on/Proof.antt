@@ -1,8 +1,7 @@
 -- `skip::block_on` meets its contract: a sector that passes the checks is named as the definition says.
 -- Assumes nothing.
 use borrow.Author.Needs.{needs}
-use mathlib.Core.Path.{_≡_, sym, _∙_, ap}
-use native.Mathlib.Omega.{arith}
+use mathlib.Core.Path.{sym, _∙_}
 use denote.Ref.{now}
 use Rattle.paper.proofs.Chain.{answer-refused, answer-accepted, named-says}
 use Rattle.paper.proofs.Kept.{gives}

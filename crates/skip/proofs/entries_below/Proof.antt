@@ -1,7 +1,7 @@
 -- `skip::entries_below` meets its contract. The loop's invariant: the entries counted and those below the sector from here on are all; at the first entry not below it none is left, since the list rises.
 -- Assumes nothing.
 use Prim.Native.Nat.{_≤_, _-_, _+_}
-use mathlib.Core.Path.{_≡_, sym, _∙_}
+use mathlib.Core.Path.{_≡_}
 use native.Mathlib.Omega.{arith}
 use lib.ListN.{length, drop}
 use denote.Ref.{now}

@@ -1,14 +1,11 @@
 -- `skip::is_of` meets its contract: the count before a block is what the block before it passes, and 0 before block 0.
 -- Assumes nothing.
 use borrow.Author.Needs.{needs}
-use Prim.Native.Nat.{_≤_, _<_, _-_}
-use mathlib.Core.Path.{_≡_, sym, _∙_}
+use Prim.Native.Nat.{_≤_, _<_}
 use native.Mathlib.Omega.{arith}
 use denote.Ref.{now}
 use borrow.Author.Tests.{le-leb, lt-leb}
-use Rattle.skip.specs.Walk.{passes}
 use Rattle.skip.specs.Translation.{blocks}
-use Rattle.skip.specs.Cursors.{skippedBefore}
 use Rattle.skip.proofs.Cursoring.{skipped-passes}
 use Rattle.skip.proofs.is_of.Statement.{statement}
 use Rattle.skip.proofs.is_of.Tie as tie

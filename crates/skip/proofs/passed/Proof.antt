@@ -1,7 +1,7 @@
 -- `skip::passed` meets its contract. The loop's invariant: the entries passed and those that the walk still passes from here are all that it passes.
 -- Assumes nothing.
 use Prim.Native.Nat.{_≤_, _-_, _+_}
-use mathlib.Core.Path.{_≡_, sym, _∙_}
+use mathlib.Core.Path.{_≡_}
 use native.Mathlib.Omega.{arith}
 use lib.ListN.{length, drop}
 use denote.Ref.{now}

@@ -1,7 +1,7 @@
 -- `skip::passes_just` meets its contract: a block passes just so many entries exactly when the last of them is passed and the next one is not.
 -- Assumes nothing.
 use borrow.Author.Needs.{needs}
-use mathlib.Core.Path.{_≡_, sym, _∙_}
+use mathlib.Core.Path.{sym, _∙_}
 use native.Mathlib.Omega.{arith}
 use denote.Ref.{now}
 use borrow.Author.Tests.{not-true, not-false}

@@ -1,7 +1,7 @@
 -- `skip::sector_fault` meets its contract: the checks follow one another as in the definition.
 -- Assumes nothing.
 use borrow.Author.Needs.{needs}
-use mathlib.Core.Path.{_≡_, sym, _∙_}
+use mathlib.Core.Path.{sym}
 use borrow.Author.Tests.{le-leb, lt-leb}
 use Rattle.paper.proofs.Chain.{orElse-some}
 use Rattle.skip.proofs.sector_fault.Statement.{statement}

@@ -1,8 +1,7 @@
 -- `skip::sector_of` meets its contract: a block that passes the checks walks to the place that the definition gives.
 -- Assumes nothing.
 use borrow.Author.Needs.{needs}
-use mathlib.Core.Path.{_≡_, sym, _∙_, ap}
-use native.Mathlib.Omega.{arith}
+use mathlib.Core.Path.{sym, _∙_, ap}
 use denote.Ref.{now}
 use Rattle.paper.proofs.Chain.{answer-refused, answer-accepted, placed-says}
 use Rattle.paper.proofs.Kept.{gives}

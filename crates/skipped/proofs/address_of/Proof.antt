@@ -1,7 +1,7 @@
 -- `skipped::address_of` meets its contract: the walk ends on the place that the definition gives, and the address is made of it.
 -- Assumes nothing.
 use borrow.Author.Needs.{needs}
-use mathlib.Core.Path.{_≡_, sym, _∙_, ap}
+use mathlib.Core.Path.{sym, _∙_, ap}
 use denote.Ref.{now}
 use Rattle.paper.proofs.Chain.{answer-refused, answer-accepted}
 use Rattle.paper.proofs.Kept.{gives}

@@ -1,7 +1,7 @@
 -- `skipped::block_at` meets its contract: the sector number of an address on the drive is named as the definition says.
 -- Assumes nothing.
 use borrow.Author.Needs.{needs}
-use mathlib.Core.Path.{_≡_, sym, _∙_, ap}
+use mathlib.Core.Path.{sym, _∙_, ap}
 use denote.Ref.{now}
 use Rattle.paper.proofs.Chain.{answer-refused, answer-accepted, named-says}
 use Rattle.paper.proofs.Kept.{gives}

@@ -1,10 +1,8 @@
 -- `skipped::drive_fault` meets its contract: the list is checked over the sectors of a shape that passes.
 -- Assumes nothing.
 use borrow.Author.Needs.{needs}
-use mathlib.Core.Path.{_≡_, sym, _∙_, ap}
-use denote.Ref.{now}
+use mathlib.Core.Path.{sym, _∙_}
 use Rattle.paper.proofs.Chain.{orElse-some}
-use Rattle.lists.specs.Proper.{listFault}
 use Rattle.shape.proofs.Exact.{shape-shows}
 use Rattle.skipped.proofs.drive_fault.Statement.{statement}
 use Rattle.skipped.proofs.drive_fault.Tie as tie

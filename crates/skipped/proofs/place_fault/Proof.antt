@@ -1,8 +1,7 @@
 -- `skipped::place_fault` meets its contract: the checks follow one another as in the definition.
 -- Assumes nothing.
 use borrow.Author.Needs.{needs}
-use mathlib.Core.Path.{_≡_, sym, _∙_, ap}
-use denote.Ref.{now}
+use mathlib.Core.Path.{sym}
 use Rattle.paper.proofs.Chain.{orElse-some}
 use Rattle.skipped.proofs.place_fault.Statement.{statement}
 use Rattle.skipped.proofs.place_fault.Tie as tie

@@ -1,9 +1,7 @@
 -- `skip::Cursor::check` meets its contract: a cursor that passes is handed back.
 -- Assumes nothing.
 use borrow.Author.Needs.{needs}
-use mathlib.Core.Path.{_≡_, sym, _∙_, ap}
-use native.Mathlib.Omega.{arith}
-use denote.Ref.{now}
+use mathlib.Core.Path.{sym, _∙_}
 use Rattle.paper.proofs.Chain.{answer-refused, answer-accepted}
 use Rattle.paper.proofs.Kept.{gives}
 use Rattle.skip.proofs.Cursoring.{ready-says}

@@ -1,10 +1,10 @@
 -- `skip::Cursor::start` meets its contract: the count before a block is what the block before it passes, and 0 before block 0.
 -- Assumes nothing.
 use borrow.Author.Needs.{needs}
-use mathlib.Core.Path.{_≡_, sym, _∙_, ap}
+use mathlib.Core.Path.{sym, _∙_}
 use native.Mathlib.Omega.{arith}
 use denote.Ref.{now}
-use Rattle.paper.proofs.Chain.{answer-refused, answer-accepted}
+use Rattle.paper.proofs.Chain.{answer-refused}
 use Rattle.paper.proofs.Kept.{gives}
 use Rattle.skip.proofs.Shown.{block-proper, block-most}
 use Rattle.skip.proofs.Cursoring.{ready-says, start-first, start-later}

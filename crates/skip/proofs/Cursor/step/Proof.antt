@@ -1,10 +1,10 @@
 -- `skip::Cursor::step` meets its contract: the cursor belongs, so its count is passed already, and the walk goes on from there.
 -- Assumes nothing.
 use borrow.Author.Needs.{needs}
-use mathlib.Core.Path.{_≡_, sym, _∙_, ap}
+use mathlib.Core.Path.{sym, _∙_}
 use native.Mathlib.Omega.{arith}
 use denote.Ref.{now}
-use Rattle.paper.proofs.Chain.{answer-refused, answer-accepted}
+use Rattle.paper.proofs.Chain.{answer-refused}
 use Rattle.paper.proofs.Kept.{gives}
 use Rattle.skip.proofs.Cursoring.{stepped-says, step-proper, step-most, step-known, step-on}
 use Rattle.skip.proofs.Walks.{passes-le}
