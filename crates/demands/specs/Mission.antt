@@ -1,0 +1,49 @@
+-- What the user demands of an answer, in words of the paper and apart from any chain of checks. The theorems of this crate prove these relations of every answer, and a wrong board breaks them.
+use Prim.Native.Nat.{ℕ, suc, _/_, _<_}
+use mathlib.Core.Path.{_≡_}
+use mathlib.Core.List.{List}
+use lib.IntN.{ℤ, pos, natAbs, _+ℤ_}
+use lib.ListN.{length, take, drop}
+use Rattle.paper.specs.Exactly.{Exactly}
+use Rattle.skip.specs.Cursors.{Belongs}
+use Rattle.skip.specs.declared.Cursor.{Cursor}
+use Rattle.layout.specs.declared.Layout.{Layout}
+use Rattle.layout.specs.Layouts.{sectorsOf, homeCylinder}
+use Rattle.layout.specs.Descriptors.{free, atPrimary, elsewhere, unusable, null}
+use Rattle.table.specs.Lookup.{liesOn}
+use Rattle.replacing.specs.Counting.{codeCount}
+use Rattle.replacing.specs.declared.Census.{Census}
+
+-- demand 1: the result's number is given exactly when the paper's table gives it; a refusal says its number and nothing else; and a result that is a refusal has a number, so that 0 means accepted
+pub record ByTheNumbers {Result Said : Type 0} (said : Result → Said) (number : Said → ℕ) (nothing : ℕ → Said) (refused : ℕ → Result) (Judged : ℕ → Type 0) (result : Result) : Type 0 where
+  pub exactly : Exactly Judged (number (said result))
+  pub says-nothing : (number (said result) ≡ 0 → ⊥) → said result ≡ nothing (number (said result))
+  pub never-refused-0 : result ≡ refused 0 → ⊥
+
+-- demand 1: lent memory keeps its bytes where the call refuses
+abbrev pub Keeps : ℕ → List ℕ → List ℕ → Type 0
+Keeps fault before after = (fault ≡ 0 → ⊥) → after ≡ before
+
+-- an accepted result fills the first places of the lent room and leaves the rest, and its length is the one that is answered
+pub record Handed (list before : List ℕ) (long : ℕ) (after : List ℕ) : Type 0 where
+  pub long-as : long ≡ length list
+  pub first : take long after ≡ list
+  pub rest : drop long after ≡ drop long before
+
+-- demand 2: after a step the cursor is that of the next block, and one of this list
+pub record Onward (n : ℕ) (a : List ℕ) (c next : Cursor) : Type 0 where
+  pub follows : next .block ≡ suc (c .block)
+  pub belongs : Belongs n a next
+
+-- a shift leads from the cylinder of a block's home to the cylinder that it lies on, and lies within 1 − C to C − 1
+pub record Leads (g : Layout) (t : List ℕ) (b cylinders : ℕ) (shift : ℤ) : Type 0 where
+  pub leads : pos (homeCylinder g b) +ℤ shift ≡ pos (liesOn g t b / sectorsOf g / g .heads)
+  pub within : natAbs shift < cylinders
+
+-- a census counts each code of the table
+pub record Counts (t : List ℕ) (census : Census) : Type 0 where
+  pub are-free : census .free ≡ codeCount t free
+  pub are-primary : census .primary ≡ codeCount t atPrimary
+  pub are-elsewhere : census .elsewhere ≡ codeCount t elsewhere
+  pub are-unusable : census .unusable ≡ codeCount t unusable
+  pub are-null : census .null ≡ codeCount t null
