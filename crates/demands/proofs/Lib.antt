@@ -1,1 +1,3 @@
-
+pub mod Chains
+pub mod ByKind
+pub mod Demand1

@@ -1,1 +1,2 @@
 pub mod Mission
+pub mod Numbered

@@ -1,7 +1,7 @@
 -- What the user demands of an answer, in words of the paper and apart from any chain of checks. The theorems of this crate prove these relations of every answer, and a wrong board breaks them.
 use Prim.Native.Nat.{ℕ, suc, _/_, _<_}
 use mathlib.Core.Path.{_≡_}
-use mathlib.Core.List.{List}
+use mathlib.Core.List.{List, []}
 use lib.IntN.{ℤ, pos, natAbs, _+ℤ_}
 use lib.ListN.{length, take, drop}
 use Rattle.paper.specs.Exactly.{Exactly}
@@ -23,6 +23,13 @@ pub record ByTheNumbers {Result Said : Type 0} (said : Result → Said) (number 
 -- demand 1: lent memory keeps its bytes where the call refuses
 abbrev pub Keeps : ℕ → List ℕ → List ℕ → Type 0
 Keeps fault before after = (fault ≡ 0 → ⊥) → after ≡ before
+
+-- demand 1 for a part that is handed back: empty exactly where the number that the paper's table gives is not 0, else of its whole size
+pub record PartBy (Judged : ℕ → Type 0) (size : ℕ) (part : List ℕ) : Type 0 where
+  pub number : ℕ
+  pub exactly : Exactly Judged number
+  pub refused-empty : (number ≡ 0 → ⊥) → part ≡ []
+  pub accepted-whole : number ≡ 0 → length part ≡ size
 
 -- an accepted result fills the first places of the lent room and leaves the rest, and its length is the one that is answered
 pub record Handed (list before : List ℕ) (long : ℕ) (after : List ℕ) : Type 0 where
