@@ -1,3 +1,4 @@
 pub mod Chains
 pub mod ByKind
 pub mod Demand1
+pub mod Demand2Skipped
