@@ -1,0 +1,90 @@
+-- A census counts each code, and from a first table, after any calls, free = spares − bad spares − bad home blocks − accepted replacements.
+-- Assumes nothing.
+use Prim.Native.Nat.{ℕ, _+_, _-_, _≤_}
+use mathlib.Core.Path.{_≡_, refl, sym, _∙_, ap}
+use mathlib.Core.List.{List}
+use native.Mathlib.Omega.{arith}
+use lib.ListN.{length, take}
+use Rattle.paper.specs.declared.Written.the-variants.{Length}
+use Rattle.seek.proofs.Counts.{count-le}
+use Rattle.shape.specs.declared.Shape.{Shape}
+use Rattle.layout.specs.Layouts.{layoutOf}
+use Rattle.layout.specs.Descriptors.{free}
+use Rattle.layout.specs.declared.Layout.{Layout}
+use Rattle.table.specs.Rules.{tableFault, tableLength}
+use Rattle.replacing.specs.Counting.{codeCount, censusOf}
+use Rattle.replacing.specs.declared.Census.{Census}
+use Rattle.marking.specs.Marks.{isBadSpare, badSpares, badHomes, goodSpares}
+use Rattle.first.specs.First.{firstTable, firstFault}
+use Rattle.first.specs.Promises.{FirstTable}
+use Rattle.first.proofs.Exact.{first-shows, first-made}
+use Rattle.spares.specs.Promises.{saidCounted, CensusOf}
+use Rattle.spares.specs.History.{Call, afterAll, accepted}
+use Rattle.spares.specs.declared.Counted.{Counted}
+use Rattle.spares.specs.declared.Counted.the-variants.{Counts as Census-of}
+use Rattle.spares.proofs.Accepted.{census-whole}
+use Rattle.spares.proofs.Histories.{history-passes, history-frees, first-passes, census-law}
+use Rattle.demands.specs.Mission.{Counts, Handed}
+use Rattle.demands.proofs.Rooms.{first-table-hands}
+
+-- a census that is answered counts each code of the table
+pub census-counts : (shape : Shape) (r : ℕ) (t : List ℕ) (census : Census) → CensusOf shape r t (Census-of census) → Counts t census
+census-counts shape r t census promise =
+    let passes : tableFault shape r t ≡ 0 = sym (ap (λ (said : ℕ × ℕ × ℕ × ℕ × ℕ × ℕ). said .0) (promise .says)) in
+    record {
+      are-free = rw passes at (ap (λ (said : ℕ × ℕ × ℕ × ℕ × ℕ × ℕ). said .1) (promise .says));
+      are-primary = rw passes at (ap (λ (said : ℕ × ℕ × ℕ × ℕ × ℕ × ℕ). said .2) (promise .says));
+      are-elsewhere = rw passes at (ap (λ (said : ℕ × ℕ × ℕ × ℕ × ℕ × ℕ). said .3) (promise .says));
+      are-unusable = rw passes at (ap (λ (said : ℕ × ℕ × ℕ × ℕ × ℕ × ℕ). said .4) (promise .says));
+      are-null = rw passes at (ap (λ (said : ℕ × ℕ × ℕ × ℕ × ℕ × ℕ). said .5) (promise .says));
+    }
+
+-- and leaves no place out
+pub census-leaves-none-out :
+    (shape : Shape) (r : ℕ) (t : List ℕ) (census : Census) → CensusOf shape r t (Census-of census) →
+    census .free + (census .primary + (census .elsewhere + (census .unusable + census .null))) ≡ tableLength (layoutOf shape r)
+census-leaves-none-out shape r t census promise =
+    let passes : tableFault shape r t ≡ 0 = sym (ap (λ (said : ℕ × ℕ × ℕ × ℕ × ℕ × ℕ). said .0) (promise .says)) in
+    let counts : Counts t census = census-counts shape r t census promise in
+    rw (counts .are-free, counts .are-primary, counts .are-elsewhere, counts .are-unusable, counts .are-null) (census-whole shape r t passes)
+
+spares-hold : (g : Layout) (list : List ℕ) → badSpares g list ≤ g .spares
+unfolding badSpares
+spares-hold g list = count-le (isBadSpare g list) (g .spares)
+
+module _ (shape : Shape) (r : ℕ) (list room : List ℕ) (long : ℕ) (after : List ℕ) (made : FirstTable shape r list room (Length long) after) where
+  first-fault : firstFault shape r list room ≡ 0
+  first-fault = sym (ap (λ (said : ℕ × ℕ). said .0) (made .says))
+
+  first-is : take long after ≡ firstTable (layoutOf shape r) list
+  first-is = first-table-hands shape r list room long after made .0 .first
+
+  module _ (calls : List Call) where
+    -- after any history of calls, accepted or refused, the table passes and a census is answered
+    pub census-answered : (result : Counted) → CensusOf shape r (afterAll shape r (take long after) calls) result → saidCounted result .0 ≡ 0
+    census-answered result promise =
+        ap (λ (said : ℕ × ℕ × ℕ × ℕ × ℕ × ℕ). said .0) (promise .says)
+        ∙ history-passes shape r (take long after) calls (rw first-is (first-passes shape r list room first-fault))
+
+    -- free = spares − bad spares − bad home blocks − accepted replacements
+    pub free-places :
+        (census : Census) → CensusOf shape r (afterAll shape r (take long after) calls) (Census-of census) →
+        census .free
+        ≡ layoutOf shape r .spares - badSpares (layoutOf shape r) list - length (badHomes (layoutOf shape r) list)
+        - accepted shape r (take long after) calls
+    free-places census promise =
+        census-counts shape r (afterAll shape r (take long after) calls) census promise .are-free
+        ∙ rw first-is (census-law shape r list room first-fault calls)
+
+    -- and no difference falls below 0: the four numbers make up the spares
+    pub places-make-up-spares :
+        (census : Census) → CensusOf shape r (afterAll shape r (take long after) calls) (Census-of census) →
+        census .free + (accepted shape r (take long after) calls + (length (badHomes (layoutOf shape r) list) + badSpares (layoutOf shape r) list))
+        ≡ layoutOf shape r .spares
+    places-make-up-spares census promise =
+        let free-first : codeCount (firstTable (layoutOf shape r) list) free ≡ goodSpares (layoutOf shape r) list - length (badHomes (layoutOf shape r) list) =
+        first-made shape r list room first-fault .free-left in
+        let frees = history-frees shape r (firstTable (layoutOf shape r) list) calls in
+        let is : census .free ≡ codeCount (afterAll shape r (firstTable (layoutOf shape r) list) calls) free =
+        rw first-is at (census-counts shape r (afterAll shape r (take long after) calls) census promise .are-free) in
+        rw first-is (omega (arith, is, frees, free-first, first-shows shape r list room first-fault .enough, spares-hold (layoutOf shape r) list))

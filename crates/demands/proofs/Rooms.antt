@@ -1,0 +1,107 @@
+-- Accepted results fill the first places of the lent room and leave the rest, and the length that a call answers is that of the list or of the bytes that it wrote. (That a refused call leaves the whole room stands in `Demand1`.)
+-- Assumes nothing.
+use Prim.Native.Nat.{ℕ, _+_}
+use mathlib.Core.Path.{_≡_, refl, sym, ap}
+use mathlib.Core.Bool.{Bool}
+use mathlib.Core.List.{List}
+use lib.ListN.{length, take, drop}
+use lib.Seq.{take-at, drop-at}
+use Rattle.paper.specs.Limits.{dataSize, imageExtra}
+use Rattle.paper.specs.declared.Written.the-variants.{Length}
+use Rattle.lists.specs.Union.{written}
+use Rattle.page.specs.Layout.{kindOf, unitsOf, entriesOf}
+use Rattle.page.specs.Pages.{readFault, writeFault, pageBytes}
+use Rattle.page.specs.Promises.{Reads, Writes}
+use Rattle.page.specs.declared.Paged.the-variants.{Page}
+use Rattle.page.proofs.Bytes.{length-pageBytes}
+use Rattle.format.specs.Spaces.{formatFault, newGrown, newList, newSpace}
+use Rattle.format.specs.Promises.{Formats}
+use Rattle.format.specs.declared.Formatted.the-variants.{Done}
+use Rattle.shape.specs.declared.Shape.{Shape}
+use Rattle.layout.specs.Layouts.{layoutOf}
+use Rattle.first.specs.First.{firstTable, firstFault, Starts}
+use Rattle.first.specs.Promises.{FirstTable}
+use Rattle.first.proofs.Exact.{first-made}
+use Rattle.image.specs.Image.{imageOf, writeFault as imageWriteFault}
+use Rattle.image.specs.Promises.{Write}
+use Rattle.image.proofs.ThereAndBack.{room-image, room-rest}
+use Rattle.image.proofs.Exact.{write-shows}
+use Rattle.image.proofs.Images.{length-image}
+use Rattle.demands.specs.Mission.{Handed}
+
+-- a room that holds a list and then the rest of what it held
+pub handed : (list before : List ℕ) (long : ℕ) (after : List ℕ) → long ≡ length list → after ≡ written list before → Handed list before long after
+handed list before long after is holds =
+    record {
+      long-as = is;
+      first = rw holds (take-at list (drop (length list) before) long (sym is));
+      rest = rw (holds, drop-at list (drop (length list) before) long (sym is), is);
+    }
+
+-- `page::read` hands back the entries of the page, beside its kind and N
+pub page-read-hands :
+    (page room : List ℕ) (kind n entries : ℕ) (after : List ℕ) → Reads page room (Page kind n entries) after →
+    (kind ≡ kindOf page) × ((n ≡ unitsOf page) × Handed (entriesOf page) room entries after)
+page-read-hands page room kind n entries after promise =
+    let passes : readFault page room ≡ 0 = sym (ap (λ (said : ℕ × ℕ × ℕ × ℕ). said .0) (promise .says)) in
+    (
+      rw passes at (ap (λ (said : ℕ × ℕ × ℕ × ℕ). said .1) (promise .says)),
+      (
+        rw passes at (ap (λ (said : ℕ × ℕ × ℕ × ℕ). said .2) (promise .says)),
+        handed (entriesOf page) room entries after (rw passes at (ap (λ (said : ℕ × ℕ × ℕ × ℕ). said .3) (promise .says))) (rw passes at (promise .holds)),
+      ),
+    )
+
+-- `page::write` hands back the bytes of the page
+pub page-write-hands :
+    (n kind : ℕ) (list room : List ℕ) (long : ℕ) (after : List ℕ) → Writes n kind list room (Length long) after → Handed (pageBytes n kind list) room long after
+page-write-hands n kind list room long after promise =
+    let passes : writeFault n kind list room ≡ 0 = sym (ap (λ (said : ℕ × ℕ). said .0) (promise .says)) in
+    handed (pageBytes n kind list) room long after
+    (rw (length-pageBytes n kind list) (rw passes at (ap (λ (said : ℕ × ℕ). said .1) (promise .says))))
+    (rw passes at (promise .holds))
+
+-- Format hands back the new grown list and the list of the new space, and answers that space
+pub format-hands :
+    (n : ℕ) (p g : List ℕ) (space option : ℕ) (d grown list : List ℕ) (grownLong listLong spaceAfter : ℕ) (grownAfter listAfter : List ℕ) →
+    Formats n p g space option d grown list (Done grownLong listLong spaceAfter) grownAfter listAfter →
+    Handed (newGrown n p g space option d) grown grownLong grownAfter
+    × (Handed (newList n p g space option d) list listLong listAfter × (spaceAfter ≡ newSpace space option))
+format-hands n p g space option d grown list grownLong listLong spaceAfter grownAfter listAfter promise =
+    let passes : formatFault n p g space option d grown list ≡ 0 = sym (ap (λ (said : ℕ × ℕ × ℕ × ℕ). said .0) (promise .says)) in
+    (
+      handed (newGrown n p g space option d) grown grownLong grownAfter (rw passes at (ap (λ (said : ℕ × ℕ × ℕ × ℕ). said .1) (promise .says))) (rw passes at (promise .grown-holds)),
+      (
+        handed (newList n p g space option d) list listLong listAfter (rw passes at (ap (λ (said : ℕ × ℕ × ℕ × ℕ). said .2) (promise .says))) (rw passes at (promise .list-holds)),
+        rw passes at (ap (λ (said : ℕ × ℕ × ℕ × ℕ). said .3) (promise .says)),
+      ),
+    )
+
+-- `spares::first_table` hands back the first table
+pub first-table-hands :
+    (shape : Shape) (r : ℕ) (list room : List ℕ) (long : ℕ) (after : List ℕ) → FirstTable shape r list room (Length long) after →
+    Handed (firstTable (layoutOf shape r) list) room long after × Starts (layoutOf shape r) list (take long after)
+first-table-hands shape r list room long after promise =
+    let passes : firstFault shape r list room ≡ 0 = sym (ap (λ (said : ℕ × ℕ). said .0) (promise .says)) in
+    let starts : Starts (layoutOf shape r) list (firstTable (layoutOf shape r) list) = first-made shape r list room passes in
+    let hands : Handed (firstTable (layoutOf shape r) list) room long after =
+    handed (firstTable (layoutOf shape r) list) room long after
+    (rw (starts .obeys .long) (rw passes at (ap (λ (said : ℕ × ℕ). said .1) (promise .says))))
+    (rw passes at (promise .holds)) in
+    (hands, rw (hands .first) starts)
+
+-- `image::write` hands back the 530 bytes of the image
+pub image-write-hands :
+    (number : ℕ) (bytes : List ℕ) (forced : Bool) (room : List ℕ) (long : ℕ) (after : List ℕ) → Write number bytes forced room (Length long) after →
+    (long ≡ dataSize + imageExtra) × Handed (imageOf number bytes forced) room long after
+image-write-hands number bytes forced room long after promise =
+    let passes : imageWriteFault dataSize bytes room ≡ 0 = sym (ap (λ (said : ℕ × ℕ). said .0) (promise .says)) in
+    let is : long ≡ dataSize + imageExtra = rw passes at (ap (λ (said : ℕ × ℕ). said .1) (promise .says)) in
+    (
+      is,
+      record {
+        long-as = rw (length-image number bytes forced, write-shows dataSize bytes room passes .0) is;
+        first = rw (is, promise .holds) (room-image dataSize number bytes forced room passes);
+        rest = rw (is, promise .holds) (room-rest dataSize number bytes forced room passes);
+      },
+    )
