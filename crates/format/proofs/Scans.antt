@@ -15,6 +15,7 @@ use Rattle.lists.proofs.Unions.{union-assoc, union-holds}
 use Rattle.skip.specs.Skipping.{place, sectorsOf}
 use Rattle.skip.specs.Translation.{blocks}
 use Rattle.skip.proofs.Nights.{sectors-length, rising-sectors, night-place, joined-rising, joined-inside, joined-sectors}
+use Rattle.format.specs.Nights.{joined}
 use Rattle.format.specs.Options.{inBlocks, add, meaning, grownBy}
 use Rattle.format.specs.Spaces.{listOf, sizeOfD, newGrown, newList, newSpace, suppliedFault, planFault}
 use Rattle.format.proofs.Planning.{Supplied, tells-taken, bySpace, used-rising, used-inside, plan-shows, plan-grown, plan-list}
@@ -111,8 +112,8 @@ module _
     (second : planFault n p (newGrown n p g space option d) space option e ≡ 0)
   where
     -- the list that joins the first night's to the second's, written in the first night's numbers
-    pub joined : List ℕ
-    joined = union d (sectorsOf (blocks n (listOf space p g)) d e)
+    abbrev both : List ℕ
+    both = joined (blocks n (listOf space p g)) d e
 
     -- the list in use in the second night
     used-then : listOf space p (newGrown n p g space option d) ≡ union (listOf space p g) (sectorsOf n (listOf space p g) d)
@@ -136,8 +137,7 @@ module _
         (d-inside n p (newGrown n p g space option d) space option e scans second)
 
     -- both nights make the grown list of the joined night
-    pub nights-grown : newGrown n p (newGrown n p g space option d) space option e ≡ newGrown n p g space option joined
-    unfolding joined
+    pub nights-grown : newGrown n p (newGrown n p g space option d) space option e ≡ newGrown n p g space option both
     nights-grown =
         grown-is n p (newGrown n p g space option d) space option e scans
         ∙ (ap (λ (l : List ℕ). union l (sectorsOf n (listOf space p (newGrown n p g space option d)) e)) (grown-is n p g space option d scans)
@@ -154,12 +154,11 @@ module _
         ∙ sym (grown-is n p g space option (union d (sectorsOf (blocks n (listOf space p g)) d e)) scans)))))
 
     -- and its list
-    pub nights-list : newList n p (newGrown n p g space option d) space option e ≡ newList n p g space option joined
+    pub nights-list : newList n p (newGrown n p g space option d) space option e ≡ newList n p g space option both
     nights-list = ap (listOf (newSpace space option) p) nights-grown
 
     -- and the joined night is accepted, given room
-    pub joined-supplied : Supplied n p g space option joined
-    unfolding joined
+    pub joined-supplied : Supplied n p g space option both
     joined-supplied =
         let was : Supplied n p g space option d = plan-shows n p g space option d first in
         let rises : Rising (union d (sectorsOf (blocks n (listOf space p g)) d e)) =
@@ -189,8 +188,8 @@ module _
               };
         }
 
-    pub joined-passes : planFault n p g space option joined ≡ 0
+    pub joined-passes : planFault n p g space option both ≡ 0
     joined-passes =
-        plan-passes n p g space option joined joined-supplied
+        plan-passes n p g space option both joined-supplied
         (rw nights-grown at (plan-grown n p (newGrown n p g space option d) space option e second))
         (rw nights-list at (plan-list n p (newGrown n p g space option d) space option e second))

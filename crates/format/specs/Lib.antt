@@ -3,3 +3,4 @@ pub mod Spaces
 pub mod Walking
 pub mod Plans
 pub mod Promises
+pub mod Nights
