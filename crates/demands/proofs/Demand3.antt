@@ -1,7 +1,7 @@
 -- Demand 3: suppose Format accepts a scan's list, named in the numbers of that day's map, and builds the new map over the same kinds of list as the map in use. Then each new block lies where you arrive by skipping the named blocks in the old numbering and following the old map. Two such nights, both accepted, equal one night whose list joins the first to the second written in the first night's numbers.
 -- It is said over demand 2's map (`Lies`, `place`), since the identity map would obey the law too.
 -- Assumes nothing.
-use Prim.Native.Nat.{ℕ, _<_, _≤_}
+use Prim.Native.Nat.{ℕ, zero, suc, _≤_}
 use mathlib.Core.Path.{_≡_, refl, sym, _∙_, ap}
 use mathlib.Core.Logic.{_⊎_, inl, inr}
 use mathlib.Core.List.{List}
@@ -18,6 +18,7 @@ use Rattle.skip.proofs.Lying.{lies-place, lies-below, lies-one-block, place-lie
 use Rattle.skip.proofs.Walks.{goods-are-blocks}
 use Rattle.skip.proofs.Nights.{rising-night, inside-night, night-blocks}
 use Rattle.format.specs.Spaces.{listOf, newGrown, newList, newSpace, planFault, formatFault}
+use Rattle.format.specs.Options.{inBlocks, optionMost, meaning}
 use Rattle.format.specs.Nights.{ScanNight, joined}
 use Rattle.format.specs.Promises.{Formats}
 use Rattle.format.specs.declared.Formatted.{Formatted}
@@ -160,3 +161,15 @@ module _ (n : ℕ) (p g : List ℕ) (space option : ℕ) (night : ScanNight spac
                   hands .0 .first ∙ (sym one-grown ∙ sym (second-hands .0 .first)),
                   hands .1 .0 .first ∙ (sym one-new ∙ sym (second-hands .1 .0 .first)),
                 )
+
+-- no other option takes blocks and builds the new map over the same kinds of list
+pub only-these-nights : (space option : ℕ) → option ≤ optionMost → meaning option ≡ inBlocks → newSpace space option ≡ space → ScanNight space option
+only-these-nights space zero within blocks-named same = absurd (omega arith)
+only-these-nights space (suc zero) within blocks-named same = inl (sym same, refl)
+only-these-nights space (suc (suc zero)) within blocks-named same = absurd (omega arith)
+only-these-nights space (suc (suc (suc zero))) within blocks-named same = inr (sym same, refl)
+only-these-nights space (suc (suc (suc (suc zero)))) within blocks-named same = absurd (omega arith)
+only-these-nights space (suc (suc (suc (suc (suc zero))))) within blocks-named same = absurd (omega arith)
+only-these-nights space (suc (suc (suc (suc (suc (suc zero)))))) within blocks-named same = absurd (omega arith)
+only-these-nights space (suc (suc (suc (suc (suc (suc (suc zero))))))) within blocks-named same = absurd (omega arith)
+only-these-nights space (suc (suc (suc (suc (suc (suc (suc (suc option)))))))) within blocks-named same = absurd (omega arith)

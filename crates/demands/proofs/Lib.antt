@@ -6,3 +6,4 @@ pub mod Demand2Skipped
 pub mod Demand2Revectored
 pub mod Demand2Census
 pub mod Demand3
+pub mod ThereAndBack
