@@ -6,3 +6,4 @@ pub mod Answering
 pub mod Exact
 pub mod Scans
 pub mod Named
+pub mod Bits

@@ -1,7 +1,9 @@
 -- Document 01, "Format": the eight rows as one table, read by option number.
-use Prim.Native.Nat.{ℕ}
+use Prim.Native.Nat.{ℕ, _+_, _*_}
+use mathlib.Core.Bool.{Bool}
 use mathlib.Core.List.{List, [], _∷_}
 use lib.ListN.{getD}
+use Rattle.paper.specs.Checks.{pick}
 
 -- what the supplied list is in
 abbrev pub none : ℕ
@@ -30,12 +32,19 @@ replace = 3
 abbrev pub asBefore : ℕ
 asBefore = 4
 
+abbrev pub bit : Bool → ℕ
+bit set = pick set 1 0
+
 -- the highest option and the highest space
 abbrev pub optionMost : ℕ
 optionMost = 7
 
 abbrev pub spaceMost : ℕ
 spaceMost = 3
+
+-- option number = 4 × CMPLST + 2 × DPRY + DFCT
+abbrev pub optionOf : Bool → Bool → Bool → ℕ
+optionOf cmplst dpry dfct = 4 * bit cmplst + 2 * bit dpry + bit dfct
 
 -- option by option: what the list is in, the new grown list, the new space
 abbrev pub rows : List (List ℕ)
