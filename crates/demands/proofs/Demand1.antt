@@ -5,8 +5,7 @@
 use Prim.Native.Nat.{ℕ, _+_, _-_, _*_, _/_, _%_}
 use mathlib.Core.Path.{_≡_, _∙_, ap}
 use mathlib.Core.Bool.{Bool}
-use mathlib.Core.List.{List, []}
-use native.Mathlib.Omega.{arith}
+use mathlib.Core.List.{List}
 use lib.Dec.{ltb}
 use lib.ListN.{length, getD}
 use denote.Ref.{RefT}
@@ -35,7 +34,7 @@ use Rattle.skipped.specs.Drive.{blockFault as skippedBlockFault, placeFault as 
 use Rattle.skipped.specs.Promises.{AddressOf as SkippedAddressOf, BlockAt as SkippedBlockAt}
 use Rattle.skipped.proofs.Exact.{address-of-exactly as skipped-address-of-exactly, block-at-exactly as skipped-block-at-exactly}
 use Rattle.page.specs.Layout.{kindOf, unitsOf, entriesOf}
-use Rattle.page.specs.Pages.{readFault as pageReadFault, writeFault as pageWriteFault, pageLength, pageBytes, ReadJudged as PageReadJudged, WriteJudged as PageWriteJudged}
+use Rattle.page.specs.Pages.{readFault as pageReadFault, writeFault as pageWriteFault, pageLength, ReadJudged as PageReadJudged, WriteJudged as PageWriteJudged}
 use Rattle.page.specs.Promises.{saidPaged, Reads, Writes}
 use Rattle.page.specs.declared.Paged.{Paged}
 use Rattle.page.proofs.Exact.{read-exactly as page-read-exactly, write-exactly as page-write-exactly}
@@ -49,9 +48,9 @@ use Rattle.layout.specs.declared.Layout.{Layout}
 use Rattle.table.specs.Rules.{tableFault, tableLength, TableJudged}
 use Rattle.table.specs.Lookup.{isReplaced, liesOn, blockAtHome, blockOnSpare, lyingOn}
 use Rattle.table.proofs.Exact.{table-exactly}
-use Rattle.replacing.specs.Replacing.{spareFor, replacedIn}
+use Rattle.replacing.specs.Replacing.{spareFor}
 use Rattle.replacing.specs.Counting.{censusOf}
-use Rattle.first.specs.First.{firstTable, firstFault, FirstJudged}
+use Rattle.first.specs.First.{firstFault, FirstJudged}
 use Rattle.first.specs.Promises.{FirstTable}
 use Rattle.first.proofs.Exact.{first-exactly}
 use Rattle.spares.specs.Spares.{shiftOf, blockFault as spareBlockFault, blockOnFault, blockAtFault, replaceFault, BlockJudged, BlockOnJudged as SpareBlockOnJudged, BlockAtJudged as SpareBlockAtJudged, ReplaceJudged}
@@ -60,7 +59,7 @@ use Rattle.spares.specs.declared.Shifted.{Shifted}
 use Rattle.spares.specs.declared.Replaced.{Replaced}
 use Rattle.spares.specs.declared.Counted.{Counted}
 use Rattle.spares.proofs.Exact.{block-exactly, block-on-exactly as spare-block-on-exactly, block-at-exactly as spare-block-at-exactly, replace-exactly}
-use Rattle.image.specs.Image.{headerOf, dataOf, imageIn, headerFault, imageFault, writeFault}
+use Rattle.image.specs.Image.{headerOf, headerFault, imageFault, writeFault}
 use Rattle.image.specs.Judged.{HeaderJudged, ImageJudged, WriteJudged}
 use Rattle.image.specs.Promises.{Write, Header, Judge, Data}
 use Rattle.image.specs.declared.Head.{Head}
@@ -165,8 +164,7 @@ module _
     -- neither room is written where either is short
     pub format-keeps : Keeps (saidFormatted result .0) grown grownAfter × Keeps (saidFormatted result .0) list listAfter
     format-keeps =
-        let says : saidFormatted result .0 ≡ formatFault n p g space option d grown list = ap (λ (said : ℕ × ℕ × ℕ × ℕ). said .0) (promise .says) in
-        (
+        let says : saidFormatted result .0 ≡ formatFault n p g space option d grown list = ap (λ (said : ℕ × ℕ × ℕ × ℕ). said .0) (promise .says) in (
           keeps-bytes _ (formatFault n p g space option d grown list) grown grownAfter _ says (promise .grown-holds),
           keeps-bytes _ (formatFault n p g space option d grown list) list listAfter _ says (promise .list-holds),
         )

@@ -1,7 +1,7 @@
 -- A census counts each code, and from a first table, after any calls, free = spares − bad spares − bad home blocks − accepted replacements.
 -- Assumes nothing.
 use Prim.Native.Nat.{ℕ, _+_, _-_, _≤_}
-use mathlib.Core.Path.{_≡_, refl, sym, _∙_, ap}
+use mathlib.Core.Path.{_≡_, sym, _∙_, ap}
 use mathlib.Core.List.{List}
 use native.Mathlib.Omega.{arith}
 use lib.ListN.{length, take}
@@ -12,7 +12,7 @@ use Rattle.layout.specs.Layouts.{layoutOf}
 use Rattle.layout.specs.Descriptors.{free}
 use Rattle.layout.specs.declared.Layout.{Layout}
 use Rattle.table.specs.Rules.{tableFault, tableLength}
-use Rattle.replacing.specs.Counting.{codeCount, censusOf}
+use Rattle.replacing.specs.Counting.{codeCount}
 use Rattle.replacing.specs.declared.Census.{Census}
 use Rattle.marking.specs.Marks.{isBadSpare, badSpares, badHomes, goodSpares}
 use Rattle.first.specs.First.{firstTable, firstFault}
@@ -24,7 +24,7 @@ use Rattle.spares.specs.declared.Counted.{Counted}
 use Rattle.spares.specs.declared.Counted.the-variants.{Counts as Census-of}
 use Rattle.spares.proofs.Accepted.{census-whole}
 use Rattle.spares.proofs.Histories.{history-passes, history-frees, first-passes, census-law}
-use Rattle.demands.specs.Mission.{Counts, Handed}
+use Rattle.demands.specs.Mission.{Counts}
 use Rattle.demands.proofs.Rooms.{first-table-hands}
 
 -- a census that is answered counts each code of the table

@@ -2,15 +2,13 @@
 -- Assumes nothing.
 use Prim.Native.Nat.{ℕ, _*_, _/_, _<_}
 use mathlib.Core.Path.{_≡_, refl, sym, _∙_, ap}
-use mathlib.Core.Bool.{true, false}
 use mathlib.Core.List.{List}
 use native.Mathlib.Omega.{arith}
-use lib.Dec.{leb}
 use lib.IntN.{ℤ, pos, _+ℤ_, +ℤ-idr}
 use lib.ListN.{length, getD}
 use borrow.Author.Tests.{lt-leb}
 use Rattle.paper.specs.Refusals.{noSpare, noSuchSector}
-use Rattle.paper.specs.Checks.{refuse, answer}
+use Rattle.paper.specs.Checks.{refuse}
 use Rattle.paper.specs.Answers.{saidNamed}
 use Rattle.paper.specs.declared.Placed.{Placed}
 use Rattle.paper.specs.declared.Placed.the-variants.{At, Refused as NotPlaced}
@@ -26,7 +24,7 @@ use Rattle.shape.specs.Shapes.{sizeOf}
 use Rattle.shape.specs.Addresses.{OnDrive, sectorAt, addressAt}
 use Rattle.shape.proofs.Inverse.{there-and-back, address-on-drive}
 use Rattle.shape.proofs.Exact.{tells-on-drive}
-use Rattle.layout.specs.Layouts.{Laid, layoutOf, sectorsOf, spareSector, homeCylinder, spareCylinder}
+use Rattle.layout.specs.Layouts.{Laid, layoutOf, sectorsOf, spareSector, homeCylinder}
 use Rattle.layout.specs.Descriptors.{unusable, codeOf, Names}
 use Rattle.layout.proofs.Layings.{drive-whole}
 use Rattle.layout.proofs.Sectors.{home-track, spare-track}
@@ -36,7 +34,7 @@ use Rattle.table.specs.Lookup.{Replaced, isReplaced, placeOf, liesOn, lyingOn, 
 use Rattle.table.proofs.Lookups.{place-once, lies-shows, lies-only, lies-apart, none-on-unusable, lying-of-lies, vacant-told, lies-below, lies-of-lying, vacant-shows}
 use Rattle.replacing.specs.Replacing.{NoneFree, Altered, spareFor}
 use Rattle.spares.specs.Spares.{shiftOf, blockFault, blockOnFault, blockAtFault, replaceFault}
-use Rattle.spares.specs.Promises.{saidReplaced, SectorOf, AddressOf, ShiftOf, BlockOn, BlockAt, Replacement, tableAfter}
+use Rattle.spares.specs.Promises.{saidReplaced, SectorOf, AddressOf, ShiftOf, BlockOn, BlockAt, Replacement}
 use Rattle.spares.specs.declared.Shifted.the-variants.{By}
 use Rattle.spares.specs.declared.Replaced.{Replaced as ReplaceAnswer}
 use Rattle.spares.specs.declared.Replaced.the-variants.{Place, Refused as NotReplaced}
@@ -147,8 +145,7 @@ module _ (shape : Shape) (r : ℕ) (t : List ℕ) where
       let inside : liesOn (layoutOf shape r) t b < sizeOf shape = rw (drive-whole (ready .drives)) at (lies-below (ready .laid) t (ready .obeys) b (block-below shape r t b none)) in
       let cylinder : address .cylinder ≡ addressAt shape (liesOn (layoutOf shape r) t b) .cylinder = rw none at (ap (λ (said : ℕ × ℕ × ℕ × ℕ). said .1) (promise .says)) in
       let head : address .head ≡ addressAt shape (liesOn (layoutOf shape r) t b) .head = rw none at (ap (λ (said : ℕ × ℕ × ℕ × ℕ). said .2) (promise .says)) in
-      let sector : address .sector ≡ addressAt shape (liesOn (layoutOf shape r) t b) .sector = rw none at (ap (λ (said : ℕ × ℕ × ℕ × ℕ). said .3) (promise .says)) in
-      (
+      let sector : address .sector ≡ addressAt shape (liesOn (layoutOf shape r) t b) .sector = rw none at (ap (λ (said : ℕ × ℕ × ℕ × ℕ). said .3) (promise .says)) in (
         rw (cylinder, head, sector) (address-on-drive (ready .shaped) inside),
         rw (cylinder, head, sector) (rw (there-and-back (ready .shaped) inside) (lies-shows (layoutOf shape r) t b)),
       )

@@ -1,8 +1,8 @@
 -- Demand 2 on a skipped drive: block b lies on the good sector that has exactly b good sectors before it, and the sector names that block again. Two blocks never share a sector.
 -- Assumes nothing.
-use Prim.Native.Nat.{ℕ, suc, _-_, _<_, _≤_}
-use mathlib.Core.Path.{_≡_, refl, sym, _∙_, ap}
-use mathlib.Core.Bool.{true, false}
+use Prim.Native.Nat.{ℕ, suc, _-_, _<_}
+use mathlib.Core.Path.{_≡_, sym, _∙_, ap}
+use mathlib.Core.Bool.{true}
 use mathlib.Core.List.{List}
 use native.Mathlib.Omega.{arith}
 use lib.Dec.{leb}
@@ -15,7 +15,7 @@ use Rattle.paper.specs.declared.Placed.{Placed}
 use Rattle.paper.specs.declared.Placed.the-variants.{At, Refused as NotPlaced}
 use Rattle.paper.specs.declared.Named.{Named}
 use Rattle.paper.specs.declared.Named.the-variants.{Block, NoBlock, Refused as NotNamed}
-use Rattle.paper.proofs.Cases.{byBool, byLt}
+use Rattle.paper.proofs.Cases.{byBool}
 use Rattle.paper.proofs.Chain.{orElse-next, answer-accepted}
 use Rattle.paper.proofs.Rows.{below-shows, size-passes}
 use Rattle.lists.specs.Proper.{Proper, spaceFault}
@@ -26,19 +26,18 @@ use Rattle.shape.specs.declared.Address.{Address}
 use Rattle.shape.specs.declared.Located.the-variants.{At as LocatedAt}
 use Rattle.shape.specs.Shapes.{Shaped, sizeOf}
 use Rattle.shape.specs.Addresses.{OnDrive, sectorAt, addressAt}
-use Rattle.shape.specs.Promises.{saidLocated}
 use Rattle.shape.proofs.Inverse.{there-and-back, address-on-drive}
 use Rattle.shape.proofs.Exact.{tells-on-drive}
-use Rattle.skip.specs.Skipping.{goodsBefore, Lies, place}
+use Rattle.skip.specs.Skipping.{Lies, place}
 use Rattle.skip.specs.Translation.{blocks, blockFault, sectorFault, blockOn}
 use Rattle.skip.specs.Cursors.{Belongs, skippedBefore, cursorAt, cursorFault, stepFault}
 use Rattle.skip.specs.Promises.{SectorOf, BlockOn, Starts, Steps}
 use Rattle.skip.specs.declared.Cursor.{Cursor}
 use Rattle.skip.specs.declared.Job.{Job}
 use Rattle.skip.specs.declared.Job.the-variants.{Ready, At as SteppedAt, Refused as NotReady}
-use Rattle.skip.proofs.Lying.{Somewhere, somewhere, lies-one-unit, lies-one-block, lies-place, lies-below, place-lies, unit-lies}
+use Rattle.skip.proofs.Lying.{Somewhere, somewhere, lies-one-unit, lies-one-block, lies-place, lies-below, place-lies}
 use Rattle.skip.proofs.Walks.{goods-are-blocks}
-use Rattle.skip.proofs.Shown.{block-proper, block-below, sector-proper}
+use Rattle.skip.proofs.Shown.{block-proper, block-below}
 use Rattle.skip.proofs.Cursoring.{tells-belongs, step-fresh, step-block, step-refused}
 use Rattle.skipped.specs.Drive.{driveFault, blockFault as skippedBlockFault, placeFault as skippedPlaceFault}
 use Rattle.skipped.specs.Promises.{AddressOf, BlockAt}
@@ -131,8 +130,7 @@ module _ (n : ℕ) (a : List ℕ) where
       let passes : stepFault n a c ≡ 0 = sym (ap (λ (said : ℕ × ℕ × ℕ × ℕ). said .0) (promise .says)) in
       let here : s ≡ place (isIn a) n (c .block) = rw passes at (ap (λ (said : ℕ × ℕ × ℕ × ℕ). said .1) (promise .says)) in
       let block : next .block ≡ suc (c .block) = rw passes at (ap (λ (said : ℕ × ℕ × ℕ × ℕ). said .2) (promise .says)) in
-      let count : next .skipped ≡ skippedBefore n a (suc (c .block)) = rw passes at (ap (λ (said : ℕ × ℕ × ℕ × ℕ). said .3) (promise .says)) in
-      (
+      let count : next .skipped ≡ skippedBefore n a (suc (c .block)) = rw passes at (ap (λ (said : ℕ × ℕ × ℕ × ℕ). said .3) (promise .says)) in (
         λ fresh translation. translation .answers ∙ (step-fresh n a c passes .0 ∙ ap At (sym here)),
         record {
           follows = block;
@@ -175,8 +173,7 @@ module _ (shape : Shape) (a : List ℕ) where
       let cylinder : address .cylinder ≡ addressAt shape (place (isIn a) (sizeOf shape) b) .cylinder = rw passes at (ap (λ (said : ℕ × ℕ × ℕ × ℕ). said .1) (promise .says)) in
       let head : address .head ≡ addressAt shape (place (isIn a) (sizeOf shape) b) .head = rw passes at (ap (λ (said : ℕ × ℕ × ℕ × ℕ). said .2) (promise .says)) in
       let sector : address .sector ≡ addressAt shape (place (isIn a) (sizeOf shape) b) .sector = rw passes at (ap (λ (said : ℕ × ℕ × ℕ × ℕ). said .3) (promise .says)) in
-      let shaped : Shaped shape = drive-shaped shape a drive in
-      (
+      let shaped : Shaped shape = drive-shaped shape a drive in (
         rw (cylinder, head, sector) (address-on-drive shaped (lies .inside)),
         rw (cylinder, head, sector) (rw (there-and-back shaped (lies .inside)) lies),
       )

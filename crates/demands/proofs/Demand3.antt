@@ -3,18 +3,16 @@
 -- Assumes nothing.
 use Prim.Native.Nat.{ℕ, zero, suc, _≤_}
 use mathlib.Core.Path.{_≡_, refl, sym, _∙_, ap}
-use mathlib.Core.Logic.{_⊎_, inl, inr}
+use mathlib.Core.Logic.{inl, inr}
 use mathlib.Core.List.{List}
 use native.Mathlib.Omega.{arith}
 use lib.ListN.{length, take}
 use borrow.Author.Tests.{le-ltb}
-use Rattle.paper.specs.Checks.{refuse, answer}
 use Rattle.paper.proofs.Chain.{orElse-first, answer-accepted}
-use Rattle.lists.specs.Proper.{Rising, Inside}
 use Rattle.lists.specs.Union.{isIn, union, written}
 use Rattle.skip.specs.Skipping.{goodsBefore, Lies, place, sectorsOf}
 use Rattle.skip.specs.Translation.{blocks}
-use Rattle.skip.proofs.Lying.{lies-place, lies-below, lies-one-block, place-lies}
+use Rattle.skip.proofs.Lying.{lies-place, lies-below, place-lies}
 use Rattle.skip.proofs.Walks.{goods-are-blocks}
 use Rattle.skip.proofs.Nights.{rising-night, inside-night, night-blocks}
 use Rattle.format.specs.Spaces.{listOf, newGrown, newList, newSpace, planFault, formatFault}
@@ -24,7 +22,7 @@ use Rattle.format.specs.Promises.{Formats}
 use Rattle.format.specs.declared.Formatted.{Formatted}
 use Rattle.format.specs.declared.Formatted.the-variants.{Done, Refused as NotFormatted}
 use Rattle.format.proofs.Scans.{Scans, option-1-in-space-3, option-3-in-space-2, scan-places, list-is, A-rising, A-inside, d-rising, d-inside, nights-grown, nights-list, joined-passes}
-use Rattle.demands.specs.Mission.{Handed}
+use Rattle.demands.specs.Mission.{Handed, Arrives}
 use Rattle.demands.proofs.Rooms.{format-hands}
 
 -- the two pairs of option and space that the law is claimed for
@@ -56,7 +54,7 @@ module _ (n : ℕ) (p g : List ℕ) (space option : ℕ) (night : ScanNight spac
           ∙ scans space option night .same-space
 
       -- each new block lies where you arrive by skipping the named blocks in the old numbering and following the old map
-      pub new-block-place : (b : ℕ) → place (isIn (take listLong listAfter)) n b ≡ place (isIn used) n (place (isIn d) (blocks n used) b)
+      pub new-block-place : (b : ℕ) → Arrives n used d (take listLong listAfter) b
       new-block-place b = ap (λ (l : List ℕ). place (isIn l) n b) new-is ∙ scan-places n p g space option d (scans space option night) plan-none b
 
       new-blocks : goodsBefore (isIn (take listLong listAfter)) n ≡ goodsBefore (isIn d) (blocks n used)
@@ -156,8 +154,7 @@ module _ (n : ℕ) (p g : List ℕ) (space option : ℕ) (night : ScanNight spac
                 (take grownLong2 grownAfter1 ≡ take grownLong2 grownAfter2) × (take listLong2 listAfter1 ≡ take listLong2 listAfter2)
             two-nights-lists room-grown room-list =
                 let hands = format-hands n p g space option one-list grown1 list1 grownLong2 listLong2 spaceAfter2 grownAfter1 listAfter1
-                (rw (two-nights-answer room-grown room-list) at joined-night) in
-                (
+                (rw (two-nights-answer room-grown room-list) at joined-night) in (
                   hands .0 .first ∙ (sym one-grown ∙ sym (second-hands .0 .first)),
                   hands .1 .0 .first ∙ (sym one-new ∙ sym (second-hands .1 .0 .first)),
                 )

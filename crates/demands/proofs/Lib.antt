@@ -7,3 +7,7 @@ pub mod Demand2Revectored
 pub mod Demand2Census
 pub mod Demand3
 pub mod ThereAndBack
+pub mod Examples
+pub mod Incident
+pub mod Determined
+pub mod WrongBoards

@@ -1,7 +1,7 @@
 -- Accepted results fill the first places of the lent room and leave the rest, and the length that a call answers is that of the list or of the bytes that it wrote. (That a refused call leaves the whole room stands in `Demand1`.)
 -- Assumes nothing.
 use Prim.Native.Nat.{ℕ, _+_}
-use mathlib.Core.Path.{_≡_, refl, sym, ap}
+use mathlib.Core.Path.{_≡_, sym, ap}
 use mathlib.Core.Bool.{Bool}
 use mathlib.Core.List.{List}
 use lib.ListN.{length, take, drop}
@@ -43,8 +43,7 @@ pub page-read-hands :
     (page room : List ℕ) (kind n entries : ℕ) (after : List ℕ) → Reads page room (Page kind n entries) after →
     (kind ≡ kindOf page) × ((n ≡ unitsOf page) × Handed (entriesOf page) room entries after)
 page-read-hands page room kind n entries after promise =
-    let passes : readFault page room ≡ 0 = sym (ap (λ (said : ℕ × ℕ × ℕ × ℕ). said .0) (promise .says)) in
-    (
+    let passes : readFault page room ≡ 0 = sym (ap (λ (said : ℕ × ℕ × ℕ × ℕ). said .0) (promise .says)) in (
       rw passes at (ap (λ (said : ℕ × ℕ × ℕ × ℕ). said .1) (promise .says)),
       (
         rw passes at (ap (λ (said : ℕ × ℕ × ℕ × ℕ). said .2) (promise .says)),
@@ -68,8 +67,7 @@ pub format-hands :
     Handed (newGrown n p g space option d) grown grownLong grownAfter
     × (Handed (newList n p g space option d) list listLong listAfter × (spaceAfter ≡ newSpace space option))
 format-hands n p g space option d grown list grownLong listLong spaceAfter grownAfter listAfter promise =
-    let passes : formatFault n p g space option d grown list ≡ 0 = sym (ap (λ (said : ℕ × ℕ × ℕ × ℕ). said .0) (promise .says)) in
-    (
+    let passes : formatFault n p g space option d grown list ≡ 0 = sym (ap (λ (said : ℕ × ℕ × ℕ × ℕ). said .0) (promise .says)) in (
       handed (newGrown n p g space option d) grown grownLong grownAfter (rw passes at (ap (λ (said : ℕ × ℕ × ℕ × ℕ). said .1) (promise .says))) (rw passes at (promise .grown-holds)),
       (
         handed (newList n p g space option d) list listLong listAfter (rw passes at (ap (λ (said : ℕ × ℕ × ℕ × ℕ). said .2) (promise .says))) (rw passes at (promise .list-holds)),
@@ -96,8 +94,7 @@ pub image-write-hands :
     (long ≡ dataSize + imageExtra) × Handed (imageOf number bytes forced) room long after
 image-write-hands number bytes forced room long after promise =
     let passes : imageWriteFault dataSize bytes room ≡ 0 = sym (ap (λ (said : ℕ × ℕ). said .0) (promise .says)) in
-    let is : long ≡ dataSize + imageExtra = rw passes at (ap (λ (said : ℕ × ℕ). said .1) (promise .says)) in
-    (
+    let is : long ≡ dataSize + imageExtra = rw passes at (ap (λ (said : ℕ × ℕ). said .1) (promise .says)) in (
       is,
       record {
         long-as = rw (length-image number bytes forced, write-shows dataSize bytes room passes .0) is;

@@ -1,11 +1,10 @@
 -- Pages and images there and back: what a call wrote, another reads again; and one changed bit of data changes its code.
 -- That a number is 32 bits and data is bytes, as the calls' types say, stands here as a hypothesis.
 -- Assumes nothing.
-use Prim.Native.Nat.{ℕ, _+_, _*_, _^_, _<_, _≤_}
+use Prim.Native.Nat.{ℕ, _+_, _^_, _<_, _≤_}
 use mathlib.Core.Path.{_≡_, refl, sym, _∙_, ap}
 use mathlib.Core.Bool.{Bool, true, false}
 use mathlib.Core.List.{List, []}
-use native.Mathlib.Omega.{arith}
 use lib.Bits.{bitXor}
 use lib.ListN.{length, getD, set, take}
 use denote.Ref.{RefT}
@@ -20,7 +19,7 @@ use Rattle.page.specs.declared.Paged.{Paged}
 use Rattle.page.specs.declared.Paged.the-variants.{Page}
 use Rattle.page.proofs.Back.{write-then-read, read-then-write}
 use Rattle.image.specs.Code.{codeOf}
-use Rattle.image.specs.Image.{headerSize, imageOf, imageFault, writeFault}
+use Rattle.image.specs.Image.{headerSize, imageOf}
 use Rattle.image.specs.Judged.{SectorJudged}
 use Rattle.image.specs.Promises.{Write, Header, Judge, Data}
 use Rattle.image.specs.declared.Head.{Head}

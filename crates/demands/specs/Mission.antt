@@ -4,7 +4,11 @@ use mathlib.Core.Path.{_≡_}
 use mathlib.Core.List.{List, []}
 use lib.IntN.{ℤ, pos, natAbs, _+ℤ_}
 use lib.ListN.{length, take, drop}
+use denote.Ref.{RefT}
 use Rattle.paper.specs.Exactly.{Exactly}
+use Rattle.lists.specs.Union.{isIn}
+use Rattle.skip.specs.Skipping.{place}
+use Rattle.skip.specs.Translation.{blocks}
 use Rattle.skip.specs.Cursors.{Belongs}
 use Rattle.skip.specs.declared.Cursor.{Cursor}
 use Rattle.layout.specs.declared.Layout.{Layout}
@@ -54,3 +58,34 @@ pub record Counts (t : List ℕ) (census : Census) : Type 0 where
   pub are-elsewhere : census .elsewhere ≡ codeCount t elsewhere
   pub are-unusable : census .unusable ≡ codeCount t unusable
   pub are-null : census .null ≡ codeCount t null
+
+-- demand 3 at one block of a new list: it lies where you arrive by skipping the named blocks in the old numbering and following the old map
+abbrev pub Arrives : ℕ → List ℕ → List ℕ → List ℕ → ℕ → Type 0
+Arrives n old named new b = place (isIn new) n b ≡ place (isIn old) n (place (isIn named) (blocks n old) b)
+
+-- a promise allows an answer, and every answer that it allows is such
+pub record AllowsOnly {Answer : Type 0} (Promise Such : Answer → Type 0) : Type 0 where
+  pub some : Answer
+  pub allowed : Promise some
+  pub every : (answer : Answer) → Promise answer → Such answer
+
+-- two outcomes that a promise allows show the same
+abbrev pub One : {Outcome Shown : Type 0} → (Outcome → Shown) → (Outcome → Type 0) → Type 0
+One {Outcome} shown Promise = (first second : Outcome) → Promise first → Promise second → shown first ≡ shown second
+
+-- a result is shown whole
+abbrev pub OneResult : {Result : Type 0} → (Result → Type 0) → Type 0
+OneResult {Result} Promise = One (λ (result : Result). result) Promise
+
+-- so are a result and what a lent room then holds
+abbrev pub OneFilled : {Result : Type 0} → (Result → List ℕ → Type 0) → Type 0
+OneFilled {Result} Promise = One (λ (outcome : Result × List ℕ). outcome) (λ outcome. Promise (outcome .0) (outcome .1))
+
+-- and a result and what two lent rooms then hold
+abbrev pub OneFilledTwice : {Result : Type 0} → (Result → List ℕ → List ℕ → Type 0) → Type 0
+OneFilledTwice {Result} Promise =
+    One (λ (outcome : Result × List ℕ × List ℕ). outcome) (λ outcome. Promise (outcome .0) (outcome .1) (outcome .2))
+
+-- a part of lent bytes shows what it holds and where it lies; its third field is a name that only proofs have
+abbrev pub OneLent : (RefT (List ℕ) → Type 0) → Type 0
+OneLent Promise = One {Shown = List ℕ × (ℕ × ℕ)} (λ (part : RefT (List ℕ)). (part .now, part .ptr)) Promise

@@ -1,6 +1,6 @@
 -- Demand 1 for each kind of answer: where its number stands, what a refusal says beside it, and what a refusal is.
 use Prim.Native.Nat.{ℕ}
-use lib.IntN.{ℤ, pos}
+use lib.IntN.{pos}
 use Rattle.paper.specs.Answers.{saidPlaced, saidNamed, saidWritten}
 use Rattle.paper.specs.declared.Placed.{Placed}
 use Rattle.paper.specs.declared.Placed.the-variants.{Refused as NotPlaced}

@@ -1,0 +1,154 @@
+-- The paper's "Numbers to try": every row of the table holds. Where a block lies is told by the walk, which is the definition; the rest is computed.
+-- Assumes nothing.
+use Prim.Native.Nat.{ℕ, suc, _+_}
+use mathlib.Core.Path.{_≡_, refl, _∙_}
+use mathlib.Core.Bool.{Bool, true, false}
+use mathlib.Core.List.{List, [], _∷_}
+use lib.ListN.{length}
+use borrow.Author.Tests.{le-ltb}
+use Rattle.paper.specs.Limits.{dataSize, imageExtra}
+use Rattle.paper.specs.Promise.{Gives, Fills}
+use Rattle.paper.proofs.Chain.{placed-says, named-says, written-says}
+use Rattle.paper.proofs.Kept.{gives, fills}
+use Rattle.words.specs.Words.{bytes16, bytes32, bytesOf, word16At}
+use Rattle.seek.specs.Count.{countBelow}
+use Rattle.seek.specs.Every.{allBelow}
+use Rattle.seek.specs.First.{firstBelow, firstFault}
+use Rattle.seek.specs.Search.{firstOr, rising}
+use Rattle.lists.specs.Proper.{listFault}
+use Rattle.lists.specs.Union.{isIn, written}
+use Rattle.shape.specs.declared.Shape.{Shape}
+use Rattle.shape.specs.Shapes.{sizeOf}
+use Rattle.skip.specs.Skipping.{goodsBefore, place}
+use Rattle.skip.specs.Walk.{passes, walked}
+use Rattle.skip.specs.Translation.{blockFault, sectorFault}
+use Rattle.skip.proofs.Shown.{block-walk}
+use Rattle.format.specs.declared.Formatted.the-variants.{Done}
+use Rattle.format.specs.Spaces.{newGrown, newList, newSpace, planFault, formatFault}
+use Rattle.format.proofs.Answering.{format-done}
+use Rattle.format.proofs.Named.{scan-grown, scan-list, scan-accepted}
+use Rattle.layout.specs.Layouts.{layoutOf, driveFault}
+use Rattle.table.specs.Rules.{tableFault, tableLength}
+use Rattle.table.specs.Lookup.{placeOf, liesOn}
+use Rattle.order.specs.Order.{outward}
+use Rattle.replacing.specs.Replacing.{spareFor}
+use Rattle.replacing.specs.Counting.{censusOf}
+use Rattle.marking.specs.Marks.{passing, badSpares, badHomes, marked}
+use Rattle.first.specs.First.{replacedAll, firstTable, spareFault, firstFault as startFault}
+use Rattle.first.proofs.Says.{spares-judge}
+use Rattle.spares.specs.Spares as Spares
+use Rattle.spares.specs.Promises.{tableAfter}
+use Rattle.spares.proofs.Says.{replaced-says, shifted-says, counted-says, lying-says}
+use Rattle.image.specs.Code.{wordsOf, rotated, stepped, codeFrom, codeOf, carried}
+use Rattle.image.specs.Image.{storedIn, imageOf, imageIn, writeFault}
+use Rattle.image.proofs.Exact.{length-passes}
+use Rattle.demands.specs.Mission.{AllowsOnly}
+use Rattle.demands.specs.Inputs.{chart, small, noneReplaced, afterSeven, afterEight, afterSix}
+use Rattle.demands.specs.Rows.{skip-sector, skip-block, format, spare-first, spare-replace, image-write, Holds, AllHold, done, _also_, zeros, firstOne, lastOne, rows}
+
+module _ {Answer Said : Type 0} {said : Answer → Said} {stated : Answer} {numbers : Said} (says : said stated ≡ numbers) where
+  -- a promise keeps to what holds of every answer that says its numbers
+  pub keeps-where : {Figures : Answer → Type 0} → ((answer : Answer) → Gives said stated numbers answer → Figures answer) → AllowsOnly (Gives said stated numbers) Figures
+  keeps-where every = record { some = stated; allowed = gives says refl; every = every }
+
+  -- so it keeps to the figures that its numbers are
+  pub keeps : {figures : Said} → numbers ≡ figures → AllowsOnly (Gives said stated numbers) (λ answer. said answer ≡ figures)
+  keeps same = keeps-where (λ answer given. given .says ∙ same)
+
+  -- and, where it fills a room, to what holds of the room that it states
+  keeps-room :
+      {figures : Said} → numbers ≡ figures → {filled : List ℕ} (Held : List ℕ → Type 0) → Held filled →
+      AllowsOnly (λ (answer : Answer × List ℕ). Fills said stated numbers filled (answer .0) (answer .1)) (λ answer. (said (answer .0) ≡ figures) × Held (answer .1))
+  keeps-room same {filled} Held held =
+      record {
+        some = (stated, filled);
+        allowed = fills says refl refl;
+        every = λ answer given. (given .says ∙ same, rw (given .holds) held);
+      }
+
+-- a block that passes its checks lies where the walk ends
+block-walked : (n : ℕ) (list : List ℕ) (block : ℕ) {sector : ℕ} → blockFault n list block ≡ 0 → walked list block ≡ sector → Holds (skip-sector n list block (0, sector))
+block-walked n list block none ends =
+    keeps (placed-says (blockFault n list block) (place (isIn list) n block)) (rw (none, ← block-walk n list block none, ends))
+
+-- a block that does not pass is refused
+block-refused : (n : ℕ) (list : List ℕ) (block : ℕ) {fault : ℕ} → blockFault n list block ≡ suc fault → Holds (skip-sector n list block (suc fault, 0))
+block-refused n list block some = keeps (placed-says (blockFault n list block) (place (isIn list) n block)) (rw some)
+
+-- no block lies on a sector of the list
+sector-listed : (n : ℕ) (list : List ℕ) (sector : ℕ) → sectorFault n list sector ≡ 0 → isIn list sector ≡ true → Holds (skip-block n list sector (0, 0, 0))
+sector-listed n list sector none listed = keeps (named-says (sectorFault n list sector) (isIn list sector) (goodsBefore (isIn list) sector)) (rw (none, listed))
+
+-- a Format that passes its checks, in rooms that are long enough
+plan-formatted :
+    (n : ℕ) (p g : List ℕ) (space option : ℕ) (d : List ℕ) {grown list : List ℕ} →
+    planFault n p g space option d ≡ 0 → newGrown n p g space option d ≡ grown → newList n p g space option d ≡ list →
+    Holds (format n p g space option d grown list (newSpace space option))
+plan-formatted n p g space option d {grown} {list} passed grows lists first second fits room =
+    let none : formatFault n p g space option d first second ≡ 0 =
+    rw (passed, lists, grows, le-ltb (length first) (length grown) fits, le-ltb (length second) (length list) room) in
+    record {
+      some = (
+        Done (length (newGrown n p g space option d)) (length (newList n p g space option d)) (newSpace space option),
+        written (newGrown n p g space option d) first,
+        written (newList n p g space option d) second,
+      );
+      allowed = format-done n p g space option d first second passed (rw grows fits) (rw lists room) _ _ refl refl;
+      every = λ answer given. (given .says ∙ rw (none, lists, grows), given .grown-holds ∙ rw (none, grows), given .list-holds ∙ rw (none, lists));
+    }
+
+module _ (shape : Shape) (r : ℕ) where
+  -- a first table whose drive and list pass and that has spares enough, in a room that is long enough
+  table-built :
+      (list : List ℕ) {table : List ℕ} → driveFault shape r ≡ 0 → listFault (sizeOf shape) list ≡ 0 → spareFault (layoutOf shape r) list ≡ 0 →
+      firstTable (layoutOf shape r) list ≡ table → length table ≡ tableLength (layoutOf shape r) → Holds (spare-first shape r list table)
+  table-built list {table} drive entries enough built long room fits =
+      let none : startFault shape r list room ≡ 0 = spares-judge shape r list room drive entries (rw long at fits) ∙ enough in
+      keeps-room (written-says (startFault shape r list room) (tableLength (layoutOf shape r))) (rw (none, long))
+      (λ held. held ≡ written table room)
+      (rw (none, built))
+
+  -- a replacement that passes its checks
+  spare-taken :
+      (table : List ℕ) (block : ℕ) {spare : ℕ} {after : List ℕ} → Spares.replaceFault shape r table block ≡ 0 →
+      spareFor (layoutOf shape r) table block ≡ spare → tableAfter shape r table block ≡ after → Holds (spare-replace shape r table block spare after)
+  spare-taken table block {spare} {after} none found stored =
+      keeps-room (replaced-says (Spares.replaceFault shape r table block) (spareFor (layoutOf shape r) table block)) (rw (none, found)) (λ held. held ≡ after) stored
+
+-- an image of data of the right length, in a room that is long enough
+code-carried :
+    (forced : Bool) (bytes : List ℕ) {code : ℕ} → length bytes ≡ dataSize →
+    ((number : ℕ) (room : List ℕ) → storedIn dataSize (imageIn number bytes forced room) ≡ code) → Holds (image-write forced bytes code)
+unfolding writeFault
+code-carried forced bytes {code} long stored number room fits =
+    let none : writeFault dataSize bytes room ≡ 0 = rw (length-passes dataSize bytes long, le-ltb (length room) (dataSize + imageExtra) fits) in
+    keeps-room (written-says (writeFault dataSize bytes room) (dataSize + imageExtra)) (rw none) (λ held. storedIn dataSize held ≡ code)
+    (rw none (stored number room))
+
+-- every row of the paper's table
+pub numbers-to-try : AllHold rows
+unfolding firstFault passes isIn countBelow allBelow firstBelow firstOr rising placeOf outward passing badSpares badHomes marked replacedAll bytes16 bytes32 bytesOf word16At wordsOf rotated stepped codeFrom codeOf carried storedIn imageOf imageIn
+numbers-to-try =
+    block-walked 848 chart 3 refl refl
+    also block-walked 848 chart 57 refl refl
+    also block-walked 848 chart 58 refl refl
+    also block-walked 848 chart 843 refl refl
+    also sector-listed 848 chart 61 refl refl
+    also block-refused 848 chart 844 refl
+    also block-walked 6 (0 ∷ 1 ∷ 2 ∷ []) 0 refl refl
+    also plan-formatted 20 (3 ∷ 7 ∷ []) [] 3 1 (3 ∷ 16 ∷ []) scan-accepted scan-grown scan-list
+    also block-walked 20 (3 ∷ 4 ∷ 7 ∷ 18 ∷ []) 15 refl refl
+    also table-built small 2 [] refl refl refl refl refl
+    also spare-taken small 2 noneReplaced 7 refl refl refl
+    also spare-taken small 2 afterSeven 8 refl refl refl
+    also spare-taken small 2 afterEight 6 refl refl refl
+    also keeps (shifted-says (Spares.blockFault small 2 afterSix 6) (Spares.shiftOf (layoutOf small 2) afterSix 6)) refl
+    also keeps (placed-says (Spares.blockFault small 2 afterSix 6) (liesOn (layoutOf small 2) afterSix 6)) refl
+    also keeps (lying-says (Spares.blockOnFault small 2 afterSix 9) (layoutOf small 2) afterSix 9) refl
+    also keeps (lying-says (Spares.blockOnFault small 2 afterSix 10) (layoutOf small 2) afterSix 10) refl
+    also keeps (counted-says (tableFault small 2 afterSix) (censusOf afterSix)) refl
+    also code-carried false zeros refl (λ number room. refl)
+    also code-carried false firstOne refl (λ number room. refl)
+    also code-carried false lastOne refl (λ number room. refl)
+    also code-carried true zeros refl (λ number room. refl)
+    also done

@@ -1,0 +1,266 @@
+-- A read of a replaced block moves the right way and hands back the spare's bytes: in a table that passes one place alone names the block, and the shift and the read both go by that place.
+-- Assumes nothing.
+use Prim.Native.Nat.{ℕ, zero, suc, _+_, _-_, _%_, _<_}
+use mathlib.Core.Path.{_≡_, refl, sym, _∙_, ap}
+use mathlib.Core.Bool.{true, false}
+use mathlib.Core.List.{List, []}
+use native.Mathlib.Omega.{arith}
+use lib.IntN.{ℤ, pos, negsuc, _+ℤ_, _-ℤ_}
+use lib.ListN.{length, getD, take, drop}
+use denote.Ref.{RefT}
+use borrow.Author.Tests.{eq-eqb}
+use Rattle.paper.specs.Answers.{saidWritten}
+use Rattle.paper.specs.Limits.{dataSize, imageExtra}
+use Rattle.paper.specs.declared.Written.{Written}
+use Rattle.paper.proofs.Cases.{byFault}
+use Rattle.paper.proofs.Chain.{orElse-first, orElse-next, answer-refused, answer-accepted}
+use Rattle.words.specs.Words.{Bytes}
+use Rattle.seek.specs.Every.{allBelow}
+use Rattle.seek.specs.First.{firstBelow}
+use Rattle.seek.specs.Search.{firstOr, rising}
+use Rattle.shape.specs.declared.Shape.{Shape}
+use Rattle.layout.specs.Layouts.{layoutOf, homeCylinder, spareCylinder}
+use Rattle.layout.specs.Descriptors.{Names}
+use Rattle.table.specs.Rules.{tableFault}
+use Rattle.table.specs.Lookup.{placeOf, Replaced, isReplaced}
+use Rattle.table.proofs.Lookups.{tells-replaced, replaced-place}
+use Rattle.order.specs.Order.{outward}
+use Rattle.order.proofs.Signs.{minus-below}
+use Rattle.replacing.specs.Replacing.{spareFor, Altered}
+use Rattle.spares.specs.declared.Replaced as Answers
+use Rattle.spares.specs.declared.Replaced.the-variants.{Place, Refused as NotReplaced}
+use Rattle.spares.specs.Spares.{shiftOf, blockFault, replaceFault}
+use Rattle.spares.specs.Promises.{Replacement, replaced}
+use Rattle.spares.proofs.Accepted.{replace-block, replace-alters, after-passes}
+use Rattle.spares.proofs.Exact.{block-ready}
+use Rattle.spares.proofs.Says.{shifted-says}
+use Rattle.spares.proofs.Shifts.{shift-replaced, shift-leads}
+use Rattle.image.specs.declared.Verdict.{Verdict}
+use Rattle.image.specs.Image.{imageOf, writeFault}
+use Rattle.image.specs.Promises.{Lends, Write}
+use Rattle.image.proofs.Exact.{write-shows}
+use Rattle.image.proofs.Says.{verdict-says}
+use Rattle.image.proofs.ThereAndBack.{room-image}
+use Rattle.reading.specs.Tracks.{on-spare, sectorIn, bytesIn, dataStart, imageAt, headerFor}
+use Rattle.reading.specs.Faults.{lentFault, readFault}
+use Rattle.reading.specs.Promises.{Data, Judge}
+use Rattle.reading.proofs.Alike.{home-unread, verdict-alike, part-alike}
+use Rattle.reading.proofs.Parts.{refused-empty, accepted-data}
+use Rattle.reading.proofs.Spots.{spot-says}
+use Rattle.reading.proofs.Tracks.{seated-only, data-inside}
+use Rattle.reading.proofs.Written.{good-read, good-part}
+use Rattle.demands.specs.Mission.{AllowsOnly}
+use Rattle.demands.specs.Inputs.{small, afterEight}
+use Rattle.demands.specs.Incident.{spareStart, spareData, imageFrom, WholeTrack, SamePart, HandsBack, Safe}
+use Rattle.demands.proofs.Examples.{keeps, keeps-where}
+
+-- a promise that hands a part back keeps to what holds of every such part
+keeps-part :
+    {bytes : RefT (List ℕ)} {at : ℕ} {held : List ℕ} {Figures : RefT (List ℕ) → Type 0} →
+    ((part : RefT (List ℕ)) → Lends bytes at held part → Figures part) → AllowsOnly (Lends bytes at held) Figures
+keeps-part {bytes} {at} {held} every =
+    record {
+      some = record { ptr = (bytes .ptr .0, at + bytes .ptr .1); name = bytes .name; now = held };
+      allowed = record { holds = refl; lies = refl };
+      every = every;
+    }
+
+-- a block that passes its checks, and a place that names it
+module _ (shape : Shape) (r : ℕ) (t : List ℕ) (b q : ℕ) (passed : blockFault shape r t b ≡ 0) (in-table : q < length t) (named : Names (getD t q 0) b) where
+  abbrev is-named : Replaced t b
+  is-named = record { place = q; in-table = in-table; named = named }
+
+  is-replaced : isReplaced t b ≡ true
+  is-replaced = tells-replaced t b .told is-named
+
+  its-place : placeOf t b ≡ q
+  its-place = replaced-place (block-ready shape r t b passed .obeys) is-named
+
+  its-sector : sectorIn (layoutOf shape r) t b ≡ layoutOf shape r .home + q % r
+  its-sector = seated-only (layoutOf shape r) t b {Track = ℕ} 0 1 (block-ready shape r t b passed .obeys) (on-spare q in-table named) .1
+
+  its-shift : shiftOf (layoutOf shape r) t b ≡ pos (spareCylinder (layoutOf shape r) q) -ℤ pos (homeCylinder (layoutOf shape r) b)
+  its-shift = shift-replaced (layoutOf shape r) t b (rw its-place in-table) ∙ rw its-place
+
+  shift-goes : pos (homeCylinder (layoutOf shape r) b) +ℤ shiftOf (layoutOf shape r) t b ≡ pos (spareCylinder (layoutOf shape r) q)
+  shift-goes = shift-leads (layoutOf shape r) t b (rw its-place in-table) ∙ rw its-place
+
+  -- a part that is handed back without fault: the spare's bytes, where they lie
+  part-lent :
+      (home spare part : RefT (List ℕ)) → Data shape r t b home spare part → readFault dataSize shape r t b (home .now) (spare .now) ≡ 0 →
+      Lends spare (spareData shape r q) (take dataSize (drop (spareData shape r q) (spare .now))) part
+  part-lent home spare part given-part none =
+      record {
+        holds =
+            accepted-data dataSize shape r t b home spare part given-part none
+            ∙ rw (is-replaced, its-sector) (data-inside dataSize (spareStart shape r q) (spare .now));
+        lies = rw (none, is-replaced, its-sector) at (given-part .lies);
+      }
+
+  part-filled :
+      (home spare part : RefT (List ℕ)) → Data shape r t b home spare part → (part .now ≡ [] → ⊥) →
+      Lends spare (spareData shape r q) (take dataSize (drop (spareData shape r q) (spare .now))) part
+  part-filled home spare part given-part filled =
+      byFault (readFault dataSize shape r t b (home .now) (spare .now))
+      (λ none. part-lent home spare part given-part none)
+      (λ some. absurd (filled (refused-empty dataSize shape r t b home spare part given-part some)))
+
+  part-unread :
+      (home other spare part again : RefT (List ℕ)) → length (home .now) ≡ length (other .now) →
+      Data shape r t b home spare part → Data shape r t b other spare again → SamePart part again
+  part-unread home other spare part again long first second =
+      let agree = home-unread dataSize shape r t b (home .now) (spare .now) (other .now) is-named long in
+      let same : part .now ≡ again .now = part-alike dataSize shape r t b home spare other spare part again agree first second in
+      record {
+        same-bytes = same;
+        same-place = λ filled.
+            part-filled home spare part first filled .lies
+            ∙ sym (part-filled other spare again second (λ empty. filled (same ∙ empty)) .lies);
+      }
+
+  verdict-unread :
+      (home other spare : List ℕ) (verdict again : Verdict) → length home ≡ length other →
+      Judge shape r t b home spare verdict → Judge shape r t b other spare again → verdict ≡ again
+  verdict-unread home other spare verdict again long first second =
+      first .answers ∙ verdict-alike dataSize shape r t b (home-unread dataSize shape r t b home spare other is-named long) ∙ sym (second .answers)
+
+  lent-passes : (home spare : List ℕ) → WholeTrack shape home → WholeTrack shape spare → lentFault dataSize shape r t b home spare ≡ 0
+  unfolding lentFault
+  lent-passes home spare whole whole′ =
+      rw (
+        orElse-first (tableFault shape r t) _ passed,
+        orElse-next (tableFault shape r t) _ passed,
+        eq-eqb (length home) (bytesIn dataSize (shape .sectors)) whole,
+        eq-eqb (length spare) (bytesIn dataSize (shape .sectors)) whole′,
+      )
+
+  module _
+      (home spare : RefT (List ℕ))
+      (bytes : List ℕ)
+      (whole : WholeTrack shape (home .now))
+      (whole′ : WholeTrack shape (spare .now))
+      (long : length bytes ≡ dataSize)
+      (h : Bytes bytes)
+      (stands : imageFrom (spareStart shape r q) (spare .now) ≡ imageOf b bytes false)
+    where
+      held : imageAt dataSize (spareStart shape r q) (spare .now) ≡ imageOf (headerFor (layoutOf shape r) t b) bytes false
+      unfolding imageAt headerFor
+      held = stands
+
+      read-passes : readFault dataSize shape r t b (home .now) (spare .now) ≡ 0
+      read-passes =
+          good-read dataSize shape r t b bytes long h (lent-passes (home .now) (spare .now) whole whole′) (on-spare q in-table named) held
+
+      data-lent : (part : RefT (List ℕ)) → Data shape r t b home spare part → Lends spare (spareData shape r q) bytes part
+      data-lent part given-part =
+          record {
+            holds = good-part dataSize shape r t b bytes long h home spare part given-part (lent-passes (home .now) (spare .now) whole whole′) (on-spare q in-table named) held;
+            lies = part-lent home spare part given-part read-passes .lies;
+          }
+
+  -- where a place names the block, reads are safe, and the shift is the difference of the cylinders
+  pub named-safe : Safe shape r t b q (pos (spareCylinder (layoutOf shape r) q) -ℤ pos (homeCylinder (layoutOf shape r) b))
+  named-safe =
+      record {
+        answers = keeps (shifted-says (blockFault shape r t b) (shiftOf (layoutOf shape r) t b)) (rw (passed, its-shift));
+        leads = rw its-shift at shift-goes;
+        spots = λ home spare.
+            keeps-where (spot-says (readFault dataSize shape r t b home spare) (isReplaced t b) (dataStart dataSize (layoutOf shape r) t b))
+            (λ answer given-spot none.
+            let passes : readFault dataSize shape r t b home spare ≡ 0 = sym (ap (λ (numbers : ℕ × ℕ × ℕ). numbers .0) (given-spot .says)) ∙ none in
+            given-spot .says ∙ rw (passes, is-replaced, its-sector));
+        lends = λ home spare. keeps-part (part-filled home spare);
+        same-part = part-unread;
+        same-verdict = verdict-unread;
+        gives-back = λ home spare bytes whole whole′ long h stands.
+            record {
+              accepted = keeps (verdict-says (readFault dataSize shape r t b (home .now) (spare .now))) (read-passes home spare bytes whole whole′ long h stands);
+              bytes-lent = keeps-part (data-lent home spare bytes whole whole′ long h stands);
+            };
+      }
+
+-- numbers one apart differ by −1
+one-less : (a c : ℕ) → a + 1 ≡ c → pos a -ℤ pos c ≡ negsuc 0
+one-less a zero one = absurd (omega arith)
+one-less a (suc c) one = let none : suc c - suc a ≡ 0 = omega arith in minus-below a (suc c) (omega arith) ∙ ap negsuc none
+
+-- an accepted replacement, and the table that it leaves
+module _ (shape : Shape) (r : ℕ) (t : List ℕ) (b q : ℕ) (after : List ℕ) (replacement : Replacement shape r t b (Place q) after) where
+  passes : replaceFault shape r t b ≡ 0
+  passes =
+      byFault (replaceFault shape r t b)
+      (λ none. none)
+      (λ some.
+      let clash : Place q ≡ NotReplaced (replaceFault shape r t b) =
+      replacement .answers ∙ answer-refused (replaceFault shape r t b) NotReplaced (Place (spareFor (layoutOf shape r) t b)) some in
+      let z : _≡_ {A = ℕ} 0 1 = cc in
+      absurd (omega arith))
+
+  is-spare : spareFor (layoutOf shape r) t b ≡ q
+  is-spare =
+      let same : Place q ≡ Place (spareFor (layoutOf shape r) t b) =
+      replacement .answers ∙ answer-accepted (replaceFault shape r t b) NotReplaced (Place (spareFor (layoutOf shape r) t b)) passes in
+      cc
+
+  altered : Altered (layoutOf shape r) t b q after
+  altered = rw (← is-spare, replacement .holds) (replace-alters shape r t b passes)
+
+  block-passes : blockFault shape r after b ≡ 0
+  block-passes =
+      let before : blockFault shape r t b ≡ 0 = replace-block shape r t b passes in
+      let table : tableFault shape r after ≡ 0 = rw (replacement .holds) (after-passes shape r t b (orElse-first (tableFault shape r t) _ before)) in
+      rw table (orElse-next (tableFault shape r t) _ before)
+
+  -- reads of a replaced block are safe, and the shift leads from its home's cylinder to its spare's
+  pub replaced-safe : Safe shape r after b q (pos (spareCylinder (layoutOf shape r) q) -ℤ pos (homeCylinder (layoutOf shape r) b))
+  replaced-safe = named-safe shape r after b q block-passes (rw (altered .same-length) (altered .in-table)) (altered .names-block)
+
+  -- the incident: the spare lies one cylinder nearer to cylinder 0 than the block's home
+  pub outward-safe : spareCylinder (layoutOf shape r) q + 1 ≡ homeCylinder (layoutOf shape r) b → Safe shape r after b q (negsuc 0)
+  outward-safe outward = rw (one-less (spareCylinder (layoutOf shape r) q) (homeCylinder (layoutOf shape r) b) outward) at replaced-safe
+
+-- where reads are safe, data that was written on the spare comes back
+module _
+    {shape : Shape}
+    {r : ℕ}
+    {t : List ℕ}
+    {b q : ℕ}
+    {shift : ℤ}
+    (safe : Safe shape r t b q shift)
+    (home spare : RefT (List ℕ))
+    (whole : WholeTrack shape (home .now))
+    (whole′ : WholeTrack shape (spare .now))
+    (bytes : List ℕ)
+    (h : Bytes bytes)
+  where
+    -- by the writer's call: the image of an accepted good write stands on the spare's sector
+    pub written-back :
+        (room image : List ℕ) (answer : Written) → Write b bytes false room answer image → saidWritten answer .0 ≡ 0 →
+        imageFrom (spareStart shape r q) (spare .now) ≡ take (dataSize + imageExtra) image →
+        HandsBack shape r t b q home spare bytes
+    written-back room image answer writes none stands =
+        let fits : writeFault dataSize bytes room ≡ 0 = sym (ap (λ (numbers : ℕ × ℕ). numbers .0) (writes .says)) ∙ none in
+        safe .gives-back home spare bytes whole whole′ (write-shows dataSize bytes room fits .0) h
+        (stands ∙ rw (writes .holds) (room-image dataSize b bytes false room fits))
+
+    -- also where a good image of the block with older data still stands at its home
+    pub stale-home :
+        (old : List ℕ) → imageFrom (bytesIn dataSize (b % layoutOf shape r .home)) (home .now) ≡ imageOf b old false →
+        length bytes ≡ dataSize → imageFrom (spareStart shape r q) (spare .now) ≡ imageOf b bytes false →
+        HandsBack shape r t b q home spare bytes
+    stale-home old stale long stands = safe .gives-back home spare bytes whole whole′ long h stands
+
+-- the paper's own numbers: C 2, H 2, S 5, r 2, and block 6 goes to place 3, from cylinder 1 to cylinder 0
+module _ (answer : Answers.Replaced) (after : List ℕ) (replacement : Replacement small 2 afterEight 6 answer after) where
+  goes-to-3 : replaced small 2 afterEight 6 ≡ Place 3
+  unfolding allBelow placeOf firstBelow firstOr outward rising
+  goes-to-3 = refl
+
+  pub six-safe : Safe small 2 after 6 3 (negsuc 0)
+  six-safe = outward-safe small 2 afterEight 6 3 after (rw (replacement .answers ∙ goes-to-3) at replacement) refl
+
+  -- its data begins at (3 + 3 mod 2) × 530 + 16 of the second image
+  pub six-part :
+      (home spare part : RefT (List ℕ)) → Data small 2 after 6 home spare part → (part .now ≡ [] → ⊥) →
+      Lends spare 2136 (take 512 (drop 2136 (spare .now))) part
+  six-part home spare = six-safe .lends home spare .every

@@ -1,0 +1,354 @@
+-- Each wrong board breaks, at a named input, the demand that the paper sets against it.
+-- Assumes nothing.
+use Prim.Native.Nat.{ℕ, zero, suc, _+_, _<_, _≤_}
+use mathlib.Core.Path.{_≡_, refl, sym, _∙_, ap}
+use mathlib.Core.Bool.{Bool, true, false, true≢false}
+use mathlib.Core.Logic.{inr, ⊎-elim}
+use mathlib.Core.List.{List, [], _∷_}
+use native.Mathlib.Omega.{arith}
+use lib.IntN.{pos}
+use lib.ListN.{length, take, drop, getD, replicate, length-replicate, getD-replicate, List·getD-eq-default}
+use lib.Seq.{length-sets}
+use denote.Ref.{RefT}
+use Rattle.paper.specs.Limits.{dataSize, imageExtra}
+use Rattle.paper.specs.Exactly.{Exactly}
+use Rattle.paper.specs.Answers.{saidPlaced}
+use Rattle.paper.specs.Refusals.{outside, noSpare, forcedError, badCode}
+use Rattle.paper.specs.declared.Placed.the-variants.{At}
+use Rattle.paper.proofs.Cases.{byLt}
+use Rattle.seek.specs.Count.{countBelow}
+use Rattle.seek.specs.Every.{allBelow}
+use Rattle.seek.specs.First.{firstBelow, firstFault}
+use Rattle.seek.specs.Search.{firstOr, rising}
+use Rattle.words.specs.Words.{Bytes, bytes32, bytesOf, word16At, word32At, entriesAt}
+use Rattle.words.proofs.Stores.{part-sets}
+use Rattle.lists.specs.Union.{isIn, into, union}
+use Rattle.skip.specs.Skipping.{Lies, goodsBefore, place}
+use Rattle.skip.specs.Walk.{entriesBelow}
+use Rattle.skip.specs.Translation.{blockFault, SectorOfJudged}
+use Rattle.skip.specs.Cursors.{cursorAt, stepped}
+use Rattle.skip.proofs.Lying.{lies-one-block}
+use Rattle.skip.proofs.Composition.{place-after}
+use Rattle.skip.proofs.Exact.{sector-of-exactly}
+use Rattle.page.specs.Layout.{entriesOf, laidOut}
+use Rattle.page.specs.declared.Paged.the-variants.{Page, Refused as NotPaged}
+use Rattle.format.specs.Spaces.{newGrown, newList}
+use Rattle.format.specs.declared.Formatted.the-variants.{Done}
+use Rattle.layout.specs.Layouts.{layoutOf}
+use Rattle.layout.specs.Descriptors.{free, codeOf}
+use Rattle.table.specs.Rules.{tableFault}
+use Rattle.table.specs.Lookup as Table
+use Rattle.table.specs.Lookup.{placeOf}
+use Rattle.table.proofs.Lookups.{lies-only, lies-apart}
+use Rattle.order.specs.Order.{outward, order, countIn}
+use Rattle.replacing.specs.Replacing.{Altered}
+use Rattle.replacing.specs.declared.Census.{Census}
+use Rattle.spares.specs.Spares.{ReplaceJudged}
+use Rattle.spares.specs.Promises.{saidReplaced}
+use Rattle.spares.specs.declared.Replaced.the-variants.{Place, Refused as NotReplaced}
+use Rattle.spares.specs.declared.Shifted.the-variants.{By}
+use Rattle.spares.specs.declared.Counted.the-variants.{Counts as CountedAs}
+use Rattle.spares.proofs.Exact.{table-ready, replace-exactly}
+use Rattle.image.specs.Code as Code
+use Rattle.image.specs.Code.{wordsOf, rotated, codeFrom}
+use Rattle.image.specs.Image.{headerSize, times, alike, copies, headerOf, storedIn, foundIn, dataOf, imageOf, addressFault, sectorFault, imageFault}
+use Rattle.image.specs.Judged.{ImageJudged}
+use Rattle.image.specs.declared.Verdict.the-variants.{Refused as NotGood}
+use Rattle.image.proofs.Exact.{judge-exactly}
+use Rattle.image.proofs.Images.{length-image, written-data, written-good}
+use Rattle.reading.specs.Tracks.{Seated, on-spare, bytesIn, imageAt, sectorIn, headerFor}
+use Rattle.reading.specs.Faults.{lentFault}
+use Rattle.reading.specs.Promises.{AtSpot, in-spare, spotted}
+use Rattle.reading.specs.declared.answers.Spot.the-variants.{InSpare}
+use Rattle.reading.proofs.Tracks.{image-inside, data-inside}
+use Rattle.reading.proofs.Written.{good-read}
+use Rattle.demands.specs.Mission.{Keeps, Handed, Onward, Leads, Counts, Arrives}
+use Rattle.demands.specs.Numbered.{PlacedBy}
+use Rattle.demands.specs.Inputs.{few, chart, small, noneReplaced, afterSix}
+use Rattle.demands.specs.Boards.{made, scan, lent, pageWith, begun, damaged, older, newer, blank, trackWith, refusesAll, sameSector, addsOnce, skipsNothing, opened, runsAhead, cursorAfter, sectorsAfter, madeUpEntries, writesEarly, madeUpLengths, takesSectors, Composes, sameSpare, sparesNone, leavesTable, stoppedOrder, stopsSearch, madeUpCensus, censusWith, truncatedShift, wrappedShift, everyForced, homeImage, readsHome}
+
+-- a number that is given exactly is the only one
+no-other : {Rows : ℕ → Type 0} {number k : ℕ} → Exactly Rows number → (number ≡ k → ⊥) → Rows k → ⊥
+no-other {k = k} exactly other judged = other (exactly .only k judged)
+
+-- N 6, list 0, 1, 2: nothing is wrong with blocks 0 and 1
+zero-passes : blockFault 6 few 0 ≡ 0
+unfolding firstFault
+zero-passes = refl
+
+one-passes : blockFault 6 few 1 ≡ 0
+unfolding firstFault
+one-passes = refl
+
+-- refuses all: no row gives its number, and number 0 would be no refusal
+pub refuses-all-unjudged : (k : ℕ) → (k ≡ 0 → ⊥) → SectorOfJudged 6 few 0 (saidPlaced (refusesAll k 6 few 0) .0) → ⊥
+refuses-all-unjudged k some = no-other (sector-of-exactly 6 few 0) (λ same. some (sym same ∙ zero-passes))
+
+pub refuses-all-by-no-number : (k : ℕ) → PlacedBy (SectorOfJudged 6 few 0) (refusesAll k 6 few 0) → ⊥
+refuses-all-by-no-number zero by = by .never-refused-0 refl
+refuses-all-by-no-number (suc k) by = refuses-all-unjudged (suc k) (λ none. omega arith) (by .exactly .judged)
+
+-- block 0 lies on sector 3, and the board does not answer it
+pub refuses-all-unplaced : (k : ℕ) → Lies (isIn few) 6 0 3 × (refusesAll k 6 few 0 ≡ At 3 → ⊥)
+unfolding isIn goodsBefore countBelow
+refuses-all-unplaced k =
+    (record { inside = omega arith; good = refl; before = refl }, λ same. let clash : _≡_ {A = ℕ} 0 1 = cc in omega arith)
+
+-- no spare, always: block 7 has one, and no row gives 13
+pub spares-none-unjudged : ReplaceJudged small 2 noneReplaced 7 (saidReplaced (sparesNone small 2 noneReplaced 7 .0) .0) → ⊥
+unfolding allBelow placeOf firstBelow firstOr outward rising
+spares-none-unjudged = no-other (replace-exactly small 2 noneReplaced 7) (λ same. omega arith)
+
+-- the same sector always: blocks 0 and 1 do not both lie on it
+pub same-sector-shared :
+    (s : ℕ) → (sameSector s 6 few 0 ≡ At s) × (sameSector s 6 few 1 ≡ At s) × (Lies (isIn few) 6 0 s → Lies (isIn few) 6 1 s → ⊥)
+same-sector-shared s =
+    (rw zero-passes, rw one-passes, λ first second. let clash : _≡_ {A = ℕ} 0 1 = lies-one-block (isIn few) 6 first second in omega arith)
+
+-- nor on a revectored drive
+noneReplaced-passes : tableFault small 2 noneReplaced ≡ 0
+unfolding allBelow
+noneReplaced-passes = refl
+
+pub same-spare-shared :
+    (s : ℕ) →
+    (sameSpare s small 2 noneReplaced 0 ≡ At s)
+    × (sameSpare s small 2 noneReplaced 1 ≡ At s)
+    × (Table.Lies (layoutOf small 2) noneReplaced 0 s → Table.Lies (layoutOf small 2) noneReplaced 1 s → ⊥)
+same-spare-shared s = (rw noneReplaced-passes, rw noneReplaced-passes, shared)
+  where
+    shared : Table.Lies (layoutOf small 2) noneReplaced 0 s → Table.Lies (layoutOf small 2) noneReplaced 1 s → ⊥
+    shared first second =
+        let ready = table-ready small 2 noneReplaced noneReplaced-passes in
+        let same = lies-only (layoutOf small 2) noneReplaced 0 (ready .obeys) first ∙ sym (lies-only (layoutOf small 2) noneReplaced 1 (ready .obeys) second) in
+        let clash : _≡_ {A = ℕ} 0 1 = lies-apart (ready .laid) noneReplaced 0 1 same in
+        omega arith
+
+-- a replacement that leaves the table: it answers the right place, and of no place is the descriptor altered
+pub leaves-table-unaltered : (leavesTable small 2 noneReplaced 7 ≡ (Place 4, noneReplaced)) × ((q : ℕ) → Altered (layoutOf small 2) noneReplaced 7 q noneReplaced → ⊥)
+unfolding allBelow placeOf firstBelow firstOr outward rising
+leaves-table-unaltered = (refl, unaltered)
+  where
+    unaltered : (q : ℕ) → Altered (layoutOf small 2) noneReplaced 7 q noneReplaced → ⊥
+    unaltered q altered =
+        ⊎-elim
+        (λ at-primary. omega (arith, altered .was-free, at-primary))
+        (λ elsewhere. omega (arith, altered .was-free, elsewhere))
+        (altered .names-block .0)
+
+-- a cursor that runs ahead is not that of the next block after its first step, and after its second neither
+pub runs-ahead-first : Onward 6 few (cursorAfter (runsAhead 6 few) 0 opened) (cursorAfter (runsAhead 6 few) 1 opened) → ⊥
+unfolding cursorAfter firstFault
+runs-ahead-first onward = omega (arith, onward .follows)
+
+pub runs-ahead-second : Onward 6 few (cursorAfter (runsAhead 6 few) 1 opened) (cursorAfter (runsAhead 6 few) 2 opened) → ⊥
+unfolding cursorAfter firstFault place firstBelow goodsBefore countBelow isIn entriesBelow
+runs-ahead-second onward = omega (arith, onward .follows)
+
+-- however often it steps, it passes over block 1, which lies on sector 4, and answers block 2 again and again
+pub runs-ahead-sectors : (steps : ℕ) → sectorsAfter (runsAhead 6 few) (suc steps) opened ≡ 3 ∷ replicate steps 5
+unfolding sectorsAfter firstFault place firstBelow goodsBefore countBelow isIn entriesBelow
+runs-ahead-sectors steps = ap (λ (l : List ℕ). 3 ∷ l) (repeats steps)
+  where
+    repeats : (steps : ℕ) → sectorsAfter (runsAhead 6 few) steps (cursorAt 6 few 2) ≡ replicate steps 5
+    repeats zero = refl
+    repeats (suc steps) = ap (λ (l : List ℕ). 5 ∷ l) (repeats steps)
+
+-- the steps that are promised answer the blocks one after another
+pub promised-sectors : sectorsAfter (stepped 6 few) 3 opened ≡ 3 ∷ 4 ∷ 5 ∷ []
+unfolding sectorsAfter firstFault place firstBelow goodsBefore countBelow isIn entriesBelow
+promised-sectors = refl
+
+-- lengths made up: the paper's page has two entries, and any other number is not the length of its list
+pub made-up-entries :
+    (count : ℕ) → (count ≡ 2 → ⊥) →
+    (madeUpEntries count (pageWith 7) lent .0 ≡ Page 0 20 count)
+    × (Handed (entriesOf (pageWith 7)) lent count (madeUpEntries count (pageWith 7) lent .1) → ⊥)
+unfolding laidOut word32At entriesAt firstFault
+made-up-entries count other = (refl, λ handed. other (handed .long-as))
+
+-- the paper's night gives lists of two and four, and of any other lengths one is not its list's
+pub made-up-lengths :
+    (long other : ℕ) → ((long ≡ 2) × (other ≡ 4) → ⊥) →
+    (madeUpLengths long other 20 made [] 3 1 scan lent lent .0 ≡ Done long other 3)
+    × (Handed (newGrown 20 made [] 3 1 scan) lent long (madeUpLengths long other 20 made [] 3 1 scan lent lent .1) →
+    Handed (newList 20 made [] 3 1 scan) lent other (madeUpLengths long other 20 made [] 3 1 scan lent lent .2) → ⊥)
+unfolding countBelow firstBelow firstFault isIn into union goodsBefore place
+made-up-lengths long other wrong = (refl, λ grown list. wrong (grown .long-as, list .long-as))
+
+-- a census made up: five places are free, one is afterSix at its primary, two elsewhere, none is unusable and 120 are null
+pub used-counts : Counts afterSix (censusWith 5 1 2 0 120)
+unfolding countBelow
+used-counts = record { are-free = refl; are-primary = refl; are-elsewhere = refl; are-unusable = refl; are-null = refl }
+
+counts-one : {t : List ℕ} {first second : Census} → Counts t first → Counts t second → first ≡ second
+counts-one one other =
+    λ i.
+    record {
+      free = (one .are-free ∙ sym (other .are-free)) i;
+      primary = (one .are-primary ∙ sym (other .are-primary)) i;
+      elsewhere = (one .are-elsewhere ∙ sym (other .are-elsewhere)) i;
+      unusable = (one .are-unusable ∙ sym (other .are-unusable)) i;
+      null = (one .are-null ∙ sym (other .are-null)) i;
+    }
+
+-- and any other census does not count the codes
+pub made-up-census :
+    (census : Census) → (census ≡ censusWith 5 1 2 0 120 → ⊥) → (madeUpCensus census small 2 afterSix ≡ CountedAs census) × (Counts afterSix census → ⊥)
+unfolding allBelow
+made-up-census census other = (refl, λ counts. other (counts-one counts used-counts))
+
+-- all zeros; one free place too many; the right sum with two codes exchanged
+pub zeros-counted : Counts afterSix (censusWith 0 0 0 0 0) → ⊥
+zeros-counted counts = omega (arith, ap (λ (c : Census). c .free) (counts-one counts used-counts))
+
+pub one-too-many : Counts afterSix (censusWith 6 1 2 0 120) → ⊥
+one-too-many counts = omega (arith, ap (λ (c : Census). c .free) (counts-one counts used-counts))
+
+pub codes-exchanged : Counts afterSix (censusWith 5 2 1 0 120) → ⊥
+codes-exchanged counts = omega (arith, ap (λ (c : Census). c .primary) (counts-one counts used-counts))
+
+-- the identity map obeys demand 3's law, as demand 2's map does
+pub identity-composes : Composes (λ bad n b. b)
+identity-composes bad more n b = refl
+
+pub place-composes : Composes place
+place-composes = place-after
+
+on-bad : {bad : ℕ → Bool} {n b s : ℕ} → bad s ≡ true → Lies bad n b s → ⊥
+on-bad isBad lies = true≢false (sym isBad ∙ lies .good)
+
+-- so demand 3 is stated over demand 2's map, and the identity breaks demand 2: it answers sector 0, which is bad
+pub skips-nothing-on-bad : (skipsNothing 6 few 0 ≡ At 0) × (Lies (isIn few) 6 0 0 → ⊥)
+unfolding isIn firstFault
+skips-nothing-on-bad = (refl, on-bad refl)
+
+-- the entries at or below the block added once: sector 1 is bad, and so is sector 60 of the chart
+pub adds-once-on-bad : (addsOnce 6 few 0 ≡ At 1) × (Lies (isIn few) 6 0 1 → ⊥)
+unfolding isIn firstFault entriesBelow
+adds-once-on-bad = (refl, on-bad refl)
+
+pub adds-once-on-bad-chart : (addsOnce 848 chart 58 ≡ At 60) × (Lies (isIn chart) 848 58 60 → ⊥)
+unfolding isIn firstFault entriesBelow
+adds-once-on-bad-chart = (refl, on-bad refl)
+
+-- D taken as sectors: the new list is 3, 7, 16, and new block 15 lies on 18, where you arrive at 19
+pub takes-sectors-strays :
+    (takesSectors 20 made [] 3 1 scan lent lent ≡ (Done 2 3 3, 3 ∷ 16 ∷ 0 ∷ 0 ∷ [], 3 ∷ 7 ∷ 16 ∷ 0 ∷ []))
+    × (Arrives 20 made scan (3 ∷ 7 ∷ 16 ∷ []) 15 → ⊥)
+unfolding countBelow firstBelow firstFault isIn into union goodsBefore place
+takes-sectors-strays = (refl, λ arrives. omega (arith, arrives))
+
+-- a shift kept unsigned: block 6 lies one cylinder nearer to cylinder 0, and 0 does not lead there
+pub truncated-shift-leads-not : (truncatedShift small 2 afterSix 6 ≡ By (pos 0)) × (Leads (layoutOf small 2) afterSix 6 2 (pos 0) → ⊥)
+unfolding allBelow placeOf firstBelow
+truncated-shift-leads-not = (refl, λ shift. let same : pos 1 ≡ pos 0 = shift .leads in let clash : _≡_ {A = ℕ} 0 1 = cc in omega arith)
+
+-- and 2 to the 32 less 1 is not within 1 − C to C − 1
+pub wrapped-shift-not-within : (wrappedShift small 2 afterSix 6 ≡ By (pos 4294967295)) × (Leads (layoutOf small 2) afterSix 6 2 (pos 4294967295) → ⊥)
+unfolding allBelow placeOf firstBelow
+wrapped-shift-not-within = (refl, λ shift. omega (arith, shift .within))
+
+-- the ± search that stops: at offset 0 it does not have place 2, which the search order has
+pub stopped-order-misses : (countIn 2 (stoppedOrder 128 0) ≡ 0) × (countIn 2 (order 128 0) ≡ 1)
+unfolding countIn outward rising
+stopped-order-misses = (refl, refl)
+
+-- so it refuses block 2 after blocks 0 and 1, place 2 is free, and no row gives 13
+pub stops-search-unjudged :
+    (stopsSearch small 2 begun 2 ≡ (NotReplaced noSpare, begun)) × (codeOf (getD begun 2 0) ≡ free) × (ReplaceJudged small 2 begun 2 noSpare → ⊥)
+unfolding allBelow placeOf firstBelow firstOr outward rising
+stops-search-unjudged = (refl, refl, no-other (replace-exactly small 2 begun 2) (λ same. omega arith))
+
+-- entries written early: the last entry, 20, is not below N, and the room does not hold what it held
+pub writes-early-keeps-not : (writesEarly (pageWith 20) lent ≡ (NotPaged outside, 3 ∷ 20 ∷ 0 ∷ 0 ∷ [])) × (Keeps outside lent (3 ∷ 20 ∷ 0 ∷ 0 ∷ []) → ⊥)
+unfolding laidOut word32At entriesAt firstFault
+writes-early-keeps-not = (refl, λ keeps. omega (arith, ap (λ (l : List ℕ). getD l 0 0) (keeps (λ none. omega arith))))
+
+-- every mismatch taken for a forced error: the code is neither, and no row gives 17
+damaged-fault : imageFault dataSize damaged 6 ≡ badCode
+unfolding damaged imageFault sectorFault addressFault headerOf times alike copies storedIn foundIn dataOf Code.codeOf codeFrom Code.stepped rotated wordsOf bytesOf bytes32 word16At word32At entriesAt
+damaged-fault = refl
+
+pub every-forced-unjudged : (everyForced damaged 6 ≡ NotGood forcedError) × (ImageJudged dataSize damaged 6 forcedError → ⊥)
+unfolding damaged addressFault headerOf times alike copies storedIn foundIn dataOf Code.codeOf codeFrom Code.stepped rotated wordsOf bytesOf bytes32 word16At word32At entriesAt
+every-forced-unjudged =
+    (refl, no-other (judge-exactly damaged dataSize 6) (λ same. let clash : badCode ≡ forcedError = sym damaged-fault ∙ same in omega arith))
+
+-- a track image is as long as before a sector image was stored in it
+blank-long : length blank ≡ bytesIn dataSize 5
+unfolding blank
+blank-long = length-replicate {A = ℕ} (bytesIn dataSize 5) 0
+
+track-long : (sector : ℕ) (bytes : List ℕ) → length (trackWith sector bytes) ≡ bytesIn dataSize 5
+unfolding trackWith
+track-long sector bytes = length-sets blank (bytesIn dataSize sector) (imageOf 6 bytes false) ∙ blank-long
+
+-- and has it in its place
+track-holds :
+    (sector : ℕ) (bytes : List ℕ) → sector < 5 → length bytes ≡ dataSize → imageAt dataSize (bytesIn dataSize sector) (trackWith sector bytes) ≡ imageOf 6 bytes false
+unfolding trackWith imageAt
+track-holds sector bytes below long =
+    let size : length (imageOf 6 bytes false) ≡ dataSize + imageExtra = length-image 6 bytes false ∙ ap (λ (n : ℕ). n + imageExtra) long in
+    rw size at
+    (part-sets blank (bytesIn dataSize sector) (imageOf 6 bytes false) (omega (arith, size, blank-long, image-inside dataSize sector 5 below)))
+
+older-long : length older ≡ dataSize
+older-long = length-replicate {A = ℕ} 512 0
+
+newer-long : length newer ≡ dataSize
+newer-long = length-replicate {A = ℕ} 512 1
+
+-- data of one byte throughout
+alike-bytes : (n : ℕ) → n < 256 → Bytes (replicate 512 n)
+alike-bytes n fits k =
+    byLt k 512
+    (λ less. rw (getD-replicate 512 k n 0 less) fits)
+    (λ past.
+    let beyond : length (replicate 512 n) ≤ k = omega (arith, length-replicate 512 n) in
+    rw (List·getD-eq-default (replicate 512 n) 0 beyond) (omega arith))
+
+-- block 6 lies on sector 4 of the second track
+six-on-spare : {Track : Type 0} (home spare : Track) → Seated (layoutOf small 2) afterSix 6 home spare spare 4
+six-on-spare home spare = on-spare 3 (omega arith) (inr refl, refl)
+
+in-spare-holds :
+    {size offset : ℕ} {home spare part : RefT (List ℕ)} → AtSpot size home spare part (InSpare offset) → part .now ≡ take size (drop offset (spare .now))
+in-spare-holds (in-spare lends) = lends .holds
+
+module _ (home spare : RefT (List ℕ)) (home-is : home .now ≡ trackWith 0 older) (spare-is : spare .now ≡ trackWith 4 newer) where
+  lent-passes : lentFault dataSize small 2 afterSix 6 (home .now) (spare .now) ≡ 0
+  unfolding lentFault allBelow
+  lent-passes = rw (home-is, spare-is, track-long 0 older, track-long 4 newer)
+
+  home-holds : homeImage small 2 6 (home .now) ≡ imageOf 6 older false
+  home-holds = rw home-is (track-holds 0 older (omega arith) older-long)
+
+  spare-holds : imageAt dataSize (bytesIn dataSize 4) (spare .now) ≡ imageOf 6 newer false
+  spare-holds = rw spare-is (track-holds 4 newer (omega arith) newer-long)
+
+  home-good : sectorFault dataSize (homeImage small 2 6 (home .now)) 6 ≡ 0
+  home-good = rw home-holds (rw older-long at (written-good 6 older (omega arith) (alike-bytes 0 (omega arith))))
+
+  home-handed : readsHome small 2 afterSix 6 home spare .now ≡ older
+  home-handed = rw (lent-passes, home-good, home-holds) (rw older-long at (written-data 6 older false))
+
+  spare-spot : spotted dataSize small 2 afterSix 6 (home .now) (spare .now) ≡ InSpare (bytesIn dataSize 4 + headerSize)
+  unfolding headerFor placeOf firstBelow sectorIn
+  spare-spot =
+      rw (good-read dataSize small 2 afterSix 6 newer newer-long (alike-bytes 1 (omega arith)) lent-passes (six-on-spare (home .now) (spare .now)) spare-holds)
+
+  spare-data : take dataSize (drop (bytesIn dataSize 4 + headerSize) (spare .now)) ≡ newer
+  spare-data =
+      sym (data-inside dataSize (bytesIn dataSize 4) (spare .now)) ∙ (ap (dataOf dataSize) spare-holds ∙ (rw newer-long at (written-data 6 newer false)))
+
+  -- home for every block: the older data is handed back, and it is not the part at the spot where block 6 lies
+  pub reads-home-strays :
+      (readsHome small 2 afterSix 6 home spare .now ≡ older)
+      × (AtSpot dataSize home spare (readsHome small 2 afterSix 6 home spare) (spotted dataSize small 2 afterSix 6 (home .now) (spare .now)) → ⊥)
+  reads-home-strays = (
+    home-handed,
+    λ part.
+        let same : older ≡ newer = sym home-handed ∙ (in-spare-holds (rw spare-spot at part) ∙ spare-data) in
+        omega (arith, ap (λ (l : List ℕ). getD l 0 0) same),
+  )

@@ -1,0 +1,271 @@
+-- Wrong boards, each wrong in one respect, with the inputs that they are tried at.
+use Prim.Native.Nat.{ℕ, zero, suc, _+_, _-_, _%_, _^_}
+use mathlib.Core.Path.{_≡_}
+use mathlib.Core.Bool.{Bool, false, not}
+use mathlib.Core.List.{List, [], _∷_, _++_, map}
+use lib.Dec.{eqb, ltb, leb}
+use lib.IntN.{pos, _+ℤ_}
+use lib.ListN.{length, set, replicate}
+use lib.Seq.{sets}
+use denote.Ref.{RefT}
+use Rattle.paper.specs.Checks.{pick, refuse, _orElse_, answer}
+use Rattle.paper.specs.Limits.{tableBlock, dataSize, imageExtra}
+use Rattle.paper.specs.Refusals.{alreadyReplaced, noSpare, otherBlock, forcedError}
+use Rattle.paper.specs.declared.Placed.{Placed}
+use Rattle.paper.specs.declared.Placed.the-variants.{At, Refused as NotPlaced}
+use Rattle.seek.specs.Search.{firstOr, rising}
+use Rattle.words.specs.Words.{bytesOf}
+use Rattle.lists.specs.Union.{isIn, union, written}
+use Rattle.shape.specs.declared.Shape.{Shape}
+use Rattle.skip.specs.Skipping.{goodsBefore, place, after}
+use Rattle.skip.specs.Walk.{entriesBelow}
+use Rattle.skip.specs.Translation.{blocks, blockFault}
+use Rattle.skip.specs.Cursors.{cursorAt, stepFault}
+use Rattle.skip.specs.Promises.{saidJob}
+use Rattle.skip.specs.declared.Cursor.{Cursor}
+use Rattle.skip.specs.declared.Job.{Job}
+use Rattle.skip.specs.declared.Job.the-variants.{Ready, At as SteppedTo, Refused as NotStepped}
+use Rattle.page.specs.Layout.{kindOf, unitsOf, entriesOf}
+use Rattle.page.specs.Pages.{readFault}
+use Rattle.page.specs.Promises.{paged}
+use Rattle.page.specs.declared.Paged.{Paged}
+use Rattle.page.specs.declared.Paged.the-variants.{Page, Refused as NotPaged}
+use Rattle.format.specs.Options.{add, grownBy}
+use Rattle.format.specs.Spaces.{listOf, newGrown, newList, newSpace, formatFault}
+use Rattle.format.specs.declared.Formatted.{Formatted}
+use Rattle.format.specs.declared.Formatted.the-variants.{Done, Refused as NotFormatted}
+use Rattle.layout.specs.declared.Layout.{Layout}
+use Rattle.layout.specs.Layouts.{layoutOf, homeCylinder, spareCylinder}
+use Rattle.layout.specs.Descriptors.{primary}
+use Rattle.table.specs.Rules.{tableFault}
+use Rattle.table.specs.Lookup.{placeOf, isReplaced}
+use Rattle.order.specs.Order.{placeIn, kept, outward, blockStart, freeAt}
+use Rattle.replacing.specs.declared.Census.{Census}
+use Rattle.replacing.specs.Replacing.{descriptorAt}
+use Rattle.spares.specs.Spares.{blockFault as spareBlockFault}
+use Rattle.spares.specs.Promises.{replaced}
+use Rattle.spares.specs.declared.Replaced.{Replaced}
+use Rattle.spares.specs.declared.Replaced.the-variants.{Place, Refused as NotReplaced}
+use Rattle.spares.specs.declared.Shifted.{Shifted}
+use Rattle.spares.specs.declared.Shifted.the-variants.{By, Refused as NotShifted}
+use Rattle.spares.specs.declared.Counted.{Counted}
+use Rattle.spares.specs.declared.Counted.the-variants.{Counts, Refused as NotCounted}
+use Rattle.image.specs.Image.{copiesMade, headerSize, headerOf, storedIn, foundIn, dataOf, imageOf, lengthFault, addressFault, sectorFault}
+use Rattle.image.specs.declared.Verdict.{Verdict}
+use Rattle.image.specs.declared.Verdict.the-variants.{Good, Refused as NotGood}
+use Rattle.reading.specs.Tracks.{bytesIn, imageAt}
+use Rattle.reading.specs.Faults.{lentFault}
+use Rattle.demands.specs.Inputs.{few}
+
+-- demand 3's law over any map from blocks to units: each new block lies where you arrive by skipping the named blocks in the old numbering and following the old map
+abbrev pub Composes : ((ℕ → Bool) → ℕ → ℕ → ℕ) → Type 0
+Composes mapped = (bad more : ℕ → Bool) (n b : ℕ) → mapped (after bad more) n b ≡ mapped bad n (mapped more (goodsBefore bad n) b)
+
+-- The inputs.
+
+-- a job over N 6 with the first three sectors bad, that opens at block 0
+abbrev pub opened : Cursor
+opened = cursorAt 6 few 0
+
+-- N 20, the paper's night: the manufacturer's list, the scan's list, and a room that is long enough for either result
+abbrev pub made : List ℕ
+made = 3 ∷ 7 ∷ []
+
+abbrev pub scan : List ℕ
+scan = 3 ∷ 16 ∷ []
+
+abbrev pub lent : List ℕ
+lent = 0 ∷ 0 ∷ 0 ∷ 0 ∷ []
+
+-- the page of kind 0 and N 20 with two entries, of which the first is 3
+abbrev pub pageWith : ℕ → List ℕ
+pageWith last = 0 ∷ 0 ∷ 0 ∷ 22 ∷ 1 ∷ 0 ∷ 0 ∷ 0 ∷ 0 ∷ 20 ∷ 0 ∷ 0 ∷ 0 ∷ 3 ∷ 0 ∷ 0 ∷ 0 ∷ last ∷ 255 ∷ 255 ∷ 255 ∷ 255 ∷ []
+
+-- blocks 0 and 1 are replaced, at places 0 and 1
+abbrev pub begun : List ℕ
+begun = 0x20000000 ∷ 0x30000001 ∷ 0 ∷ 0 ∷ 0 ∷ 0 ∷ 0 ∷ 0 ∷ replicate 120 0x80000000
+
+-- 512 bytes that were written to a block's home before it was replaced, and to its spare after
+abbrev pub older : List ℕ
+older = replicate 512 0
+
+abbrev pub newer : List ℕ
+newer = replicate 512 1
+
+-- a track image of the drive, five sector images long
+unfoldable pub blank : List ℕ
+blank = replicate (bytesIn dataSize 5) 0
+
+-- the same with a good image of block 6 on one sector
+unfoldable pub trackWith : ℕ → List ℕ → List ℕ
+trackWith sector bytes = sets blank (bytesIn dataSize sector) (imageOf 6 bytes false)
+
+-- an image of block 6 with a code that is neither that of its data, 5A3C, nor the complement, A5C3
+unfoldable pub damaged : List ℕ
+damaged = bytesOf (replicate copiesMade 6) ++ (older ++ (0 ∷ 0 ∷ []))
+
+-- Boards for a skipped drive.
+
+-- skip::sector_of: refuses whatever it is asked
+abbrev pub refusesAll : ℕ → ℕ → List ℕ → ℕ → Placed
+refusesAll k n a b = NotPlaced k
+
+-- skip::sector_of: one sector for all blocks
+abbrev pub sameSector : ℕ → ℕ → List ℕ → ℕ → Placed
+sameSector s n a b = answer (blockFault n a b) NotPlaced (At s)
+
+-- skip::sector_of: adds the number of entries at or below the block, and does not look again
+abbrev pub addsOnce : ℕ → List ℕ → ℕ → Placed
+addsOnce n a b = answer (blockFault n a b) NotPlaced (At (b + entriesBelow a (suc b)))
+
+-- skip::sector_of: skips nothing
+abbrev pub skipsNothing : ℕ → List ℕ → ℕ → Placed
+skipsNothing n a b = answer (blockFault n a b) NotPlaced (At b)
+
+-- Cursor::step: goes on by two blocks at block 0, and then stays
+abbrev pub runsAhead : ℕ → List ℕ → Cursor → Job
+runsAhead n a c =
+    answer (stepFault n a c) (λ fault. NotStepped fault c)
+    (SteppedTo (place (isIn a) n (c .block)) (cursorAt n a (pick (eqb (c .block) 0) 2 (c .block))))
+
+-- the cursor that a step hands back
+abbrev pub nextOf : Job → Cursor
+nextOf (Ready next) = next
+nextOf (SteppedTo sector next) = next
+nextOf (NotStepped fault next) = next
+
+-- the cursor after so many steps, and the sectors that they answer
+unfoldable pub cursorAfter : (Cursor → Job) → ℕ → Cursor → Cursor
+cursorAfter step zero c = c
+cursorAfter step (suc steps) c = cursorAfter step steps (nextOf (step c))
+
+unfoldable pub sectorsAfter : (Cursor → Job) → ℕ → Cursor → List ℕ
+sectorsAfter step zero c = []
+sectorsAfter step (suc steps) c = saidJob (step c) .1 ∷ sectorsAfter step steps (nextOf (step c))
+
+-- page::read: any number of entries
+abbrev pub madeUpEntries : ℕ → List ℕ → List ℕ → Paged × List ℕ
+madeUpEntries count page room =
+    (answer (readFault page room) NotPaged (Page (kindOf page) (unitsOf page) count), answer (readFault page room) (λ fault. room) (written (entriesOf page) room))
+
+-- page::read: puts the entries into the room whether or not it refuses
+abbrev pub writesEarly : List ℕ → List ℕ → Paged × List ℕ
+writesEarly page room = (paged page room, written (entriesOf page) room)
+
+-- format::format: any lengths
+abbrev pub madeUpLengths : ℕ → ℕ → ℕ → List ℕ → List ℕ → ℕ → ℕ → List ℕ → List ℕ → List ℕ → Formatted × List ℕ × List ℕ
+madeUpLengths long other n p g space option d grown list = (
+  answer (formatFault n p g space option d grown list) NotFormatted (Done long other (newSpace space option)),
+  answer (formatFault n p g space option d grown list) (λ fault. grown) (written (newGrown n p g space option d) grown),
+  answer (formatFault n p g space option d grown list) (λ fault. list) (written (newList n p g space option d) list),
+)
+
+-- the new grown list where D is taken in sectors by every option that adds it
+abbrev pub grownAsSectors : ℕ → List ℕ → List ℕ → ℕ → ℕ → List ℕ → List ℕ
+grownAsSectors n p g space option d = pick (eqb (grownBy option) add) (union g d) (newGrown n p g space option d)
+
+-- and the list of the new space
+abbrev pub listAsSectors : ℕ → List ℕ → List ℕ → ℕ → ℕ → List ℕ → List ℕ
+listAsSectors n p g space option d = listOf (newSpace space option) p (grownAsSectors n p g space option d)
+
+-- format::format: takes D so
+abbrev pub takesSectors : ℕ → List ℕ → List ℕ → ℕ → ℕ → List ℕ → List ℕ → List ℕ → Formatted × List ℕ × List ℕ
+takesSectors n p g space option d grown list = (
+  answer (formatFault n p g space option d grown list) NotFormatted
+      (Done (length (grownAsSectors n p g space option d)) (length (listAsSectors n p g space option d)) (newSpace space option)),
+  answer (formatFault n p g space option d grown list) (λ fault. grown) (written (grownAsSectors n p g space option d) grown),
+  answer (formatFault n p g space option d grown list) (λ fault. list) (written (listAsSectors n p g space option d) list),
+)
+
+-- Boards for a revectored drive.
+
+-- spares::sector_of: one sector for all blocks
+abbrev pub sameSpare : ℕ → Shape → ℕ → List ℕ → ℕ → Placed
+sameSpare s shape r t b = answer (spareBlockFault shape r t b) NotPlaced (At s)
+
+-- spares::replace: says that no spare is free
+abbrev pub sparesNone : Shape → ℕ → List ℕ → ℕ → Replaced × List ℕ
+sparesNone shape r t b = (NotReplaced noSpare, t)
+
+-- spares::replace: answers the right place and leaves the table
+abbrev pub leavesTable : Shape → ℕ → List ℕ → ℕ → Replaced × List ℕ
+leavesTable shape r t b = (replaced shape r t b, t)
+
+-- how far the nearer end of the table block lies from an offset
+abbrev pub nearerEnd : ℕ → ℕ
+nearerEnd o = pick (ltb o (tableBlock - 1 - o)) o (tableBlock - 1 - o)
+
+-- the search order whose ± search stops at the first place outside the table block
+abbrev pub stoppedOrder : ℕ → ℕ → List ℕ
+stoppedOrder places p =
+    map (λ offset. blockStart p + offset)
+    (outward (p % tableBlock) (suc (nearerEnd (p % tableBlock))) ++ kept (placeIn (pos (p % tableBlock) +ℤ pos (suc (nearerEnd (p % tableBlock))))))
+    ++ (rising (blockStart p + tableBlock) (places - (blockStart p + tableBlock)) ++ rising 0 (blockStart p))
+
+-- the spare that it finds
+abbrev pub stoppedSpare : Layout → List ℕ → ℕ → ℕ
+stoppedSpare g t b = firstOr (length t) (freeAt t) (stoppedOrder (length t) (primary g b))
+
+-- checks 1, 11, 5, 12, 13 with it
+abbrev pub stoppedFault : Shape → ℕ → List ℕ → ℕ → ℕ
+stoppedFault shape r t b =
+    spareBlockFault shape r t b
+    orElse refuse (isReplaced t b) alreadyReplaced
+    orElse refuse (leb (length t) (stoppedSpare (layoutOf shape r) t b)) noSpare
+
+-- spares::replace: searches in that order
+abbrev pub stopsSearch : Shape → ℕ → List ℕ → ℕ → Replaced × List ℕ
+stopsSearch shape r t b = (
+  answer (stoppedFault shape r t b) NotReplaced (Place (stoppedSpare (layoutOf shape r) t b)),
+  answer (stoppedFault shape r t b) (λ fault. t)
+      (set t (stoppedSpare (layoutOf shape r) t b) (descriptorAt (layoutOf shape r) (stoppedSpare (layoutOf shape r) t b) b)),
+)
+
+-- spares::census: any census
+abbrev pub madeUpCensus : Census → Shape → ℕ → List ℕ → Counted
+madeUpCensus census shape r t = answer (tableFault shape r t) NotCounted (Counts census)
+
+-- free, primary, elsewhere, unusable, null
+abbrev pub censusWith : ℕ → ℕ → ℕ → ℕ → ℕ → Census
+censusWith free primary elsewhere unusable null =
+    record { free = free; primary = primary; elsewhere = elsewhere; unusable = unusable; null = null }
+
+-- spares::shift: a difference that stops at 0
+abbrev pub truncatedShift : Shape → ℕ → List ℕ → ℕ → Shifted
+truncatedShift shape r t b =
+    answer (spareBlockFault shape r t b) NotShifted
+    (By (pick (isReplaced t b) (pos (spareCylinder (layoutOf shape r) (placeOf t b) - homeCylinder (layoutOf shape r) b)) (pos 0)))
+
+-- spares::shift: a difference of 32 bits without a sign
+abbrev pub wrappedShift : Shape → ℕ → List ℕ → ℕ → Shifted
+wrappedShift shape r t b =
+    answer (spareBlockFault shape r t b) NotShifted
+    (By (pick (isReplaced t b) (pos ((2 ^ 32 + spareCylinder (layoutOf shape r) (placeOf t b) - homeCylinder (layoutOf shape r) b) % 2 ^ 32)) (pos 0)))
+
+-- Boards for images.
+
+-- image::judge: takes every mismatch for a forced error
+abbrev pub everyForced : List ℕ → ℕ → Verdict
+everyForced image number =
+    answer
+    (lengthFault (dataSize + imageExtra) image
+    orElse (addressFault image
+    orElse (refuse (not (eqb (headerOf image) number)) otherBlock
+    orElse refuse (not (eqb (storedIn dataSize image) (foundIn dataSize image))) forcedError)))
+    NotGood Good
+
+-- the part of lent bytes that begins at a place of them
+abbrev pub partAt : RefT (List ℕ) → ℕ → List ℕ → RefT (List ℕ)
+partAt bytes at held = record { ptr = (bytes .ptr .0, at + bytes .ptr .1); name = bytes .name; now = held }
+
+-- the sector image at a block's home
+abbrev pub homeImage : Shape → ℕ → ℕ → List ℕ → List ℕ
+homeImage shape r b home = imageAt dataSize (bytesIn dataSize (b % layoutOf shape r .home)) home
+
+-- reading::data: looks at home for every block
+abbrev pub readsHome : Shape → ℕ → List ℕ → ℕ → RefT (List ℕ) → RefT (List ℕ) → RefT (List ℕ)
+readsHome shape r t b home spare =
+    answer
+    (lentFault dataSize shape r t b (home .now) (spare .now) orElse sectorFault dataSize (homeImage shape r b (home .now)) b)
+    (λ fault. partAt home 0 [])
+    (partAt home (bytesIn dataSize (b % layoutOf shape r .home) + headerSize) (dataOf dataSize (homeImage shape r b (home .now))))

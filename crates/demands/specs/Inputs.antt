@@ -1,0 +1,34 @@
+-- The paper's small inputs, which the rows of "Numbers to try" and the wrong boards share.
+use Prim.Native.Nat.{ℕ}
+use mathlib.Core.List.{List, [], _∷_}
+use lib.ListN.{replicate}
+use Rattle.shape.specs.declared.Shape.{Shape}
+
+-- N 6: the first three sectors are bad, and three blocks are left
+abbrev pub few : List ℕ
+few = 0 ∷ 1 ∷ 2 ∷ []
+
+-- the bad sectors of source document 001's chart
+abbrev pub chart : List ℕ
+chart = 3 ∷ 7 ∷ 60 ∷ 61 ∷ []
+
+-- C 2, H 2, S 5
+abbrev pub small : Shape
+small = record { cylinders = 2; heads = 2; sectors = 5 }
+
+-- its table at r 2: eight spares, of which places 3, 4 and 5 hold these words and the others are free, and null beyond them
+abbrev pub holding : ℕ → ℕ → ℕ → List ℕ
+holding third fourth fifth = 0 ∷ 0 ∷ 0 ∷ third ∷ fourth ∷ fifth ∷ 0 ∷ 0 ∷ replicate 120 0x80000000
+
+-- no block is replaced; then block 7 is, at its primary; then 8 and then 6, elsewhere
+abbrev pub noneReplaced : List ℕ
+noneReplaced = holding 0 0 0
+
+abbrev pub afterSeven : List ℕ
+afterSeven = holding 0 0x20000007 0
+
+abbrev pub afterEight : List ℕ
+afterEight = holding 0 0x20000007 0x30000008
+
+abbrev pub afterSix : List ℕ
+afterSix = holding 0x30000006 0x20000007 0x30000008

@@ -1,0 +1,129 @@
+-- Document 01, "Numbers to try": those that are marked P, as the rows of one table, and what it is for a row to hold.
+use Prim.Native.Nat.{ℕ, _+_, _≤_}
+use mathlib.Core.Path.{_≡_}
+use mathlib.Core.Bool.{Bool, true, false}
+use mathlib.Core.List.{List, [], _∷_, _++_}
+use lib.IntN.{ℤ, negsuc}
+use lib.ListN.{length, replicate}
+use Rattle.paper.specs.Answers.{saidPlaced, saidNamed, saidWritten}
+use Rattle.paper.specs.Limits.{dataSize, imageExtra}
+use Rattle.paper.specs.declared.Written.{Written}
+use Rattle.lists.specs.Union.{written}
+use Rattle.shape.specs.declared.Shape.{Shape}
+use Rattle.skip.specs.Promises as Skip
+use Rattle.format.specs.declared.Formatted.{Formatted}
+use Rattle.format.specs.Promises.{saidFormatted, Formats}
+use Rattle.first.specs.Promises.{FirstTable}
+use Rattle.spares.specs.declared.Replaced.{Replaced}
+use Rattle.spares.specs.Promises as Spares
+use Rattle.image.specs.Image.{storedIn}
+use Rattle.image.specs.Promises.{Write}
+use Rattle.demands.specs.Mission.{AllowsOnly}
+use Rattle.demands.specs.Inputs.{few, chart, small, noneReplaced, afterSeven, afterEight, afterSix}
+
+-- a row: a call, what goes into it, and the paper's figures for what comes out; the refusal comes first, 0 where the call accepts
+pub data Row : Type 0 where
+  -- skip::sector_of: refusal, sector
+  skip-sector : (n : ℕ) (list : List ℕ) (block : ℕ) (figures : ℕ × ℕ) → Row
+  -- skip::block_on: refusal, whether a block lies there, block
+  skip-block : (n : ℕ) (list : List ℕ) (sector : ℕ) (figures : ℕ × ℕ × ℕ) → Row
+  -- format::format, accepted: the new grown list, the new list, the new space
+  format : (n : ℕ) (p g : List ℕ) (space option : ℕ) (d grown list : List ℕ) (next : ℕ) → Row
+  -- spares::first_table, accepted: the table
+  spare-first : (shape : Shape) (r : ℕ) (list table : List ℕ) → Row
+  -- spares::replace, accepted: the place, and the table after it
+  spare-replace : (shape : Shape) (r : ℕ) (table : List ℕ) (block place : ℕ) (after : List ℕ) → Row
+  -- spares::shift: refusal, shift
+  spare-shift : (shape : Shape) (r : ℕ) (table : List ℕ) (block : ℕ) (figures : ℕ × ℤ) → Row
+  -- spares::sector_of: refusal, sector
+  spare-sector : (shape : Shape) (r : ℕ) (table : List ℕ) (block : ℕ) (figures : ℕ × ℕ) → Row
+  -- spares::block_on: refusal, whether a block lies there, block
+  spare-block : (shape : Shape) (r : ℕ) (table : List ℕ) (sector : ℕ) (figures : ℕ × ℕ × ℕ) → Row
+  -- spares::census: refusal, free, at the primary, elsewhere, unusable, null
+  spare-census : (shape : Shape) (r : ℕ) (table : List ℕ) (figures : ℕ × ℕ × ℕ × ℕ × ℕ × ℕ) → Row
+  -- image::write, accepted, of good data or of data that was bad: the code that the image carries
+  image-write : (forced : Bool) (bytes : List ℕ) (code : ℕ) → Row
+
+-- a row holds where the promise of its call allows its figures alone, in any room that is long enough
+abbrev pub Holds : Row → Type 0
+Holds (skip-sector n list block figures) = AllowsOnly (Skip.SectorOf n list block) (λ answer. saidPlaced answer ≡ figures)
+Holds (skip-block n list sector figures) = AllowsOnly (Skip.BlockOn n list sector) (λ answer. saidNamed answer ≡ figures)
+Holds (format n p g space option d grown list next) =
+    (first second : List ℕ) → length grown ≤ length first → length list ≤ length second →
+    AllowsOnly
+    (λ (answer : Formatted × List ℕ × List ℕ). Formats n p g space option d first second (answer .0) (answer .1) (answer .2))
+    (λ answer. (saidFormatted (answer .0) ≡ (0, length grown, length list, next)) × (answer .1 ≡ written grown first) × (answer .2 ≡ written list second))
+Holds (spare-first shape r list table) =
+    (room : List ℕ) → length table ≤ length room →
+    AllowsOnly
+    (λ (answer : Written × List ℕ). FirstTable shape r list room (answer .0) (answer .1))
+    (λ answer. (saidWritten (answer .0) ≡ (0, length table)) × (answer .1 ≡ written table room))
+Holds (spare-replace shape r table block place after) =
+    AllowsOnly
+    (λ (answer : Replaced × List ℕ). Spares.Replacement shape r table block (answer .0) (answer .1))
+    (λ answer. (Spares.saidReplaced (answer .0) ≡ (0, place)) × (answer .1 ≡ after))
+Holds (spare-shift shape r table block figures) = AllowsOnly (Spares.ShiftOf shape r table block) (λ answer. Spares.saidShifted answer ≡ figures)
+Holds (spare-sector shape r table block figures) = AllowsOnly (Spares.SectorOf shape r table block) (λ answer. saidPlaced answer ≡ figures)
+Holds (spare-block shape r table sector figures) = AllowsOnly (Spares.BlockOn shape r table sector) (λ answer. saidNamed answer ≡ figures)
+Holds (spare-census shape r table figures) = AllowsOnly (Spares.CensusOf shape r table) (λ answer. Spares.saidCounted answer ≡ figures)
+Holds (image-write forced bytes code) =
+    (number : ℕ) (room : List ℕ) → dataSize + imageExtra ≤ length room →
+    AllowsOnly
+    (λ (answer : Written × List ℕ). Write number bytes forced room (answer .0) (answer .1))
+    (λ answer. (saidWritten (answer .0) ≡ (0, dataSize + imageExtra)) × (storedIn dataSize (answer .1) ≡ code))
+
+-- every row of a table holds
+infixr 20 _also_
+pub data AllHold : List Row → Type 0 where
+  done : AllHold []
+  _also_ : {row : Row} {rest : List Row} → Holds row → AllHold rest → AllHold (row ∷ rest)
+
+-- a sector's data: all zero, the first word 1, the last word 1
+abbrev pub zeros : List ℕ
+zeros = replicate 512 0
+
+abbrev pub firstOne : List ℕ
+firstOne = 0 ∷ 1 ∷ replicate 510 0
+
+abbrev pub lastOne : List ℕ
+lastOne = replicate 511 0 ++ (1 ∷ [])
+
+-- the table, in the paper's order
+abbrev pub rows : List Row
+rows =
+    -- the chart's blocks 3, 57, 58 and 843
+    skip-sector 848 chart 3 (0, 4)
+    ∷ skip-sector 848 chart 57 (0, 59)
+    ∷ skip-sector 848 chart 58 (0, 62)
+    ∷ skip-sector 848 chart 843 (0, 847)
+    -- a bad sector has no block
+    ∷ skip-block 848 chart 61 (0, 0, 0)
+    -- one block too many is refused 5
+    ∷ skip-sector 848 chart 844 (5, 0)
+    -- a list that begins with sector 0
+    ∷ skip-sector 6 few 0 (0, 3)
+    -- a scan over P 3, 7 names blocks 3 and 16, in space 3 with option 1: G' is 4, 18
+    ∷ format 20 (3 ∷ 7 ∷ []) [] 3 1 (3 ∷ 16 ∷ []) (4 ∷ 18 ∷ []) (3 ∷ 4 ∷ 7 ∷ 18 ∷ []) 3
+    -- a block of the new map
+    ∷ skip-sector 20 (3 ∷ 4 ∷ 7 ∷ 18 ∷ []) 15 (0, 19)
+    -- a drive with no bad sector has every spare free
+    ∷ spare-first small 2 [] noneReplaced
+    -- block 7 goes to place 4, then 8 to 5, then 6 to 3
+    ∷ spare-replace small 2 noneReplaced 7 4 afterSeven
+    ∷ spare-replace small 2 afterSeven 8 5 afterEight
+    ∷ spare-replace small 2 afterEight 6 3 afterSix
+    -- block 6 is then shifted by −1
+    ∷ spare-shift small 2 afterSix 6 (0, negsuc 0)
+    -- it lies on sector 9, the second spare of track 1, and its home, sector 10, has no block
+    ∷ spare-sector small 2 afterSix 6 (0, 9)
+    ∷ spare-block small 2 afterSix 9 (0, 1, 6)
+    ∷ spare-block small 2 afterSix 10 (0, 0, 0)
+    -- five spares are free, one holds a block whose primary it is, two hold other blocks, and 120 places are null
+    ∷ spare-census small 2 afterSix (0, 5, 1, 2, 0, 120)
+    -- the code of good data
+    ∷ image-write false zeros 0x5a3c
+    ∷ image-write false firstOne 0xda3c
+    ∷ image-write false lastOne 0x5a3d
+    -- and of data that was bad when it was written
+    ∷ image-write true zeros 0xa5c3
+    ∷ []
