@@ -1,6 +1,6 @@
 -- Demand 1: every call takes any shape, list, table, page or image, ends, and answers or refuses by the paper's numbers; a refusal gives its number and no answer, and lent memory keeps its bytes.
 -- That a call takes anything and ends: no public call has a `requires`, and Rattle proves of each function that it is safe and ends. The rest stands here for each public call, over whatever result its promise allows.
--- A theorem of a call says four things: its number is given exactly when the paper's table gives it and no other number is; a refusal says 0 for every other number (a refused step hands back the cursor it was given); and no call answers a refusal with number 0, so that 0 means accepted.
+-- A call's theorem says three things (`ByTheNumbers`): its number is the one that the paper's table gives, exactly then, and no other; a refusal says 0 for every other number, save that a refused step hands back the cursor it was given; and no call answers a refusal with number 0, so that 0 means accepted. Theorems that end in `-keeps` say that lent memory keeps its bytes.
 -- Assumes nothing.
 use Prim.Native.Nat.{ℕ, _+_, _-_, _*_, _/_, _%_}
 use mathlib.Core.Path.{_≡_, _∙_, ap}
