@@ -8,7 +8,6 @@ ghost use Rattle.format.specs.Promises.{saidFormatted};
 ghost use Rattle.spares.specs.Promises.{saidShifted, saidReplaced, saidCounted};
 ghost use Rattle.image.specs.Promises.{saidHead, saidVerdict};
 ghost use Rattle.reading.specs.Promises.{saidSpot};
-ghost use Rattle.board.specs.Numbers.{placedNumbers, namedNumbers, writtenNumbers, locatedNumbers, jobNumbers, pagedNumbers, formattedNumbers, shiftedNumbers, replacedNumbers, countedNumbers, headedNumbers, judgedNumbers, spottedNumbers};
 use format::Formatted;
 use image::Head;
 use image::Verdict;
@@ -114,7 +113,8 @@ pub struct TbSpotted {
 }
 
 pub fn placed(answer: Placed) -> TbPlaced
-    ensures { λ r. ⌜ placedNumbers r ≡ saidPlaced answer ⌝ }
+    ensures { λ r. ⌜ r .refusal ≡ saidPlaced answer .0 ⌝ }
+    ensures { λ r. ⌜ r .sector ≡ saidPlaced answer .1 ⌝ }
 {
     match answer {
         Placed::At(sector) => TbPlaced { refusal: 0, sector },
@@ -123,7 +123,9 @@ pub fn placed(answer: Placed) -> TbPlaced
 }
 
 pub fn named(answer: Named) -> TbNamed
-    ensures { λ r. ⌜ namedNumbers r ≡ saidNamed answer ⌝ }
+    ensures { λ r. ⌜ r .refusal ≡ saidNamed answer .0 ⌝ }
+    ensures { λ r. ⌜ r .found ≡ saidNamed answer .1 ⌝ }
+    ensures { λ r. ⌜ r .block ≡ saidNamed answer .2 ⌝ }
 {
     match answer {
         Named::Block(block) => TbNamed {
@@ -145,7 +147,8 @@ pub fn named(answer: Named) -> TbNamed
 }
 
 pub fn written(answer: Written) -> TbWritten
-    ensures { λ r. ⌜ writtenNumbers r ≡ saidWritten answer ⌝ }
+    ensures { λ r. ⌜ r .refusal ≡ saidWritten answer .0 ⌝ }
+    ensures { λ r. ⌜ r .length ≡ saidWritten answer .1 ⌝ }
 {
     match answer {
         Written::Length(length) => TbWritten { refusal: 0, length },
@@ -154,7 +157,10 @@ pub fn written(answer: Written) -> TbWritten
 }
 
 pub fn located(answer: Located) -> TbLocated
-    ensures { λ r. ⌜ locatedNumbers r ≡ saidLocated answer ⌝ }
+    ensures { λ r. ⌜ r .refusal ≡ saidLocated answer .0 ⌝ }
+    ensures { λ r. ⌜ r .address .cylinder ≡ saidLocated answer .1 ⌝ }
+    ensures { λ r. ⌜ r .address .head ≡ saidLocated answer .2 ⌝ }
+    ensures { λ r. ⌜ r .address .sector ≡ saidLocated answer .3 ⌝ }
 {
     match answer {
         Located::At(address) => TbLocated {
@@ -173,7 +179,10 @@ pub fn located(answer: Located) -> TbLocated
 }
 
 pub fn job(answer: Job) -> TbJob
-    ensures { λ r. ⌜ jobNumbers r ≡ saidJob answer ⌝ }
+    ensures { λ r. ⌜ r .refusal ≡ saidJob answer .0 ⌝ }
+    ensures { λ r. ⌜ r .sector ≡ saidJob answer .1 ⌝ }
+    ensures { λ r. ⌜ r .next .block ≡ saidJob answer .2 ⌝ }
+    ensures { λ r. ⌜ r .next .skipped ≡ saidJob answer .3 ⌝ }
 {
     match answer {
         Job::Ready(next) => TbJob {
@@ -195,7 +204,10 @@ pub fn job(answer: Job) -> TbJob
 }
 
 pub fn paged(answer: Paged) -> TbPaged
-    ensures { λ r. ⌜ pagedNumbers r ≡ saidPaged answer ⌝ }
+    ensures { λ r. ⌜ r .refusal ≡ saidPaged answer .0 ⌝ }
+    ensures { λ r. ⌜ r .kind ≡ saidPaged answer .1 ⌝ }
+    ensures { λ r. ⌜ r .n ≡ saidPaged answer .2 ⌝ }
+    ensures { λ r. ⌜ r .entries ≡ saidPaged answer .3 ⌝ }
 {
     match answer {
         Paged::Page(kind, n, entries) => TbPaged {
@@ -214,7 +226,10 @@ pub fn paged(answer: Paged) -> TbPaged
 }
 
 pub fn formatted(answer: Formatted) -> TbFormatted
-    ensures { λ r. ⌜ formattedNumbers r ≡ saidFormatted answer ⌝ }
+    ensures { λ r. ⌜ r .refusal ≡ saidFormatted answer .0 ⌝ }
+    ensures { λ r. ⌜ r .grown ≡ saidFormatted answer .1 ⌝ }
+    ensures { λ r. ⌜ r .list ≡ saidFormatted answer .2 ⌝ }
+    ensures { λ r. ⌜ r .space ≡ saidFormatted answer .3 ⌝ }
 {
     match answer {
         Formatted::Done(grown, list, space) => TbFormatted {
@@ -233,7 +248,8 @@ pub fn formatted(answer: Formatted) -> TbFormatted
 }
 
 pub fn shifted(answer: Shifted) -> TbShifted
-    ensures { λ r. ⌜ shiftedNumbers r ≡ saidShifted answer ⌝ }
+    ensures { λ r. ⌜ r .refusal ≡ saidShifted answer .0 ⌝ }
+    ensures { λ r. ⌜ r .shift ≡ saidShifted answer .1 ⌝ }
 {
     match answer {
         Shifted::By(shift) => TbShifted { refusal: 0, shift },
@@ -242,7 +258,8 @@ pub fn shifted(answer: Shifted) -> TbShifted
 }
 
 pub fn replaced(answer: Replaced) -> TbReplaced
-    ensures { λ r. ⌜ replacedNumbers r ≡ saidReplaced answer ⌝ }
+    ensures { λ r. ⌜ r .refusal ≡ saidReplaced answer .0 ⌝ }
+    ensures { λ r. ⌜ r .place ≡ saidReplaced answer .1 ⌝ }
 {
     match answer {
         Replaced::Place(place) => TbReplaced { refusal: 0, place },
@@ -251,7 +268,12 @@ pub fn replaced(answer: Replaced) -> TbReplaced
 }
 
 pub fn counted(answer: Counted) -> TbCounted
-    ensures { λ r. ⌜ countedNumbers r ≡ saidCounted answer ⌝ }
+    ensures { λ r. ⌜ r .refusal ≡ saidCounted answer .0 ⌝ }
+    ensures { λ r. ⌜ r .free ≡ saidCounted answer .1 ⌝ }
+    ensures { λ r. ⌜ r .primary ≡ saidCounted answer .2 ⌝ }
+    ensures { λ r. ⌜ r .elsewhere ≡ saidCounted answer .3 ⌝ }
+    ensures { λ r. ⌜ r .unusable ≡ saidCounted answer .4 ⌝ }
+    ensures { λ r. ⌜ r .null ≡ saidCounted answer .5 ⌝ }
 {
     match answer {
         Counted::Counts(census) => TbCounted {
@@ -274,7 +296,8 @@ pub fn counted(answer: Counted) -> TbCounted
 }
 
 pub fn headed(answer: Head) -> TbHeaded
-    ensures { λ r. ⌜ headedNumbers r ≡ saidHead answer ⌝ }
+    ensures { λ r. ⌜ r .refusal ≡ saidHead answer .0 ⌝ }
+    ensures { λ r. ⌜ r .block ≡ saidHead answer .1 ⌝ }
 {
     match answer {
         Head::Number(block) => TbHeaded { refusal: 0, block },
@@ -283,7 +306,7 @@ pub fn headed(answer: Head) -> TbHeaded
 }
 
 pub fn judged(answer: Verdict) -> TbJudged
-    ensures { λ r. ⌜ judgedNumbers r ≡ saidVerdict answer ⌝ }
+    ensures { λ r. ⌜ r .refusal ≡ saidVerdict answer ⌝ }
 {
     match answer {
         Verdict::Good => TbJudged { refusal: 0 },
@@ -292,7 +315,9 @@ pub fn judged(answer: Verdict) -> TbJudged
 }
 
 pub fn spotted(answer: Spot) -> TbSpotted
-    ensures { λ r. ⌜ spottedNumbers r ≡ saidSpot answer ⌝ }
+    ensures { λ r. ⌜ r .refusal ≡ saidSpot answer .0 ⌝ }
+    ensures { λ r. ⌜ r .image ≡ saidSpot answer .1 ⌝ }
+    ensures { λ r. ⌜ r .offset ≡ saidSpot answer .2 ⌝ }
 {
     match answer {
         Spot::InHome(offset) => TbSpotted {

@@ -179,7 +179,12 @@ pub extern "C" fn tb_spare_block_at(
 
 // Replaces a block: writes its descriptor, and answers its place. Checks 1, 11, 5, 12, 13.
 #[no_mangle]
-pub extern "C" fn tb_spare_replace(shape: Shape, r: u32, table: &mut [u32], block: u32) -> TbReplaced
+pub extern "C" fn tb_spare_replace(
+    shape: Shape,
+    r: u32,
+    table: &mut [u32],
+    block: u32,
+) -> TbReplaced
     ensures { λ p. ⌜ SpareReplace shape r (now (table .entry)) block p (now (table .exit)) ⌝ }
 {
     answers::replaced(spares::replace(shape, r, table, block))
@@ -203,7 +208,12 @@ pub extern "C" fn tb_spare_first(shape: Shape, r: u32, list: &[u32], room: &mut 
 
 // Writes the image of a block's data, good or forced, and answers its length. Checks 14, 7.
 #[no_mangle]
-pub extern "C" fn tb_image_write(block: u32, data: &[u8], forced: bool, room: &mut [u8]) -> TbWritten
+pub extern "C" fn tb_image_write(
+    block: u32,
+    data: &[u8],
+    forced: bool,
+    room: &mut [u8],
+) -> TbWritten
     ensures { λ r. ⌜ ImageWrite block (now («data» .entry)) forced (now (room .entry)) r (now (room .exit)) ⌝ }
 {
     answers::written(image::write(block, data, forced, room))
