@@ -11,12 +11,14 @@ use paper::Placed;
 use paper::SECTORS_LEAST;
 use paper::SECTORS_MOST;
 
+#[repr(C)]
 pub struct Shape {
     pub cylinders: u32,
     pub heads: u32,
     pub sectors: u32,
 }
 
+#[repr(C)]
 pub struct Address {
     pub cylinder: u32,
     pub head: u32,

@@ -16,6 +16,7 @@ use paper::Placed;
 use paper::STRAY_CURSOR;
 
 // The next block of a job, and how many entries of the list lie below the sector of the block before it.
+#[repr(C)]
 pub struct Cursor {
     pub block: u32,
     pub skipped: u32,

@@ -1,0 +1,179 @@
+-- What each call of the C face promises: what it leaves, in its result and in what is lent, where its chain of checks refuses and where it accepts.
+use Prim.Native.Nat.{ℕ, suc, _+_}
+use mathlib.Core.Path.{_≡_}
+use mathlib.Core.Bool.{Bool}
+use mathlib.Core.List.{List}
+use lib.IntN.{ℤ, pos}
+use lib.ListN.{length}
+use Rattle.paper.specs.Checks.{pick, answer}
+use Rattle.paper.specs.Limits.{dataSize, imageExtra}
+use Rattle.paper.specs.Answers.{saidNamed}
+use Rattle.paper.specs.declared.Named.{Named}
+use Rattle.lists.specs.Union.{isIn, written}
+use Rattle.shape.specs.declared.Shape.{Shape}
+use Rattle.shape.specs.declared.Address.{Address}
+use Rattle.shape.specs.Shapes.{sizeOf}
+use Rattle.shape.specs.Addresses.{sectorAt, addressAt, addressFault, sectorFault as shapeSectorFault}
+use Rattle.skip.specs.declared.Cursor.{Cursor}
+use Rattle.skip.specs.Skipping.{place}
+use Rattle.skip.specs.Translation.{blockFault, sectorFault, blockOn}
+use Rattle.skip.specs.Cursors.{cursorAt, noCursor, cursorFault, stepFault}
+use Rattle.skipped.specs.Drive.{blockFault as skippedBlockFault, placeFault}
+use Rattle.page.specs.Layout.{kindOf, unitsOf, entriesOf}
+use Rattle.page.specs.Pages.{readFault as pageFault, writeFault as pageWriteFault, pageLength, pageBytes}
+use Rattle.format.specs.Spaces.{formatFault, newGrown, newList, newSpace}
+use Rattle.layout.specs.Layouts.{layoutOf}
+use Rattle.table.specs.Rules.{tableFault, tableLength}
+use Rattle.table.specs.Lookup.{liesOn, lyingOn}
+use Rattle.replacing.specs.Replacing.{spareFor, replacedIn}
+use Rattle.replacing.specs.Counting.{censusOf}
+use Rattle.first.specs.First.{firstTable, firstFault}
+use Rattle.spares.specs.Spares.{shiftOf, blockFault as spareBlockFault, blockOnFault, blockAtFault, replaceFault}
+use Rattle.image.specs.Image.{headerOf, imageIn, headerFault, imageFault, writeFault}
+use Rattle.reading.specs.Tracks.{trackOf, dataStart}
+use Rattle.reading.specs.Faults.{readFault}
+use Rattle.board.specs.declared.answers.TbPlaced.{TbPlaced}
+use Rattle.board.specs.declared.answers.TbNamed.{TbNamed}
+use Rattle.board.specs.declared.answers.TbWritten.{TbWritten}
+use Rattle.board.specs.declared.answers.TbLocated.{TbLocated}
+use Rattle.board.specs.declared.answers.TbJob.{TbJob}
+use Rattle.board.specs.declared.answers.TbPaged.{TbPaged}
+use Rattle.board.specs.declared.answers.TbFormatted.{TbFormatted}
+use Rattle.board.specs.declared.answers.TbShifted.{TbShifted}
+use Rattle.board.specs.declared.answers.TbReplaced.{TbReplaced}
+use Rattle.board.specs.declared.answers.TbCounted.{TbCounted}
+use Rattle.board.specs.declared.answers.TbHeaded.{TbHeaded}
+use Rattle.board.specs.declared.answers.TbJudged.{TbJudged}
+use Rattle.board.specs.declared.answers.TbSpotted.{TbSpotted}
+
+-- the refusal is the chain's number; the rest, numbers and rooms, is what a refused call leaves, or what an accepted one does
+pub record Leaves {Rest : Type 0} (fault : ℕ) (refused accepted : Rest) (refusal : ℕ) (rest : Rest) : Type 0 where
+  pub refuses : refusal ≡ fault
+  pub leaves : rest ≡ answer fault (λ number. refused) accepted
+
+-- the address of a refused call
+abbrev pub nowhere : Address
+nowhere = record { cylinder = 0; head = 0; sector = 0 }
+
+-- whether a block lies there (1 or 0), and the block
+abbrev pub foundAs : Named → ℕ × ℕ
+foundAs named = (saidNamed named .1, saidNamed named .2)
+
+abbrev pub SkipSector : ℕ → List ℕ → ℕ → TbPlaced → Type 0
+SkipSector n list block r = Leaves (blockFault n list block) 0 (place (isIn list) n block) (r .refusal) (r .sector)
+
+abbrev pub SkipBlock : ℕ → List ℕ → ℕ → TbNamed → Type 0
+SkipBlock n list sector r =
+    Leaves {Rest = ℕ × ℕ} (sectorFault n list sector) (0, 0) (foundAs (blockOn list sector)) (r .refusal) (r .found, r .block)
+
+abbrev pub JobStart : ℕ → List ℕ → ℕ → TbJob → Type 0
+JobStart n list block r =
+    Leaves {Rest = ℕ × Cursor} (blockFault n list block) (0, noCursor) (0, cursorAt n list block) (r .refusal) (r .sector, r .next)
+
+abbrev pub JobCheck : Cursor → ℕ → List ℕ → TbJob → Type 0
+JobCheck cursor n list r =
+    Leaves {Rest = ℕ × Cursor} (cursorFault n list cursor) (0, noCursor) (0, cursor) (r .refusal) (r .sector, r .next)
+
+-- a refused step hands back the cursor it was given
+abbrev pub JobStep : Cursor → ℕ → List ℕ → TbJob → Type 0
+JobStep cursor n list r =
+    Leaves {Rest = ℕ × Cursor} (stepFault n list cursor) (0, cursor)
+    (place (isIn list) n (cursor .block), cursorAt n list (suc (cursor .block)))
+    (r .refusal) (r .sector, r .next)
+
+abbrev pub ShapeSector : Shape → ℕ → ℕ → ℕ → TbPlaced → Type 0
+ShapeSector shape cylinder head sector r =
+    Leaves (addressFault shape cylinder head sector) 0 (sectorAt shape cylinder head sector) (r .refusal) (r .sector)
+
+abbrev pub ShapeAddress : Shape → ℕ → TbLocated → Type 0
+ShapeAddress shape sector r = Leaves (shapeSectorFault shape sector) nowhere (addressAt shape sector) (r .refusal) (r .address)
+
+abbrev pub SkippedAddress : Shape → List ℕ → ℕ → TbLocated → Type 0
+SkippedAddress shape list block r =
+    Leaves (skippedBlockFault shape list block) nowhere (addressAt shape (place (isIn list) (sizeOf shape) block)) (r .refusal) (r .address)
+
+abbrev pub SkippedBlock : Shape → List ℕ → ℕ → ℕ → ℕ → TbNamed → Type 0
+SkippedBlock shape list cylinder head sector r =
+    Leaves {Rest = ℕ × ℕ} (placeFault shape list cylinder head sector) (0, 0)
+    (foundAs (blockOn list (sectorAt shape cylinder head sector)))
+    (r .refusal) (r .found, r .block)
+
+abbrev pub PageRead : List ℕ → List ℕ → TbPaged → List ℕ → Type 0
+PageRead page room r after =
+    Leaves {Rest = (ℕ × ℕ × ℕ) × List ℕ} (pageFault page room) ((0, 0, 0), room)
+    ((kindOf page, unitsOf page, length (entriesOf page)), written (entriesOf page) room)
+    (r .refusal) ((r .kind, r .n, r .entries), after)
+
+abbrev pub PageWrite : ℕ → ℕ → List ℕ → List ℕ → TbWritten → List ℕ → Type 0
+PageWrite n kind list room r after =
+    Leaves {Rest = ℕ × List ℕ} (pageWriteFault n kind list room) (0, room)
+    (pageLength (length list), written (pageBytes n kind list) room)
+    (r .refusal) (r .length, after)
+
+abbrev pub Format : ℕ → List ℕ → List ℕ → ℕ → ℕ → List ℕ → List ℕ → List ℕ → TbFormatted → List ℕ → List ℕ → Type 0
+Format n p g space option d grown list r grownAfter listAfter =
+    Leaves {Rest = ((ℕ × ℕ × ℕ) × List ℕ) × List ℕ} (formatFault n p g space option d grown list) (((0, 0, 0), grown), list)
+    (((length (newGrown n p g space option d), length (newList n p g space option d), newSpace space option), written (newGrown n p g space option d) grown), written (newList n p g space option d) list)
+    (r .refusal) (((r .grown, r .list, r .space), grownAfter), listAfter)
+
+abbrev pub SpareSector : Shape → ℕ → List ℕ → ℕ → TbPlaced → Type 0
+SpareSector shape r table block p =
+    Leaves (spareBlockFault shape r table block) 0 (liesOn (layoutOf shape r) table block) (p .refusal) (p .sector)
+
+abbrev pub SpareAddress : Shape → ℕ → List ℕ → ℕ → TbLocated → Type 0
+SpareAddress shape r table block p =
+    Leaves (spareBlockFault shape r table block) nowhere (addressAt shape (liesOn (layoutOf shape r) table block)) (p .refusal) (p .address)
+
+abbrev pub SpareShift : Shape → ℕ → List ℕ → ℕ → TbShifted → Type 0
+SpareShift shape r table block p =
+    Leaves (spareBlockFault shape r table block) (pos 0) (shiftOf (layoutOf shape r) table block) (p .refusal) (p .shift)
+
+abbrev pub SpareBlock : Shape → ℕ → List ℕ → ℕ → TbNamed → Type 0
+SpareBlock shape r table sector p =
+    Leaves {Rest = ℕ × ℕ} (blockOnFault shape r table sector) (0, 0) (foundAs (lyingOn (layoutOf shape r) table sector)) (p .refusal) (p .found, p .block)
+
+abbrev pub SpareBlockAt : Shape → ℕ → List ℕ → ℕ → ℕ → ℕ → TbNamed → Type 0
+SpareBlockAt shape r table cylinder head sector p =
+    Leaves {Rest = ℕ × ℕ} (blockAtFault shape r table cylinder head sector) (0, 0)
+    (foundAs (lyingOn (layoutOf shape r) table (sectorAt shape cylinder head sector)))
+    (p .refusal) (p .found, p .block)
+
+abbrev pub SpareReplace : Shape → ℕ → List ℕ → ℕ → TbReplaced → List ℕ → Type 0
+SpareReplace shape r table block p after =
+    Leaves {Rest = ℕ × List ℕ} (replaceFault shape r table block) (0, table)
+    (spareFor (layoutOf shape r) table block, replacedIn (layoutOf shape r) table block)
+    (p .refusal) (p .place, after)
+
+abbrev pub SpareCensus : Shape → ℕ → List ℕ → TbCounted → Type 0
+SpareCensus shape r table p =
+    Leaves {Rest = ℕ × ℕ × ℕ × ℕ × ℕ} (tableFault shape r table) (0, 0, 0, 0, 0)
+    (censusOf table .free, censusOf table .primary, censusOf table .elsewhere, censusOf table .unusable, censusOf table .null)
+    (p .refusal) (p .free, p .primary, p .elsewhere, p .unusable, p .null)
+
+abbrev pub SpareFirst : Shape → ℕ → List ℕ → List ℕ → TbWritten → List ℕ → Type 0
+SpareFirst shape r list room w after =
+    Leaves {Rest = ℕ × List ℕ} (firstFault shape r list room) (0, room)
+    (tableLength (layoutOf shape r), written (firstTable (layoutOf shape r) list) room)
+    (w .refusal) (w .length, after)
+
+abbrev pub ImageWrite : ℕ → List ℕ → Bool → List ℕ → TbWritten → List ℕ → Type 0
+ImageWrite block bytes forced room r after =
+    Leaves {Rest = ℕ × List ℕ} (writeFault dataSize bytes room) (0, room)
+    (dataSize + imageExtra, imageIn block bytes forced room)
+    (r .refusal) (r .length, after)
+
+abbrev pub ImageHeader : List ℕ → TbHeaded → Type 0
+ImageHeader image r = Leaves (headerFault dataSize image) 0 (headerOf image) (r .refusal) (r .block)
+
+abbrev pub ImageJudge : List ℕ → ℕ → TbJudged → Type 0
+ImageJudge image block r = r .refusal ≡ imageFault dataSize image block
+
+abbrev pub ReadJudge : Shape → ℕ → List ℕ → ℕ → List ℕ → List ℕ → TbJudged → Type 0
+ReadJudge shape r table block home spare v = v .refusal ≡ readFault dataSize shape r table block home spare
+
+-- image 0 is that of the home track, 1 the second one
+abbrev pub ReadData : Shape → ℕ → List ℕ → ℕ → List ℕ → List ℕ → TbSpotted → Type 0
+ReadData shape r table block home spare s =
+    Leaves {Rest = ℕ × ℕ} (readFault dataSize shape r table block home spare) (0, 0)
+    (trackOf table block 0 1, dataStart dataSize (layoutOf shape r) table block)
+    (s .refusal) (s .image, s .offset)

@@ -1,0 +1,339 @@
+// The results of the C face, each made of the numbers that an answer of the house says: `refusal` first, 0 where the call accepts.
+ghost use mathlib.Core.Path.{_≡_};
+ghost use Rattle.paper.specs.Answers.{saidPlaced, saidNamed, saidWritten};
+ghost use Rattle.shape.specs.Promises.{saidLocated};
+ghost use Rattle.skip.specs.Promises.{saidJob};
+ghost use Rattle.page.specs.Promises.{saidPaged};
+ghost use Rattle.format.specs.Promises.{saidFormatted};
+ghost use Rattle.spares.specs.Promises.{saidShifted, saidReplaced, saidCounted};
+ghost use Rattle.image.specs.Promises.{saidHead, saidVerdict};
+ghost use Rattle.reading.specs.Promises.{saidSpot};
+use format::Formatted;
+use image::Head;
+use image::Verdict;
+use page::Paged;
+use paper::Named;
+use paper::Placed;
+use paper::Written;
+use reading::Spot;
+use shape::Address;
+use shape::Located;
+use skip::Cursor;
+use skip::Job;
+use spares::Counted;
+use spares::Replaced;
+use spares::Shifted;
+
+#[repr(C)]
+pub struct TbPlaced {
+    pub refusal: u32,
+    pub sector: u32,
+}
+
+#[repr(C)]
+pub struct TbNamed {
+    pub refusal: u32,
+    pub found: u32,
+    pub block: u32,
+}
+
+#[repr(C)]
+pub struct TbWritten {
+    pub refusal: u32,
+    pub length: u32,
+}
+
+#[repr(C)]
+pub struct TbLocated {
+    pub refusal: u32,
+    pub address: Address,
+}
+
+#[repr(C)]
+pub struct TbJob {
+    pub refusal: u32,
+    pub sector: u32,
+    pub next: Cursor,
+}
+
+#[repr(C)]
+pub struct TbPaged {
+    pub refusal: u32,
+    pub kind: u32,
+    pub n: u32,
+    pub entries: u32,
+}
+
+#[repr(C)]
+pub struct TbFormatted {
+    pub refusal: u32,
+    pub grown: u32,
+    pub list: u32,
+    pub space: u32,
+}
+
+#[repr(C)]
+pub struct TbShifted {
+    pub refusal: u32,
+    pub shift: i32,
+}
+
+#[repr(C)]
+pub struct TbReplaced {
+    pub refusal: u32,
+    pub place: u32,
+}
+
+#[repr(C)]
+pub struct TbCounted {
+    pub refusal: u32,
+    pub free: u32,
+    pub primary: u32,
+    pub elsewhere: u32,
+    pub unusable: u32,
+    pub null: u32,
+}
+
+#[repr(C)]
+pub struct TbHeaded {
+    pub refusal: u32,
+    pub block: u32,
+}
+
+#[repr(C)]
+pub struct TbJudged {
+    pub refusal: u32,
+}
+
+#[repr(C)]
+pub struct TbSpotted {
+    pub refusal: u32,
+    pub image: u32,
+    pub offset: u32,
+}
+
+pub fn placed(answer: Placed) -> TbPlaced
+    ensures { λ r. ⌜ r .refusal ≡ saidPlaced answer .0 ⌝ }
+    ensures { λ r. ⌜ r .sector ≡ saidPlaced answer .1 ⌝ }
+{
+    match answer {
+        Placed::At(sector) => TbPlaced { refusal: 0, sector },
+        Placed::Refused(refusal) => TbPlaced { refusal, sector: 0 },
+    }
+}
+
+pub fn named(answer: Named) -> TbNamed
+    ensures { λ r. ⌜ r .refusal ≡ saidNamed answer .0 ⌝ }
+    ensures { λ r. ⌜ r .found ≡ saidNamed answer .1 ⌝ }
+    ensures { λ r. ⌜ r .block ≡ saidNamed answer .2 ⌝ }
+{
+    match answer {
+        Named::Block(block) => TbNamed {
+            refusal: 0,
+            found: 1,
+            block,
+        },
+        Named::NoBlock => TbNamed {
+            refusal: 0,
+            found: 0,
+            block: 0,
+        },
+        Named::Refused(refusal) => TbNamed {
+            refusal,
+            found: 0,
+            block: 0,
+        },
+    }
+}
+
+pub fn written(answer: Written) -> TbWritten
+    ensures { λ r. ⌜ r .refusal ≡ saidWritten answer .0 ⌝ }
+    ensures { λ r. ⌜ r .length ≡ saidWritten answer .1 ⌝ }
+{
+    match answer {
+        Written::Length(length) => TbWritten { refusal: 0, length },
+        Written::Refused(refusal) => TbWritten { refusal, length: 0 },
+    }
+}
+
+pub fn located(answer: Located) -> TbLocated
+    ensures { λ r. ⌜ r .refusal ≡ saidLocated answer .0 ⌝ }
+    ensures { λ r. ⌜ r .address .cylinder ≡ saidLocated answer .1 ⌝ }
+    ensures { λ r. ⌜ r .address .head ≡ saidLocated answer .2 ⌝ }
+    ensures { λ r. ⌜ r .address .sector ≡ saidLocated answer .3 ⌝ }
+{
+    match answer {
+        Located::At(address) => TbLocated {
+            refusal: 0,
+            address,
+        },
+        Located::Refused(refusal) => TbLocated {
+            refusal,
+            address: Address {
+                cylinder: 0,
+                head: 0,
+                sector: 0,
+            },
+        },
+    }
+}
+
+pub fn job(answer: Job) -> TbJob
+    ensures { λ r. ⌜ r .refusal ≡ saidJob answer .0 ⌝ }
+    ensures { λ r. ⌜ r .sector ≡ saidJob answer .1 ⌝ }
+    ensures { λ r. ⌜ r .next .block ≡ saidJob answer .2 ⌝ }
+    ensures { λ r. ⌜ r .next .skipped ≡ saidJob answer .3 ⌝ }
+{
+    match answer {
+        Job::Ready(next) => TbJob {
+            refusal: 0,
+            sector: 0,
+            next,
+        },
+        Job::At(sector, next) => TbJob {
+            refusal: 0,
+            sector,
+            next,
+        },
+        Job::Refused(refusal, next) => TbJob {
+            refusal,
+            sector: 0,
+            next,
+        },
+    }
+}
+
+pub fn paged(answer: Paged) -> TbPaged
+    ensures { λ r. ⌜ r .refusal ≡ saidPaged answer .0 ⌝ }
+    ensures { λ r. ⌜ r .kind ≡ saidPaged answer .1 ⌝ }
+    ensures { λ r. ⌜ r .n ≡ saidPaged answer .2 ⌝ }
+    ensures { λ r. ⌜ r .entries ≡ saidPaged answer .3 ⌝ }
+{
+    match answer {
+        Paged::Page(kind, n, entries) => TbPaged {
+            refusal: 0,
+            kind,
+            n,
+            entries,
+        },
+        Paged::Refused(refusal) => TbPaged {
+            refusal,
+            kind: 0,
+            n: 0,
+            entries: 0,
+        },
+    }
+}
+
+pub fn formatted(answer: Formatted) -> TbFormatted
+    ensures { λ r. ⌜ r .refusal ≡ saidFormatted answer .0 ⌝ }
+    ensures { λ r. ⌜ r .grown ≡ saidFormatted answer .1 ⌝ }
+    ensures { λ r. ⌜ r .list ≡ saidFormatted answer .2 ⌝ }
+    ensures { λ r. ⌜ r .space ≡ saidFormatted answer .3 ⌝ }
+{
+    match answer {
+        Formatted::Done(grown, list, space) => TbFormatted {
+            refusal: 0,
+            grown,
+            list,
+            space,
+        },
+        Formatted::Refused(refusal) => TbFormatted {
+            refusal,
+            grown: 0,
+            list: 0,
+            space: 0,
+        },
+    }
+}
+
+pub fn shifted(answer: Shifted) -> TbShifted
+    ensures { λ r. ⌜ r .refusal ≡ saidShifted answer .0 ⌝ }
+    ensures { λ r. ⌜ r .shift ≡ saidShifted answer .1 ⌝ }
+{
+    match answer {
+        Shifted::By(shift) => TbShifted { refusal: 0, shift },
+        Shifted::Refused(refusal) => TbShifted { refusal, shift: 0 },
+    }
+}
+
+pub fn replaced(answer: Replaced) -> TbReplaced
+    ensures { λ r. ⌜ r .refusal ≡ saidReplaced answer .0 ⌝ }
+    ensures { λ r. ⌜ r .place ≡ saidReplaced answer .1 ⌝ }
+{
+    match answer {
+        Replaced::Place(place) => TbReplaced { refusal: 0, place },
+        Replaced::Refused(refusal) => TbReplaced { refusal, place: 0 },
+    }
+}
+
+pub fn counted(answer: Counted) -> TbCounted
+    ensures { λ r. ⌜ r .refusal ≡ saidCounted answer .0 ⌝ }
+    ensures { λ r. ⌜ r .free ≡ saidCounted answer .1 ⌝ }
+    ensures { λ r. ⌜ r .primary ≡ saidCounted answer .2 ⌝ }
+    ensures { λ r. ⌜ r .elsewhere ≡ saidCounted answer .3 ⌝ }
+    ensures { λ r. ⌜ r .unusable ≡ saidCounted answer .4 ⌝ }
+    ensures { λ r. ⌜ r .null ≡ saidCounted answer .5 ⌝ }
+{
+    match answer {
+        Counted::Counts(census) => TbCounted {
+            refusal: 0,
+            free: census.free,
+            primary: census.primary,
+            elsewhere: census.elsewhere,
+            unusable: census.unusable,
+            null: census.null,
+        },
+        Counted::Refused(refusal) => TbCounted {
+            refusal,
+            free: 0,
+            primary: 0,
+            elsewhere: 0,
+            unusable: 0,
+            null: 0,
+        },
+    }
+}
+
+pub fn headed(answer: Head) -> TbHeaded
+    ensures { λ r. ⌜ r .refusal ≡ saidHead answer .0 ⌝ }
+    ensures { λ r. ⌜ r .block ≡ saidHead answer .1 ⌝ }
+{
+    match answer {
+        Head::Number(block) => TbHeaded { refusal: 0, block },
+        Head::Refused(refusal) => TbHeaded { refusal, block: 0 },
+    }
+}
+
+pub fn judged(answer: Verdict) -> TbJudged
+    ensures { λ r. ⌜ r .refusal ≡ saidVerdict answer ⌝ }
+{
+    match answer {
+        Verdict::Good => TbJudged { refusal: 0 },
+        Verdict::Refused(refusal) => TbJudged { refusal },
+    }
+}
+
+pub fn spotted(answer: Spot) -> TbSpotted
+    ensures { λ r. ⌜ r .refusal ≡ saidSpot answer .0 ⌝ }
+    ensures { λ r. ⌜ r .image ≡ saidSpot answer .1 ⌝ }
+    ensures { λ r. ⌜ r .offset ≡ saidSpot answer .2 ⌝ }
+{
+    match answer {
+        Spot::InHome(offset) => TbSpotted {
+            refusal: 0,
+            image: 0,
+            offset,
+        },
+        Spot::InSpare(offset) => TbSpotted {
+            refusal: 0,
+            image: 1,
+            offset,
+        },
+        Spot::Refused(refusal) => TbSpotted {
+            refusal,
+            image: 0,
+            offset: 0,
+        },
+    }
+}

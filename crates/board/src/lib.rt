@@ -1,0 +1,266 @@
+// The C face: every public call of the house under a plain name, each answering the numbers that the call's answer says.
+ghost use Rattle.board.specs.Promises.{SkipSector, SkipBlock, JobStart, JobCheck, JobStep, ShapeSector, ShapeAddress, SkippedAddress, SkippedBlock, PageRead, PageWrite, Format, SpareSector, SpareAddress, SpareShift, SpareBlock, SpareBlockAt, SpareReplace, SpareCensus, SpareFirst, ImageWrite, ImageHeader, ImageJudge, ReadJudge, ReadData};
+
+mod answers;
+
+pub use answers::TbCounted;
+pub use answers::TbFormatted;
+pub use answers::TbHeaded;
+pub use answers::TbJob;
+pub use answers::TbJudged;
+pub use answers::TbLocated;
+pub use answers::TbNamed;
+pub use answers::TbPaged;
+pub use answers::TbPlaced;
+pub use answers::TbReplaced;
+pub use answers::TbShifted;
+pub use answers::TbSpotted;
+pub use answers::TbWritten;
+use shape::Shape;
+use skip::Cursor;
+
+// The sector that a block lies on. Checks 1, list, 5.
+#[no_mangle]
+pub extern "C" fn tb_skip_sector(n: u32, list: &[u32], block: u32) -> TbPlaced
+    ensures { λ r. ⌜ SkipSector n (now (list .entry)) block r ⌝ }
+{
+    answers::placed(skip::sector_of(n, list, block))
+}
+
+// The block that lies on a sector, or none. Checks 1, list, 6.
+#[no_mangle]
+pub extern "C" fn tb_skip_block(n: u32, list: &[u32], sector: u32) -> TbNamed
+    ensures { λ r. ⌜ SkipBlock n (now (list .entry)) sector r ⌝ }
+{
+    answers::named(skip::block_on(n, list, sector))
+}
+
+// Opens a job at a block. Checks 1, list, 5.
+#[no_mangle]
+pub extern "C" fn tb_job_start(n: u32, list: &[u32], block: u32) -> TbJob
+    ensures { λ r. ⌜ JobStart n (now (list .entry)) block r ⌝ }
+{
+    answers::job(Cursor::start(n, list, block))
+}
+
+// Whether a cursor is one of this list. Checks 1, list, 9.
+#[no_mangle]
+pub extern "C" fn tb_job_check(cursor: Cursor, n: u32, list: &[u32]) -> TbJob
+    ensures { λ r. ⌜ JobCheck cursor n (now (list .entry)) r ⌝ }
+{
+    answers::job(cursor.check(n, list))
+}
+
+// The sector of the cursor's block, and the cursor after it; refused, the cursor as it was given. Checks 1, list, 9, 5.
+#[no_mangle]
+pub extern "C" fn tb_job_step(cursor: Cursor, n: u32, list: &[u32]) -> TbJob
+    ensures { λ r. ⌜ JobStep cursor n (now (list .entry)) r ⌝ }
+{
+    answers::job(cursor.step(n, list))
+}
+
+// Cylinder, head and sector to sector number. Checks 1, 6.
+#[no_mangle]
+pub extern "C" fn tb_shape_sector(shape: Shape, cylinder: u32, head: u32, sector: u32) -> TbPlaced
+    ensures { λ r. ⌜ ShapeSector shape cylinder head sector r ⌝ }
+{
+    answers::placed(shape::sector_of(shape, cylinder, head, sector))
+}
+
+// Sector number to cylinder, head and sector. Checks 1, 6.
+#[no_mangle]
+pub extern "C" fn tb_shape_address(shape: Shape, sector: u32) -> TbLocated
+    ensures { λ r. ⌜ ShapeAddress shape sector r ⌝ }
+{
+    answers::located(shape::address_of(shape, sector))
+}
+
+// The address that a block of a skipped drive lies at. Checks 1, list, 5.
+#[no_mangle]
+pub extern "C" fn tb_skipped_address(shape: Shape, list: &[u32], block: u32) -> TbLocated
+    ensures { λ r. ⌜ SkippedAddress shape (now (list .entry)) block r ⌝ }
+{
+    answers::located(skipped::address_of(shape, list, block))
+}
+
+// The block that lies at an address of a skipped drive, or none. Checks 1, list, 6.
+#[no_mangle]
+pub extern "C" fn tb_skipped_block(
+    shape: Shape,
+    list: &[u32],
+    cylinder: u32,
+    head: u32,
+    sector: u32,
+) -> TbNamed
+    ensures { λ r. ⌜ SkippedBlock shape (now (list .entry)) cylinder head sector r ⌝ }
+{
+    answers::named(skipped::block_at(shape, list, cylinder, head, sector))
+}
+
+// Reads a page: its kind, N and number of entries, and the entries into the room. Checks 8, 3 and 4, 7.
+#[no_mangle]
+pub extern "C" fn tb_page_read(page: &[u8], room: &mut [u32]) -> TbPaged
+    ensures { λ r. ⌜ PageRead (now (page .entry)) (now (room .entry)) r (now (room .exit)) ⌝ }
+{
+    answers::paged(page::read(page, room))
+}
+
+// Writes a page into the room, and answers its length. Checks 1, 8, list, 7.
+#[no_mangle]
+pub extern "C" fn tb_page_write(n: u32, kind: u32, list: &[u32], room: &mut [u8]) -> TbWritten
+    ensures { λ r. ⌜ PageWrite n kind (now (list .entry)) (now (room .entry)) r (now (room .exit)) ⌝ }
+{
+    answers::written(page::write(n, kind, list, room))
+}
+
+// Format: the new grown list and the list of the new space into the rooms. Checks 1, P, G, 10, 2, D, 2, 2, 7.
+#[no_mangle]
+pub extern "C" fn tb_format(
+    n: u32,
+    p: &[u32],
+    g: &[u32],
+    space: u32,
+    option: u32,
+    d: &[u32],
+    grown: &mut [u32],
+    list: &mut [u32],
+) -> TbFormatted
+    ensures { λ r. ⌜ Format n (now (p .entry)) (now (g .entry)) space option (now (d .entry)) (now (grown .entry)) (now (list .entry)) r (now (grown .exit)) (now (list .exit)) ⌝ }
+{
+    answers::formatted(format::format(n, p, g, space, option, d, grown, list))
+}
+
+// The sector that a block of a revectored drive lies on. Checks 1, 11, 5.
+#[no_mangle]
+pub extern "C" fn tb_spare_sector(shape: Shape, r: u32, table: &[u32], block: u32) -> TbPlaced
+    ensures { λ p. ⌜ SpareSector shape r (now (table .entry)) block p ⌝ }
+{
+    answers::placed(spares::sector_of(shape, r, table, block))
+}
+
+// The address that a block of a revectored drive lies at. Checks 1, 11, 5.
+#[no_mangle]
+pub extern "C" fn tb_spare_address(shape: Shape, r: u32, table: &[u32], block: u32) -> TbLocated
+    ensures { λ p. ⌜ SpareAddress shape r (now (table .entry)) block p ⌝ }
+{
+    answers::located(spares::address_of(shape, r, table, block))
+}
+
+// How many cylinders a block is moved, negative toward cylinder 0. Checks 1, 11, 5.
+#[no_mangle]
+pub extern "C" fn tb_spare_shift(shape: Shape, r: u32, table: &[u32], block: u32) -> TbShifted
+    ensures { λ p. ⌜ SpareShift shape r (now (table .entry)) block p ⌝ }
+{
+    answers::shifted(spares::shift(shape, r, table, block))
+}
+
+// The block that lies on a sector of a revectored drive, or none. Checks 1, 11, 6.
+#[no_mangle]
+pub extern "C" fn tb_spare_block(shape: Shape, r: u32, table: &[u32], sector: u32) -> TbNamed
+    ensures { λ p. ⌜ SpareBlock shape r (now (table .entry)) sector p ⌝ }
+{
+    answers::named(spares::block_on(shape, r, table, sector))
+}
+
+// The block that lies at an address of a revectored drive, or none. Checks 1, 11, 6.
+#[no_mangle]
+pub extern "C" fn tb_spare_block_at(
+    shape: Shape,
+    r: u32,
+    table: &[u32],
+    cylinder: u32,
+    head: u32,
+    sector: u32,
+) -> TbNamed
+    ensures { λ p. ⌜ SpareBlockAt shape r (now (table .entry)) cylinder head sector p ⌝ }
+{
+    answers::named(spares::block_at(shape, r, table, cylinder, head, sector))
+}
+
+// Replaces a block: writes its descriptor, and answers its place. Checks 1, 11, 5, 12, 13.
+#[no_mangle]
+pub extern "C" fn tb_spare_replace(
+    shape: Shape,
+    r: u32,
+    table: &mut [u32],
+    block: u32,
+) -> TbReplaced
+    ensures { λ p. ⌜ SpareReplace shape r (now (table .entry)) block p (now (table .exit)) ⌝ }
+{
+    answers::replaced(spares::replace(shape, r, table, block))
+}
+
+// Counts the descriptors of each code. Checks 1, 11.
+#[no_mangle]
+pub extern "C" fn tb_spare_census(shape: Shape, r: u32, table: &[u32]) -> TbCounted
+    ensures { λ p. ⌜ SpareCensus shape r (now (table .entry)) p ⌝ }
+{
+    answers::counted(spares::census(shape, r, table))
+}
+
+// The first table of a list of bad sectors into the room, and its length. Checks 1, list, 7, 13.
+#[no_mangle]
+pub extern "C" fn tb_spare_first(shape: Shape, r: u32, list: &[u32], room: &mut [u32]) -> TbWritten
+    ensures { λ w. ⌜ SpareFirst shape r (now (list .entry)) (now (room .entry)) w (now (room .exit)) ⌝ }
+{
+    answers::written(spares::first_table(shape, r, list, room))
+}
+
+// Writes the image of a block's data, good or forced, and answers its length. Checks 14, 7.
+#[no_mangle]
+pub extern "C" fn tb_image_write(
+    block: u32,
+    data: &[u8],
+    forced: bool,
+    room: &mut [u8],
+) -> TbWritten
+    ensures { λ r. ⌜ ImageWrite block (now («data» .entry)) forced (now (room .entry)) r (now (room .exit)) ⌝ }
+{
+    answers::written(image::write(block, data, forced, room))
+}
+
+// The number that the header of an image carries. Checks 14, 15.
+#[no_mangle]
+pub extern "C" fn tb_image_header(image: &[u8]) -> TbHeaded
+    ensures { λ r. ⌜ ImageHeader (now (image .entry)) r ⌝ }
+{
+    answers::headed(image::header(image))
+}
+
+// The verdict on the image of a block. Checks 14, 15, 16, then 17 or 18.
+#[no_mangle]
+pub extern "C" fn tb_image_judge(image: &[u8], block: u32) -> TbJudged
+    ensures { λ r. ⌜ ImageJudge (now (image .entry)) block r ⌝ }
+{
+    answers::judged(image::judge(image, block))
+}
+
+// The verdict on a block from the images of its home track and of its spare's track. Checks 1, 11, 5, 14, 15 to 18.
+#[no_mangle]
+pub extern "C" fn tb_read_judge<'a>(
+    shape: Shape,
+    r: u32,
+    table: &[u32],
+    block: u32,
+    home: &'a [u8],
+    spare: &'a [u8],
+) -> TbJudged
+    ensures { λ v. ⌜ ReadJudge shape r (now (table .entry)) block (now (home .entry)) (now (spare .entry)) v ⌝ }
+{
+    answers::judged(reading::judge(shape, r, table, block, home, spare))
+}
+
+// In which image, and how far inside it, the 512 bytes of a good block begin. Checks 1, 11, 5, 14, 15 to 18.
+#[no_mangle]
+pub extern "C" fn tb_read_data<'a>(
+    shape: Shape,
+    r: u32,
+    table: &[u32],
+    block: u32,
+    home: &'a [u8],
+    spare: &'a [u8],
+) -> TbSpotted
+    ensures { λ s. ⌜ ReadData shape r (now (table .entry)) block (now (home .entry)) (now (spare .entry)) s ⌝ }
+{
+    answers::spotted(reading::spot(shape, r, table, block, home, spare))
+}
