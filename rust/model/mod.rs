@@ -7,6 +7,9 @@
 //! Each call answers the paper's numbers or `Err` of the paper's refusal, and writes to a room only
 //! where it accepts.
 
+// Ranges and remainders stand as the paper has them.
+#![allow(clippy::manual_range_contains, clippy::manual_is_multiple_of)]
+
 pub mod format;
 pub mod image;
 pub mod numbers;

@@ -117,38 +117,73 @@ fn check_drive(shape: Shape, r: u32) -> Answer<Drive> {
     })
 }
 
+/// The number of a descriptor, below its code.
+const NUMBER: u32 = 0x0FFF_FFFF;
+
+/// Whether a descriptor names a block.
+fn names_block(word: u32) -> bool {
+    matches!(word >> 28, 2 | 3)
+}
+
 /// The most home blocks of a drive: 1,024 tracks of 63.
 const BLOCKS_MOST: usize = 1_024 * 63;
 
-fn check_table(drive: &Drive, table: &[u32]) -> Answer<()> {
-    let spares = drive.spares as usize;
-    refuse(table.len() != spares.next_multiple_of(TABLE_BLOCK), 11)?;
-    let mut named = [0u64; BLOCKS_MOST.div_ceil(64)];
-    let (used, tail) = table.split_at(spares);
-    for (place, &word) in used.iter().enumerate() {
-        match word >> 28 {
-            2 | 3 => {
-                let block = word & 0x0FFF_FFFF;
-                refuse(block >= drive.blocks, 11)?;
-                let primary = block / drive.homes_of_track * drive.spares_of_track;
-                refuse((word >> 28 == 2) != (primary as usize == place), 11)?;
-                let (cell, bit) = (block as usize / 64, 1 << (block % 64));
-                refuse(named[cell] & bit != 0, 11)?;
-                named[cell] |= bit;
-            }
-            _ => refuse(word != 0 && word != 4 << 28, 11)?,
-        }
-    }
-    refuse(tail.iter().any(|&word| word != 8 << 28), 11)
+/// Whether two descriptors name one block: a mark is kept for each block.
+fn twice_by_marks(table: &[u32]) -> bool {
+    let mut marks = [0u64; BLOCKS_MOST.div_ceil(64)];
+    table
+        .iter()
+        .filter(|&&word| names_block(word))
+        .any(|&word| {
+            let block = word & NUMBER;
+            let (mark, bit) = (&mut marks[block as usize / 64], 1 << (block % 64));
+            let marked = *mark & bit != 0;
+            *mark |= bit;
+            marked
+        })
 }
 
-/// The sector that a block of a revectored drive lies on.
-pub fn spare_sector(shape: Shape, r: u32, table: &[u32], block: u32) -> Answer<u32> {
+/// The same without memory: each descriptor is held against all before it.
+fn twice_by_pairs(table: &[u32]) -> bool {
+    (0..table.len()).any(|place| {
+        let word = table[place];
+        names_block(word)
+            && table[..place]
+                .iter()
+                .any(|&before| names_block(before) && before & NUMBER == word & NUMBER)
+    })
+}
+
+fn check_table(drive: &Drive, table: &[u32], twice: fn(&[u32]) -> bool) -> Answer<()> {
+    let spares = drive.spares as usize;
+    refuse(table.len() != spares.next_multiple_of(TABLE_BLOCK), 11)?;
+    let (used, tail) = table.split_at(spares);
+    for (place, &word) in used.iter().enumerate() {
+        if names_block(word) {
+            let block = word & NUMBER;
+            refuse(block >= drive.blocks, 11)?;
+            let primary = block / drive.homes_of_track * drive.spares_of_track;
+            refuse((word >> 28 == 2) != (primary as usize == place), 11)?;
+        } else {
+            refuse(word != 0 && word != 4 << 28, 11)?;
+        }
+    }
+    refuse(tail.iter().any(|&word| word != 8 << 28), 11)?;
+    refuse(twice(used), 11)
+}
+
+fn look_up(
+    shape: Shape,
+    r: u32,
+    table: &[u32],
+    block: u32,
+    twice: fn(&[u32]) -> bool,
+) -> Answer<u32> {
     let drive = check_drive(shape, r)?;
-    check_table(&drive, table)?;
+    check_table(&drive, table, twice)?;
     refuse(block >= drive.blocks, 5)?;
-    let names_block = |&word: &u32| word == 2 << 28 | block || word == 3 << 28 | block;
-    let (track, sector) = match table.iter().position(names_block) {
+    let found = |&word: &u32| names_block(word) && word & NUMBER == block;
+    let (track, sector) = match table.iter().position(found) {
         Some(place) => {
             let spare = place as u32;
             (spare / r, drive.homes_of_track + spare % r)
@@ -156,6 +191,16 @@ pub fn spare_sector(shape: Shape, r: u32, table: &[u32], block: u32) -> Answer<u
         None => (block / drive.homes_of_track, block % drive.homes_of_track),
     };
     Ok(track * drive.sectors + sector)
+}
+
+/// The sector that a block of a revectored drive lies on.
+pub fn spare_sector(shape: Shape, r: u32, table: &[u32], block: u32) -> Answer<u32> {
+    look_up(shape, r, table, block, twice_by_marks)
+}
+
+/// The same, with a table check that needs no memory.
+pub fn spare_sector_by_pairs(shape: Shape, r: u32, table: &[u32], block: u32) -> Answer<u32> {
+    look_up(shape, r, table, block, twice_by_pairs)
 }
 
 fn code(data: &[u8]) -> u16 {
@@ -199,7 +244,7 @@ pub fn read_page(page: &[u8], room: &mut [u32]) -> Answer<(u32, u32, u32)> {
     let lengths = PAGE_FRAME..=PAGE_FRAME + 4 * LIST_MOST;
     refuse(!lengths.contains(&page.len()), 8)?;
     refuse(word_at(page, 0) as usize != page.len(), 8)?;
-    refuse(!(page.len() - PAGE_FRAME).is_multiple_of(4), 8)?;
+    refuse(page.len() % 4 != PAGE_FRAME % 4, 8)?;
     refuse(page[4] != 1 || page[5] > 1, 8)?;
     let n = word_at(page, 6);
     check_size(n).map_err(|_| 8u32)?;
@@ -356,7 +401,7 @@ pub fn format(
     check_list(n, p)?;
     check_list(n, g)?;
     refuse(
-        option > 7 || space > 3 || (option % 2 == 0 && !d.is_empty()),
+        option > 7 || space > 3 || (option & 1 == 0 && !d.is_empty()),
         10,
     )?;
     let used = list_of(space, p, g)?;

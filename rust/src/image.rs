@@ -2,7 +2,7 @@
 
 use crate::ffi;
 use crate::refusal::{answered, Refusal};
-use crate::{DATA_OFFSET, DATA_SIZE};
+use crate::{DATA_SIZE, HEADER_SIZE};
 
 /// Writes the image of `block` to the first bytes of `room` and answers its length; a forced image
 /// says that the data was bad when it was written.
@@ -50,5 +50,5 @@ pub fn judge(image: &[u8], block: u32) -> Result<(), Refusal> {
 /// Checks: those of [`judge`].
 pub fn data(image: &[u8], block: u32) -> Result<&[u8], Refusal> {
     judge(image, block)?;
-    Ok(&image[DATA_OFFSET..DATA_OFFSET + DATA_SIZE])
+    Ok(&image[HEADER_SIZE..HEADER_SIZE + DATA_SIZE])
 }

@@ -55,13 +55,38 @@ pub const SPARES_MOST: u32 = 1_024;
 pub const TABLE_BLOCK: usize = 128;
 /// The bytes of a sector's data.
 pub const DATA_SIZE: usize = 512;
+/// The bytes of a sector image before its data: four copies of the block number.
+pub const HEADER_SIZE: usize = 16;
 /// The bytes of a sector image beside its data.
 pub const IMAGE_EXTRA: usize = 18;
 /// The bytes of a sector image.
 pub const IMAGE_SIZE: usize = DATA_SIZE + IMAGE_EXTRA;
-/// Where the data begin in a sector image, after the four header copies.
-pub const DATA_OFFSET: usize = 16;
+/// The code of no data.
+pub const START_CODE: u16 = 0x5A3C;
 /// The bytes of a list page beside its entries.
 pub const PAGE_FRAME: usize = 14;
+/// The bytes of an entry of a page.
+pub const ENTRY_SIZE: usize = 4;
 /// The bytes of the longest list page.
-pub const PAGE_MOST: usize = PAGE_FRAME + 4 * LIST_MOST;
+pub const PAGE_MOST: usize = page_length(LIST_MOST);
+/// The last kind of a page.
+pub const KIND_MOST: u32 = 1;
+/// The last option of Format.
+pub const OPTION_MOST: u32 = 7;
+/// The last space.
+pub const SPACE_MOST: u32 = 3;
+
+/// The bytes of a page with so many entries.
+pub const fn page_length(entries: usize) -> usize {
+    PAGE_FRAME + ENTRY_SIZE * entries
+}
+
+/// The bytes of the image of a track with so many sectors.
+pub const fn track_length(sectors: usize) -> usize {
+    IMAGE_SIZE * sectors
+}
+
+/// The descriptors of a table for so many spares.
+pub const fn table_length(spares: usize) -> usize {
+    TABLE_BLOCK * spares.div_ceil(TABLE_BLOCK)
+}

@@ -4,6 +4,9 @@
 //! numbers must have come up, and both sides must have given them. `cargo test --release -- --nocapture`
 //! shows how many inputs each call was given and how they were answered.
 
+// Cases stand as rows of a table.
+#![allow(clippy::type_complexity)]
+
 #[path = "../../model/mod.rs"]
 mod model;
 #[path = "../../plain/mod.rs"]

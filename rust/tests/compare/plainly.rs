@@ -56,6 +56,8 @@ fn plain_spare_sector() {
         let drive = paper(tabled.shape);
         let model = model::spares::sector_of(drive, tabled.r, &tabled.table, block);
         tally.same_numbers(seed, plain, model);
+        let plain = plain::spare_sector_by_pairs(shape, tabled.r, &tabled.table, block);
+        tally.same_numbers(seed, plain, model);
     }
     tally.saw(&[0, 1, 5, 11]);
 }
