@@ -9,15 +9,10 @@ use std::process::exit;
 
 fn main() {
     let crate_folder = env::var("CARGO_MANIFEST_DIR").expect("cargo names the crate's folder");
-    let root = Path::new(&crate_folder)
-        .parent()
-        .expect("the crate stands in the repository");
+    let root = Path::new(&crate_folder).parent().expect("the crate stands in the repository");
     let x86_64 = env::var("CARGO_CFG_TARGET_ARCH").is_ok_and(|machine| machine == "x86_64");
-    let (folder, command) = if x86_64 {
-        ("staticlib", "rt staticlib board")
-    } else {
-        ("emulated", "./build")
-    };
+    let (folder, command) =
+        if x86_64 { ("staticlib", "rt staticlib board") } else { ("emulated", "./build") };
     let folder = root.join("target").join(folder);
     let archive = folder.join("libboard.a");
     println!("cargo:rerun-if-changed=build.rs");

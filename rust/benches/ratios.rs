@@ -75,10 +75,7 @@ fn timed<T>(job: &mut impl FnMut() -> T) -> Duration {
 fn best_and_spread(rounds: &[Duration]) -> (Duration, f64) {
     let best = rounds.iter().min().expect("a round");
     let worst = rounds.iter().max().expect("a round");
-    (
-        *best,
-        (worst.as_secs_f64() / best.as_secs_f64() - 1.0) * 100.0,
-    )
+    (*best, (worst.as_secs_f64() / best.as_secs_f64() - 1.0) * 100.0)
 }
 
 fn nanoseconds(time: Duration, units: u64) -> f64 {
@@ -87,9 +84,7 @@ fn nanoseconds(time: Duration, units: u64) -> f64 {
 
 /// A full list of single entries and runs, spread over the space.
 fn full_list() -> Vec<u32> {
-    (0..LIST_MOST as u32)
-        .map(|entry| entry / 4 * 1_000 + entry % 4)
-        .collect()
+    (0..LIST_MOST as u32).map(|entry| entry / 4 * 1_000 + entry % 4).collect()
 }
 
 /// A job of 4,096 steps along a full list; each step checks the whole list and the cursor.
@@ -101,9 +96,8 @@ fn steps() {
     let library = || {
         let (mut cursor, mut sum) = (black_box(start), 0u64);
         for _ in 0..steps {
-            let (sector, next) = cursor
-                .step(UNITS_MOST, black_box(&list))
-                .expect("a block is left");
+            let (sector, next) =
+                cursor.step(UNITS_MOST, black_box(&list)).expect("a block is left");
             sum += u64::from(sector);
             cursor = next;
         }
@@ -111,10 +105,7 @@ fn steps() {
     };
     let plain = || {
         let start = black_box(start);
-        let mut cursor = plain::Cursor {
-            block: start.block,
-            skipped: start.skipped,
-        };
+        let mut cursor = plain::Cursor { block: start.block, skipped: start.skipped };
         let mut sum = 0u64;
         for _ in 0..steps {
             let answer = plain::step(cursor, UNITS_MOST, black_box(&list));
@@ -124,22 +115,12 @@ fn steps() {
         }
         sum
     };
-    compare(
-        "step by cursor, list of 4,096",
-        "step",
-        steps,
-        library,
-        plain,
-    );
+    compare("step by cursor, list of 4,096", "step", steps, library, plain);
 }
 
 /// A drive of 1,024 spares, all but eight of them used, by blocks of their own track and of others.
 fn nearly_full() -> (Shape, u32, Vec<u32>) {
-    let shape = Shape {
-        cylinders: 64,
-        heads: 4,
-        sectors: 32,
-    };
+    let shape = Shape { cylinders: 64, heads: 4, sectors: 32 };
     let r = 4;
     let blocks = 64 * 4 * 28;
     let mut table = vec![0; 1_024];
@@ -160,11 +141,8 @@ fn look_ups() {
         let look_up = |block: &u32| spares::sector_of(shape, r, black_box(&table), *block);
         sum(blocks.iter().map(|block| look_up(block).ok()))
     };
-    let plain_shape = plain::Shape {
-        cylinders: shape.cylinders,
-        heads: shape.heads,
-        sectors: shape.sectors,
-    };
+    let plain_shape =
+        plain::Shape { cylinders: shape.cylinders, heads: shape.heads, sectors: shape.sectors };
     let by_pairs = || {
         let look_up = |block: &u32| {
             plain::spare_sector_by_pairs(plain_shape, r, black_box(&table), *block).ok()
@@ -177,27 +155,13 @@ fn look_ups() {
         sum(blocks.iter().map(look_up))
     };
     let job = "look-up, 1,016 of 1,024 spares used";
-    compare(
-        &format!("{job}, by pairs"),
-        "look-up",
-        look_ups,
-        library,
-        by_pairs,
-    );
-    compare(
-        &format!("{job}, by marks"),
-        "look-up",
-        look_ups,
-        library,
-        by_marks,
-    );
+    compare(&format!("{job}, by pairs"), "look-up", look_ups, library, by_pairs);
+    compare(&format!("{job}, by marks"), "look-up", look_ups, library, by_marks);
 }
 
 /// The sum of what was answered; every call must have been accepted.
 fn sum(sectors: impl Iterator<Item = Option<u32>>) -> u64 {
-    sectors
-        .map(|sector| u64::from(sector.expect("an answer")))
-        .sum()
+    sectors.map(|sector| u64::from(sector.expect("an answer"))).sum()
 }
 
 /// Verdicts on 64 MiB of data, in 131,072 images one after the other.
@@ -213,23 +177,13 @@ fn verdicts() {
     }
     let library = || {
         let images = black_box(&images).chunks_exact(530).enumerate();
-        images
-            .filter(|(block, image)| image::judge(image, *block as u32).is_ok())
-            .count()
+        images.filter(|(block, image)| image::judge(image, *block as u32).is_ok()).count()
     };
     let plain = || {
         let images = black_box(&images).chunks_exact(530).enumerate();
-        images
-            .filter(|(block, image)| plain::judge(image, *block as u32).is_ok())
-            .count()
+        images.filter(|(block, image)| plain::judge(image, *block as u32).is_ok()).count()
     };
-    compare(
-        "verdicts on 64 MiB of sectors",
-        "sector",
-        count as u64,
-        library,
-        plain,
-    );
+    compare("verdicts on 64 MiB of sectors", "sector", count as u64, library, plain);
 }
 
 const PAGES: u64 = 1_000;
@@ -279,21 +233,13 @@ fn pages_written() {
         }
         (bytes, plain_room[length - 5])
     };
-    compare(
-        "page of 4,096 entries written",
-        "page",
-        PAGES,
-        library,
-        plain,
-    );
+    compare("page of 4,096 entries written", "page", PAGES, library, plain);
 }
 
 /// Option 1 in space 3: 1,024 entries in P, 1,024 in G, 2,048 blocks found; the new list is full.
 fn night() {
     let p: Vec<u32> = (0..1_024).map(|entry| entry * 8_000).collect();
-    let g: Vec<u32> = (0..1_024)
-        .map(|entry| entry * 8_000 + 1 + entry % 3)
-        .collect();
+    let g: Vec<u32> = (0..1_024).map(|entry| entry * 8_000 + 1 + entry % 3).collect();
     let d: Vec<u32> = (0..2_048).map(|entry| entry * 4_000 + 2_000).collect();
     let nights = 200;
     let rooms = || (vec![0; LIST_MOST], vec![0; LIST_MOST]);
@@ -334,11 +280,5 @@ fn night() {
         }
         (entries, plain_grown[3_071], plain_list[LIST_MOST - 1])
     };
-    compare(
-        "Format of a full night, 4,096 entries",
-        "night",
-        nights,
-        library,
-        plain,
-    );
+    compare("Format of a full night, 4,096 entries", "night", nights, library, plain);
 }

@@ -47,14 +47,7 @@ pub struct Night<'a> {
 
 /// The new grown list, the list of the new space and the new space, before any room is looked at.
 pub fn lists(night: Night) -> Answer<(Vec<u32>, Vec<u32>, u32)> {
-    let Night {
-        n,
-        p,
-        g,
-        space,
-        option,
-        d,
-    } = night;
+    let Night { n, p, g, space, option, d } = night;
     check_size(n)?;
     check_list(n, p)?;
     check_list(n, g)?;

@@ -25,10 +25,7 @@ pub fn sectors(shape: Shape) -> u32 {
 /// Each number of an address against its own bound.
 pub fn check_address(shape: Shape, address: (u32, u32, u32)) -> Answer<()> {
     let (cylinder, head, sector) = address;
-    refuse(
-        cylinder >= shape.c || head >= shape.h || sector >= shape.s,
-        6,
-    )
+    refuse(cylinder >= shape.c || head >= shape.h || sector >= shape.s, 6)
 }
 
 /// The sector number of an address.

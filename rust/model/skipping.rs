@@ -20,9 +20,7 @@ pub fn good_sectors(n: u32, list: &[u32]) -> impl Iterator<Item = u32> {
 
 /// The sector outside the list with exactly `block` smaller sectors outside it.
 fn place(n: u32, list: &[u32], block: u32) -> u32 {
-    good_sectors(n, list)
-        .nth(block as usize)
-        .expect("the block exists")
+    good_sectors(n, list).nth(block as usize).expect("the block exists")
 }
 
 pub fn blocks(n: u32, list: &[u32]) -> u32 {

@@ -45,12 +45,7 @@ pub fn drive(shape: Shape, r: u32) -> Answer<Drive> {
     refuse(r < 1 || r >= shape.s, 1)?;
     let tracks = shape.c * shape.h;
     refuse(tracks * r > SPARES_MOST, 1)?;
-    Ok(Drive {
-        shape,
-        r,
-        l: shape.s - r,
-        tracks,
-    })
+    Ok(Drive { shape, r, l: shape.s - r, tracks })
 }
 
 impl Drive {
@@ -90,9 +85,7 @@ impl Drive {
 
     /// The place that names a block.
     pub fn place_of(self, table: &[u32], block: u32) -> Option<u32> {
-        let place = table
-            .iter()
-            .position(|word| allocated(*word) == Some(block));
+        let place = table.iter().position(|word| allocated(*word) == Some(block));
         place.map(|place| place as u32)
     }
 
@@ -172,9 +165,7 @@ fn named(drive: Drive, table: &[u32], sector: u32) -> Option<u32> {
             lies[block as usize] = drive.spare(place as u32);
         }
     }
-    lies.iter()
-        .position(|on| *on == sector)
-        .map(|block| block as u32)
+    lies.iter().position(|on| *on == sector).map(|block| block as u32)
 }
 
 pub fn block_on(shape: Shape, r: u32, table: &[u32], sector: u32) -> Answer<Option<u32>> {

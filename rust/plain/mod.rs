@@ -78,10 +78,7 @@ pub fn step(cursor: Cursor, n: u32, list: &[u32]) -> Result<(u32, Cursor), (u32,
         }
         skipped += 1;
     }
-    let next = Cursor {
-        block: cursor.block + 1,
-        skipped,
-    };
+    let next = Cursor { block: cursor.block + 1, skipped };
     Ok((cursor.block + skipped, next))
 }
 
@@ -131,16 +128,13 @@ const BLOCKS_MOST: usize = 1_024 * 63;
 /// Whether two descriptors name one block: a mark is kept for each block.
 fn twice_by_marks(table: &[u32]) -> bool {
     let mut marks = [0u64; BLOCKS_MOST.div_ceil(64)];
-    table
-        .iter()
-        .filter(|&&word| names_block(word))
-        .any(|&word| {
-            let block = word & NUMBER;
-            let (mark, bit) = (&mut marks[block as usize / 64], 1 << (block % 64));
-            let marked = *mark & bit != 0;
-            *mark |= bit;
-            marked
-        })
+    table.iter().filter(|&&word| names_block(word)).any(|&word| {
+        let block = word & NUMBER;
+        let (mark, bit) = (&mut marks[block as usize / 64], 1 << (block % 64));
+        let marked = *mark & bit != 0;
+        *mark |= bit;
+        marked
+    })
 }
 
 /// The same without memory: each descriptor is held against all before it.
@@ -266,8 +260,7 @@ pub fn read_page(page: &[u8], room: &mut [u32]) -> Answer<(u32, u32, u32)> {
 
 /// The big-endian words of a page's body.
 fn entries(body: &[u8]) -> impl Iterator<Item = u32> + '_ {
-    body.chunks_exact(4)
-        .map(|bytes| u32::from_be_bytes([bytes[0], bytes[1], bytes[2], bytes[3]]))
+    body.chunks_exact(4).map(|bytes| u32::from_be_bytes([bytes[0], bytes[1], bytes[2], bytes[3]]))
 }
 
 /// Writes a page and answers its length.
@@ -322,10 +315,7 @@ struct Held {
 impl Held {
     /// The entries, or refusal 2 where there are too many.
     fn of(entries: impl Iterator<Item = u32>) -> Answer<Held> {
-        let mut held = Held {
-            entries: [0; LIST_MOST],
-            length: 0,
-        };
+        let mut held = Held { entries: [0; LIST_MOST], length: 0 };
         for entry in entries {
             refuse(held.length == LIST_MOST, 2)?;
             held.entries[held.length] = entry;
@@ -352,10 +342,7 @@ fn list_of(space: u32, p: &[u32], g: &[u32]) -> Answer<Held> {
 
 /// The sectors of the blocks `d`, in the space that skips `used`.
 fn mapped(used: &[u32], d: &[u32]) -> Held {
-    let mut held = Held {
-        entries: [0; LIST_MOST],
-        length: d.len(),
-    };
+    let mut held = Held { entries: [0; LIST_MOST], length: d.len() };
     let mut skipped = 0;
     for (sector, &block) in held.entries.iter_mut().zip(d) {
         while skipped < used.len() && used[skipped] <= block + skipped as u32 {
@@ -400,10 +387,7 @@ pub fn format(
     check_size(n)?;
     check_list(n, p)?;
     check_list(n, g)?;
-    refuse(
-        option > 7 || space > 3 || (option & 1 == 0 && !d.is_empty()),
-        10,
-    )?;
+    refuse(option > 7 || space > 3 || (option & 1 == 0 && !d.is_empty()), 10)?;
     let used = list_of(space, p, g)?;
     let (source, new_space) = &ROWS[option as usize];
     let new_space = new_space.unwrap_or(space);
@@ -419,19 +403,13 @@ pub fn format(
         Grown::Supplied => d,
         Grown::Joined => {
             let found = mapped(used.list(), d);
-            joined = Held::of(Union {
-                left: g,
-                right: found.list(),
-            })?;
+            joined = Held::of(Union { left: g, right: found.list() })?;
             joined.list()
         }
     };
     let list = list_of(new_space, p, grown)?;
     let list = list.list();
-    refuse(
-        grown_room.len() < grown.len() || list_room.len() < list.len(),
-        7,
-    )?;
+    refuse(grown_room.len() < grown.len() || list_room.len() < list.len(), 7)?;
     grown_room[..grown.len()].copy_from_slice(grown);
     list_room[..list.len()].copy_from_slice(list);
     Ok((grown.len() as u32, list.len() as u32, new_space))

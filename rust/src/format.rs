@@ -55,10 +55,6 @@ pub fn format(
     };
     answered(
         answer.refusal,
-        Formatted {
-            grown: answer.grown,
-            list: answer.list,
-            space: answer.space,
-        },
+        Formatted { grown: answer.grown, list: answer.list, space: answer.space },
     )
 }

@@ -12,14 +12,7 @@ use crate::{DATA_SIZE, HEADER_SIZE};
 pub fn write(block: u32, data: &[u8], forced: bool, room: &mut [u8]) -> Result<u32, Refusal> {
     // SAFETY: pointers and lengths are those of live slices, and the room overlaps nothing.
     let answer = unsafe {
-        ffi::tb_image_write(
-            block,
-            data.as_ptr(),
-            data.len(),
-            forced,
-            room.as_mut_ptr(),
-            room.len(),
-        )
+        ffi::tb_image_write(block, data.as_ptr(), data.len(), forced, room.as_mut_ptr(), room.len())
     };
     answered(answer.refusal, answer.length)
 }

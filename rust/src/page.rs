@@ -23,14 +23,7 @@ pub fn read(page: &[u8], room: &mut [u32]) -> Result<Page, Refusal> {
     // SAFETY: pointers and lengths are those of live slices, and the room overlaps nothing.
     let answer =
         unsafe { ffi::tb_page_read(page.as_ptr(), page.len(), room.as_mut_ptr(), room.len()) };
-    answered(
-        answer.refusal,
-        Page {
-            kind: answer.kind,
-            n: answer.n,
-            entries: answer.entries,
-        },
-    )
+    answered(answer.refusal, Page { kind: answer.kind, n: answer.n, entries: answer.entries })
 }
 
 /// Writes a list as a page to the first bytes of `room` and answers the page's length.
@@ -41,14 +34,7 @@ pub fn read(page: &[u8], room: &mut [u32]) -> Result<Page, Refusal> {
 pub fn write(n: u32, kind: u32, list: &[u32], room: &mut [u8]) -> Result<u32, Refusal> {
     // SAFETY: pointers and lengths are those of live slices, and the room overlaps nothing.
     let answer = unsafe {
-        ffi::tb_page_write(
-            n,
-            kind,
-            list.as_ptr(),
-            list.len(),
-            room.as_mut_ptr(),
-            room.len(),
-        )
+        ffi::tb_page_write(n, kind, list.as_ptr(), list.len(), room.as_mut_ptr(), room.len())
     };
     answered(answer.refusal, answer.length)
 }

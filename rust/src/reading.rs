@@ -83,13 +83,7 @@ pub fn spot(
         0 => Track::Home,
         _ => Track::Spare,
     };
-    answered(
-        answer.refusal,
-        Spot {
-            track,
-            offset: answer.offset,
-        },
-    )
+    answered(answer.refusal, Spot { track, offset: answer.offset })
 }
 
 /// The 512 bytes of data of a good image of `block`, where they lie in `home` or in `spare`. They

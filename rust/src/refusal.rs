@@ -75,9 +75,7 @@ impl Refusal {
 
     /// The refusal of a number, none for 0 and above 18.
     pub fn of_number(number: u32) -> Option<Refusal> {
-        Refusal::ALL
-            .into_iter()
-            .find(|each| each.number() == number)
+        Refusal::ALL.into_iter().find(|each| each.number() == number)
     }
 
     /// The refusal's name in words.

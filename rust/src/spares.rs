@@ -61,15 +61,7 @@ pub fn block_at(
 ) -> Result<Option<u32>, Refusal> {
     // SAFETY: the pointer and length are those of a live slice.
     let answer = unsafe {
-        ffi::tb_spare_block_at(
-            shape,
-            r,
-            table.as_ptr(),
-            table.len(),
-            cylinder,
-            head,
-            sector,
-        )
+        ffi::tb_spare_block_at(shape, r, table.as_ptr(), table.len(), cylinder, head, sector)
     };
     answered(answer.refusal, named(answer.found, answer.block))
 }
@@ -129,14 +121,7 @@ pub fn census(shape: Shape, r: u32, table: &[u32]) -> Result<Census, Refusal> {
 pub fn first_table(shape: Shape, r: u32, list: &[u32], room: &mut [u32]) -> Result<u32, Refusal> {
     // SAFETY: pointers and lengths are those of live slices, and the room overlaps nothing.
     let answer = unsafe {
-        ffi::tb_spare_first(
-            shape,
-            r,
-            list.as_ptr(),
-            list.len(),
-            room.as_mut_ptr(),
-            room.len(),
-        )
+        ffi::tb_spare_first(shape, r, list.as_ptr(), list.len(), room.as_mut_ptr(), room.len())
     };
     answered(answer.refusal, answer.length)
 }

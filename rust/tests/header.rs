@@ -27,13 +27,9 @@ fn header() -> String {
 /// What a line of the header defines: `TB_NAME` and the text behind it.
 fn defined() -> BTreeMap<String, String> {
     let header = header();
-    let lines = header
-        .lines()
-        .filter_map(|line| line.strip_prefix("#define TB_"));
+    let lines = header.lines().filter_map(|line| line.strip_prefix("#define TB_"));
     let pairs = lines.filter_map(|line| line.split_once(' '));
-    pairs
-        .map(|(name, text)| (name.to_string(), text.trim().to_string()))
-        .collect()
+    pairs.map(|(name, text)| (name.to_string(), text.trim().to_string())).collect()
 }
 
 /// A number as C writes it.
@@ -48,18 +44,11 @@ fn number(text: &str) -> Option<u64> {
 #[test]
 fn refusals_are_those_of_the_header() {
     let header = header();
-    let (_, list) = header
-        .split_once("enum tb_refusal {")
-        .expect("the refusals");
+    let (_, list) = header.split_once("enum tb_refusal {").expect("the refusals");
     let (list, _) = list.split_once('}').expect("their end");
     let rows = list.split(',').filter_map(|row| row.split_once('='));
     let theirs: Vec<(String, u32)> = rows
-        .map(|(name, number)| {
-            (
-                name.trim().to_string(),
-                number.trim().parse().expect("a number"),
-            )
-        })
+        .map(|(name, number)| (name.trim().to_string(), number.trim().parse().expect("a number")))
         .collect();
 
     let mut ours = vec![("TB_ACCEPTED".to_string(), 0)];
@@ -73,10 +62,7 @@ fn refusals_are_those_of_the_header() {
 #[test]
 fn numbers_turn_into_refusals_and_back() {
     for number in 1..=18 {
-        assert_eq!(
-            Refusal::of_number(number).map(Refusal::number),
-            Some(number)
-        );
+        assert_eq!(Refusal::of_number(number).map(Refusal::number), Some(number));
     }
     assert_eq!(Refusal::of_number(0), None);
     assert_eq!(Refusal::of_number(19), None);
@@ -126,10 +112,7 @@ fn limits_are_those_of_the_header() {
     // What the header makes of these, the crate makes in the same way.
     let expected = [
         ("IMAGE_SIZE", "(TB_DATA_SIZE + TB_IMAGE_EXTRA)"),
-        (
-            "PAGE_LENGTH(entries)",
-            "(TB_PAGE_FRAME + TB_ENTRY_SIZE * (entries))",
-        ),
+        ("PAGE_LENGTH(entries)", "(TB_PAGE_FRAME + TB_ENTRY_SIZE * (entries))"),
         ("PAGE_MOST", "TB_PAGE_LENGTH(TB_LIST_MOST)"),
         (
             "TABLE_LENGTH(spares)",
@@ -141,10 +124,7 @@ fn limits_are_those_of_the_header() {
     assert_eq!(made, BTreeMap::from(expected));
     assert_eq!((IMAGE_SIZE, PAGE_MOST), (530, 16_398));
     assert_eq!((page_length(2), track_length(5)), (22, 2_650));
-    assert_eq!(
-        [0, 1, 128, 129, 1_024].map(table_length),
-        [0, 128, 128, 256, 1_024]
-    );
+    assert_eq!([0, 1, 128, 129, 1_024].map(table_length), [0, 128, 128, 256, 1_024]);
 }
 
 /// A C type with its name, as Rust writes the pair.
@@ -170,9 +150,7 @@ fn type_in_rust(kind: &str) -> String {
         "size_t" => "usize".to_string(),
         "bool" => "bool".to_string(),
         _ => {
-            let name = kind
-                .strip_prefix("tb_")
-                .unwrap_or_else(|| panic!("a type {kind}"));
+            let name = kind.strip_prefix("tb_").unwrap_or_else(|| panic!("a type {kind}"));
             name[..1].to_uppercase() + &name[1..]
         }
     }
@@ -185,15 +163,9 @@ fn one_line(text: &str) -> String {
 
 /// The Rust files that declare the C face, without comments and line breaks.
 fn declarations() -> String {
-    let files = ["src/ffi.rs", "src/shape.rs", "src/skip.rs"]
-        .map(file)
-        .join("\n");
-    let lines = files
-        .lines()
-        .filter(|line| !line.trim_start().starts_with("//"));
-    one_line(&lines.collect::<Vec<_>>().join("\n"))
-        .replace("( ", "(")
-        .replace(", )", ")")
+    let files = ["src/ffi.rs", "src/shape.rs", "src/skip.rs"].map(file).join("\n");
+    let lines = files.lines().filter(|line| !line.trim_start().starts_with("//"));
+    one_line(&lines.collect::<Vec<_>>().join("\n")).replace("( ", "(").replace(", )", ")")
 }
 
 #[test]
@@ -230,9 +202,7 @@ fn functions_are_those_of_the_header() {
         if !name.starts_with("tb_") {
             continue;
         }
-        let parameters = parameters
-            .strip_suffix(')')
-            .expect("the end of the parameters");
+        let parameters = parameters.strip_suffix(')').expect("the end of the parameters");
         let parameters: Vec<String> = parameters.split(',').map(in_rust).collect();
         let parameters = parameters.join(", ");
         let wanted = format!("pub fn {name}({parameters}) -> {};", type_in_rust(result));

@@ -12,17 +12,10 @@ mod ffi;
 use ffi::*;
 
 /// C 2, H 2, S 5, r 2: 12 blocks, 20 sectors, 8 spares.
-const SHAPE: Shape = Shape {
-    cylinders: 2,
-    heads: 2,
-    sectors: 5,
-};
+const SHAPE: Shape = Shape { cylinders: 2, heads: 2, sectors: 5 };
 const R: u32 = 2;
 /// No list has it.
-const STRAY: Cursor = Cursor {
-    block: 5,
-    skipped: 4_000,
-};
+const STRAY: Cursor = Cursor { block: 5, skipped: 4_000 };
 
 /// An answer's numbers in their order; every field of every answer is 32 bits wide.
 fn numbers<T>(answer: T) -> Vec<u32> {
@@ -41,20 +34,12 @@ fn refused<T>(call: &str, number: u32, answer: T) {
 
 /// An N and a list for each of the refusals 1 to 4.
 fn bad_spaces() -> [(u32, u32, Vec<u32>); 4] {
-    [
-        (1, 0, vec![3]),
-        (2, 20, (0..4_097).collect()),
-        (3, 20, vec![3, 3]),
-        (4, 20, vec![3, 20]),
-    ]
+    [(1, 0, vec![3]), (2, 20, (0..4_097).collect()), (3, 20, vec![3, 3]), (4, 20, vec![3, 20])]
 }
 
 /// The drive of 20 sectors, or one out of range where N is 0.
 fn shape_of(n: u32) -> Shape {
-    Shape {
-        heads: if n == 0 { 0 } else { 2 },
-        ..SHAPE
-    }
+    Shape { heads: if n == 0 { 0 } else { 2 }, ..SHAPE }
 }
 
 #[test]
@@ -67,16 +52,8 @@ fn refused_skipping_answers_zeros() {
             refused("tb_skip_block", number, tb_skip_block(n, at, len, 3));
             refused("tb_job_start", number, tb_job_start(n, at, len, 3));
             refused("tb_job_check", number, tb_job_check(STRAY, n, at, len));
-            refused(
-                "tb_skipped_address",
-                number,
-                tb_skipped_address(shape, at, len, 3),
-            );
-            refused(
-                "tb_skipped_block",
-                number,
-                tb_skipped_block(shape, at, len, 1, 1, 3),
-            );
+            refused("tb_skipped_address", number, tb_skipped_address(shape, at, len, 3));
+            refused("tb_skipped_block", number, tb_skipped_block(shape, at, len, 1, 1, 3));
         }
     }
     let list = [3];
@@ -87,16 +64,8 @@ fn refused_skipping_answers_zeros() {
         refused("tb_skip_block", 6, tb_skip_block(20, at, len, 20));
         refused("tb_job_start", 5, tb_job_start(20, at, len, 19));
         refused("tb_job_check", 9, tb_job_check(STRAY, 20, at, len));
-        refused(
-            "tb_skipped_address",
-            5,
-            tb_skipped_address(SHAPE, at, len, 19),
-        );
-        refused(
-            "tb_skipped_block",
-            6,
-            tb_skipped_block(SHAPE, at, len, 1, 2, 3),
-        );
+        refused("tb_skipped_address", 5, tb_skipped_address(SHAPE, at, len, 19));
+        refused("tb_skipped_block", 6, tb_skipped_block(SHAPE, at, len, 1, 2, 3));
         refused("tb_shape_sector", 1, tb_shape_sector(shape_of(0), 1, 1, 1));
         refused("tb_shape_sector", 6, tb_shape_sector(SHAPE, 1, 1, 5));
         refused("tb_shape_address", 1, tb_shape_address(shape_of(0), 1));
@@ -116,25 +85,14 @@ fn a_refused_step_hands_back_the_cursor() {
         step(number, STRAY, n, &list);
     }
     step(9, STRAY, 20, &[3]);
-    step(
-        5,
-        Cursor {
-            block: 19,
-            skipped: 1,
-        },
-        20,
-        &[3],
-    );
+    step(5, Cursor { block: 19, skipped: 1 }, 20, &[3]);
 }
 
 /// A start and a check answer sector 0 beside the cursor.
 #[test]
 fn no_sector_beside_a_cursor_that_does_not_step() {
     let list = [3];
-    let cursor = Cursor {
-        block: 5,
-        skipped: 1,
-    };
+    let cursor = Cursor { block: 5, skipped: 1 };
     // SAFETY: the pointer and length are those of a live slice.
     unsafe {
         let started = tb_job_start(20, list.as_ptr(), list.len(), 5);
@@ -171,9 +129,7 @@ fn refused_pages_answer_zeros() {
         refused("tb_page_read", number, answer);
     };
     let page = |first: u8, second: u8| {
-        [
-            0, 0, 0, 22, 1, 1, 0, 0, 0, 20, 0, 0, 0, first, 0, 0, 0, second, 255, 255, 255, 255,
-        ]
+        [0, 0, 0, 22, 1, 1, 0, 0, 0, 20, 0, 0, 0, first, 0, 0, 0, second, 255, 255, 255, 255]
     };
     read(8, &page(3, 7)[1..], &mut [0; 2]);
     read(3, &page(3, 3), &mut [0; 2]);
@@ -184,14 +140,7 @@ fn refused_pages_answer_zeros() {
         let mut room = vec![0; length];
         // SAFETY: pointers and lengths are those of live slices.
         let answer = unsafe {
-            tb_page_write(
-                n,
-                kind,
-                list.as_ptr(),
-                list.len(),
-                room.as_mut_ptr(),
-                room.len(),
-            )
+            tb_page_write(n, kind, list.as_ptr(), list.len(), room.as_mut_ptr(), room.len())
         };
         refused("tb_page_write", number, answer);
     };
@@ -258,43 +207,19 @@ fn refused_spares_answer_zeros() {
     let mut bad = table();
     bad[0] = 0x1000_0000;
     // The number by block, the number by sector, r, the table, and what is asked for.
-    let cases = [
-        (1, 1, 5, table(), 3),
-        (11, 11, R, bad, 3),
-        (5, 6, R, table(), 900),
-    ];
+    let cases = [(1, 1, 5, table(), 3), (11, 11, R, bad, 3), (5, 6, R, table(), 900)];
     for (by_block, by_sector, r, mut table, asked) in cases {
         let (at, len) = (table.as_ptr(), table.len());
         // SAFETY: the pointer and length are those of a live slice.
         unsafe {
-            refused(
-                "tb_spare_sector",
-                by_block,
-                tb_spare_sector(SHAPE, r, at, len, asked),
-            );
-            refused(
-                "tb_spare_address",
-                by_block,
-                tb_spare_address(SHAPE, r, at, len, asked),
-            );
-            refused(
-                "tb_spare_shift",
-                by_block,
-                tb_spare_shift(SHAPE, r, at, len, asked),
-            );
-            refused(
-                "tb_spare_block",
-                by_sector,
-                tb_spare_block(SHAPE, r, at, len, asked),
-            );
+            refused("tb_spare_sector", by_block, tb_spare_sector(SHAPE, r, at, len, asked));
+            refused("tb_spare_address", by_block, tb_spare_address(SHAPE, r, at, len, asked));
+            refused("tb_spare_shift", by_block, tb_spare_shift(SHAPE, r, at, len, asked));
+            refused("tb_spare_block", by_sector, tb_spare_block(SHAPE, r, at, len, asked));
             let on = tb_spare_block_at(SHAPE, r, at, len, 1, 1, asked);
             refused("tb_spare_block_at", by_sector, on);
             if by_block != 5 {
-                refused(
-                    "tb_spare_census",
-                    by_block,
-                    tb_spare_census(SHAPE, r, at, len),
-                );
+                refused("tb_spare_census", by_block, tb_spare_census(SHAPE, r, at, len));
             }
             let replaced = tb_spare_replace(SHAPE, r, table.as_mut_ptr(), len, asked);
             refused("tb_spare_replace", by_block, replaced);
@@ -311,14 +236,7 @@ fn refused_spares_answer_zeros() {
         let mut room = vec![0; length];
         // SAFETY: pointers and lengths are those of live slices.
         let answer = unsafe {
-            tb_spare_first(
-                SHAPE,
-                r,
-                list.as_ptr(),
-                list.len(),
-                room.as_mut_ptr(),
-                room.len(),
-            )
+            tb_spare_first(SHAPE, r, list.as_ptr(), list.len(), room.as_mut_ptr(), room.len())
         };
         refused("tb_spare_first", number, answer);
     };
@@ -342,10 +260,7 @@ fn bad_images() -> [(u32, Vec<u8>); 5] {
     let mut no_address = image(false);
     (no_address[0], no_address[4]) = (1, 2);
     let mut other = image(false);
-    other[3..16]
-        .iter_mut()
-        .step_by(4)
-        .for_each(|byte| *byte = 8);
+    other[3..16].iter_mut().step_by(4).for_each(|byte| *byte = 8);
     let mut bad_code = image(false);
     bad_code[20] ^= 1;
     [
@@ -373,14 +288,7 @@ fn refused_images_answer_zeros() {
         let (data, mut room) = (vec![0; length], vec![0; room_length]);
         // SAFETY: pointers and lengths are those of live slices.
         let answer = unsafe {
-            tb_image_write(
-                7,
-                data.as_ptr(),
-                data.len(),
-                true,
-                room.as_mut_ptr(),
-                room.len(),
-            )
+            tb_image_write(7, data.as_ptr(), data.len(), true, room.as_mut_ptr(), room.len())
         };
         refused("tb_image_write", number, answer);
     }
@@ -430,14 +338,8 @@ fn null_with_length_0_is_an_empty_slice() {
         assert_eq!(numbers(tb_job_start(20, null(), 0, 3)), [0, 0, 3, 0]);
         assert_eq!(numbers(tb_job_check(start, 20, null(), 0)), [0, 0, 0, 0]);
         assert_eq!(numbers(tb_job_step(start, 20, null(), 0)), [0, 0, 1, 0]);
-        assert_eq!(
-            numbers(tb_skipped_address(SHAPE, null(), 0, 13)),
-            [0, 1, 0, 3]
-        );
-        assert_eq!(
-            numbers(tb_skipped_block(SHAPE, null(), 0, 1, 0, 3)),
-            [0, 1, 13]
-        );
+        assert_eq!(numbers(tb_skipped_address(SHAPE, null(), 0, 13)), [0, 1, 0, 3]);
+        assert_eq!(numbers(tb_skipped_block(SHAPE, null(), 0, 1, 0, 3)), [0, 1, 13]);
     }
 }
 
@@ -447,11 +349,7 @@ fn null_pages_and_nights() {
     // SAFETY: the C face takes null where the length is 0; other pointers are of live slices.
     unsafe {
         refused("tb_page_read", 8, tb_page_read(null(), 0, null_mut(), 0));
-        refused(
-            "tb_page_write",
-            7,
-            tb_page_write(20, 1, null(), 0, null_mut(), 0),
-        );
+        refused("tb_page_write", 7, tb_page_write(20, 1, null(), 0, null_mut(), 0));
         let written = tb_page_write(20, 1, null(), 0, page.as_mut_ptr(), page.len());
         assert_eq!(numbers(written), [0, 14]);
         let read = tb_page_read(page.as_ptr(), page.len(), null_mut(), 0);
@@ -478,21 +376,8 @@ fn null_pages_and_nights() {
             assert_eq!(numbers(night), [0, 0, 0, space], "option {option}");
         }
         let d = [3];
-        let night = tb_format(
-            20,
-            null(),
-            0,
-            null(),
-            0,
-            0,
-            7,
-            d.as_ptr(),
-            1,
-            null_mut(),
-            0,
-            null_mut(),
-            0,
-        );
+        let night =
+            tb_format(20, null(), 0, null(), 0, 0, 7, d.as_ptr(), 1, null_mut(), 0, null_mut(), 0);
         refused("tb_format", 7, night);
     }
 }
@@ -502,34 +387,14 @@ fn null_tables_and_lists() {
     let mut room = [7; 128];
     // SAFETY: the C face takes null where the length is 0; other pointers are of live slices.
     unsafe {
-        refused(
-            "tb_spare_sector",
-            11,
-            tb_spare_sector(SHAPE, R, null(), 0, 3),
-        );
-        refused(
-            "tb_spare_address",
-            11,
-            tb_spare_address(SHAPE, R, null(), 0, 3),
-        );
+        refused("tb_spare_sector", 11, tb_spare_sector(SHAPE, R, null(), 0, 3));
+        refused("tb_spare_address", 11, tb_spare_address(SHAPE, R, null(), 0, 3));
         refused("tb_spare_shift", 11, tb_spare_shift(SHAPE, R, null(), 0, 3));
         refused("tb_spare_block", 11, tb_spare_block(SHAPE, R, null(), 0, 3));
-        refused(
-            "tb_spare_block_at",
-            11,
-            tb_spare_block_at(SHAPE, R, null(), 0, 1, 0, 3),
-        );
-        refused(
-            "tb_spare_replace",
-            11,
-            tb_spare_replace(SHAPE, R, null_mut(), 0, 3),
-        );
+        refused("tb_spare_block_at", 11, tb_spare_block_at(SHAPE, R, null(), 0, 1, 0, 3));
+        refused("tb_spare_replace", 11, tb_spare_replace(SHAPE, R, null_mut(), 0, 3));
         refused("tb_spare_census", 11, tb_spare_census(SHAPE, R, null(), 0));
-        refused(
-            "tb_spare_first",
-            7,
-            tb_spare_first(SHAPE, R, null(), 0, null_mut(), 0),
-        );
+        refused("tb_spare_first", 7, tb_spare_first(SHAPE, R, null(), 0, null_mut(), 0));
         let made = tb_spare_first(SHAPE, R, null(), 0, room.as_mut_ptr(), room.len());
         assert_eq!(numbers(made), [0, 128]);
     }
@@ -543,11 +408,7 @@ fn null_images() {
     let (at, len) = (table.as_ptr(), table.len());
     // SAFETY: the C face takes null where the length is 0; other pointers are of live slices.
     unsafe {
-        refused(
-            "tb_image_write",
-            14,
-            tb_image_write(7, null(), 0, false, null_mut(), 0),
-        );
+        refused("tb_image_write", 14, tb_image_write(7, null(), 0, false, null_mut(), 0));
         let written = tb_image_write(7, data.as_ptr(), data.len(), false, null_mut(), 0);
         refused("tb_image_write", 7, written);
         refused("tb_image_header", 14, tb_image_header(null(), 0));

@@ -40,14 +40,7 @@ impl Draw {
         let n = self.of_these(&[1, 6, 20, 24, 300]).min(self.within(1, 300));
         let (p, g) = (self.list(n), self.list(n));
         let d = self.supplied(n, &p, &g, space, option);
-        Drawn {
-            n,
-            p,
-            g,
-            space,
-            option,
-            d,
-        }
+        Drawn { n, p, g, space, option, d }
     }
 
     /// A night, now and then with faults in any of its parts.
@@ -94,14 +87,7 @@ impl Draw {
             5 | 7 => sectors,
             _ => Vec::new(),
         };
-        Drawn {
-            n,
-            p,
-            g,
-            space,
-            option,
-            d,
-        }
+        Drawn { n, p, g, space, option, d }
     }
 
     fn damage_night(&mut self, night: &mut Drawn) {
@@ -120,9 +106,6 @@ impl Draw {
 
 /// The blocks of the space that skips `used` that lie on these sectors.
 pub fn blocks_on(used: &[u32], sectors: &[u32]) -> Vec<u32> {
-    let good = sectors
-        .iter()
-        .filter(|sector| used.binary_search(sector).is_err());
-    good.map(|sector| sector - used.partition_point(|entry| entry < sector) as u32)
-        .collect()
+    let good = sectors.iter().filter(|sector| used.binary_search(sector).is_err());
+    good.map(|sector| sector - used.partition_point(|entry| entry < sector) as u32).collect()
 }

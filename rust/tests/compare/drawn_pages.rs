@@ -23,10 +23,7 @@ impl Draw {
     fn damage_page(&mut self, page: &mut Vec<u8>) {
         let length = page.len() as u32;
         match self.below(8) {
-            0 => set_length(
-                page,
-                self.of_these(&[0, 14, length + 1, length + 4, u32::MAX]),
-            ),
+            0 => set_length(page, self.of_these(&[0, 14, length + 1, length + 4, u32::MAX])),
             1 => self.resize(page),
             2 => set(page, 4, self.of_these(&[0, 2, 255])),
             3 => set(page, 5, self.of_these(&[2, 128, 255])),
@@ -50,19 +47,9 @@ impl Draw {
     /// Another length; the length field says so or not.
     fn resize(&mut self, page: &mut Vec<u8>) {
         let length = page.len();
-        let fewer = [
-            0,
-            13,
-            14,
-            length.saturating_sub(1),
-            length.saturating_sub(4),
-        ];
+        let fewer = [0, 13, 14, length.saturating_sub(1), length.saturating_sub(4)];
         let more = [length + 1, length + 2, length + 4, 16_398, 16_399, 16_402];
-        let other = if self.one_in(2) {
-            self.of_these(&fewer)
-        } else {
-            self.of_these(&more)
-        };
+        let other = if self.one_in(2) { self.of_these(&fewer) } else { self.of_these(&more) };
         page.resize(other, 0xFF);
         if self.one_in(2) {
             set_length(page, other as u32);

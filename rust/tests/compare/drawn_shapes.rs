@@ -7,20 +7,12 @@ use crate::model;
 
 /// The model's form of a shape.
 pub fn paper(shape: Shape) -> model::shape::Shape {
-    model::shape::Shape {
-        c: shape.cylinders,
-        h: shape.heads,
-        s: shape.sectors,
-    }
+    model::shape::Shape { c: shape.cylinders, h: shape.heads, s: shape.sectors }
 }
 
 /// A shape in three numbers.
 pub fn shape(cylinders: u32, heads: u32, sectors: u32) -> Shape {
-    Shape {
-        cylinders,
-        heads,
-        sectors,
-    }
+    Shape { cylinders, heads, sectors }
 }
 
 impl Draw {
@@ -28,11 +20,7 @@ impl Draw {
     pub fn shape(&mut self) -> Shape {
         match self.below(300) {
             0 => shape(4_096, 64, 64),
-            1 => shape(
-                self.within(1, 4_096),
-                self.within(1, 64),
-                self.within(2, 64),
-            ),
+            1 => shape(self.within(1, 4_096), self.within(1, 64), self.within(2, 64)),
             2..=40 => shape(self.within(1, 40), self.within(1, 5), self.within(2, 64)),
             _ => shape(self.within(1, 4), self.within(1, 3), self.within(2, 6)),
         }
@@ -59,11 +47,7 @@ impl Draw {
                 self.below(bound.max(1))
             }
         };
-        (
-            number(shape.cylinders),
-            number(shape.heads),
-            number(shape.sectors),
-        )
+        (number(shape.cylinders), number(shape.heads), number(shape.sectors))
     }
 
     /// A shape and r of a revectored drive in their ranges.
@@ -99,10 +83,7 @@ impl Draw {
             return (shape, r);
         }
         match self.below(3) {
-            0 => (
-                shape,
-                self.of_these(&[0, shape.sectors, shape.sectors.saturating_add(1)]),
-            ),
+            0 => (shape, self.of_these(&[0, shape.sectors, shape.sectors.saturating_add(1)])),
             1 => (shape, u32::MAX),
             _ => self.too_many_spares(),
         }

@@ -24,12 +24,7 @@ impl Draw {
         let (shape, r) = self.drive();
         let drive = drive(paper(shape), r).expect("a drive in its range");
         let table = self.table(drive);
-        Tabled {
-            shape,
-            r,
-            table,
-            drive,
-        }
+        Tabled { shape, r, table, drive }
     }
 
     /// The same, now and then with a fault in the drive, the table or both.

@@ -51,11 +51,7 @@ fn image_judge_and_data() {
         let block = draw.any_block();
         let mut image = draw.any_image(block);
         draw.any_length(&mut image, 10);
-        let asked = if draw.one_in(8) {
-            draw.any_block()
-        } else {
-            block
-        };
+        let asked = if draw.one_in(8) { draw.any_block() } else { block };
         let library = image::judge(&image, asked);
         tally.same(seed, library, model::image::judge(&image, asked));
         let part = image::data(&image, asked);
@@ -77,17 +73,9 @@ fn image_there_and_back() {
         assert_eq!(image::data(&image, block), Ok(&data[..]), "seed {seed}");
 
         image[16 + draw.place(512)] ^= 1 << draw.below(8);
-        assert_eq!(
-            image::judge(&image, block),
-            Err(Refusal::BadCode),
-            "seed {seed}"
-        );
+        assert_eq!(image::judge(&image, block), Err(Refusal::BadCode), "seed {seed}");
 
         image::write(block, &data, true, &mut image).expect("data of 512 bytes");
-        assert_eq!(
-            image::judge(&image, block),
-            Err(Refusal::ForcedError),
-            "seed {seed}"
-        );
+        assert_eq!(image::judge(&image, block), Err(Refusal::ForcedError), "seed {seed}");
     }
 }

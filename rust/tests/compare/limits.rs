@@ -25,40 +25,21 @@ fn a_list_of_4096_and_of_4097() {
     assert_eq!(skip::sector_of(n, &over, 0), Err(Refusal::TooLong));
     assert_eq!(skipping::sector_of(n, &over, 0), Err(2));
     assert_eq!(skip::block_on(n, &over, 0), Err(Refusal::TooLong));
-    assert_eq!(
-        Cursor::start(n, &full, 0),
-        Ok(Cursor {
-            block: 0,
-            skipped: 0
-        })
-    );
-    let next = Cursor {
-        block: 1,
-        skipped: 4_096,
-    };
+    assert_eq!(Cursor::start(n, &full, 0), Ok(Cursor { block: 0, skipped: 0 }));
+    let next = Cursor { block: 1, skipped: 4_096 };
     assert_eq!(Cursor::default().step(n, &full), Ok((4_096, next)));
-    assert_eq!(
-        Cursor::default().step(n, &over),
-        Err((Refusal::TooLong, Cursor::default()))
-    );
+    assert_eq!(Cursor::default().step(n, &over), Err((Refusal::TooLong, Cursor::default())));
     assert_eq!(Cursor::default().check(n, &over), Err(Refusal::TooLong));
     assert_eq!(Cursor::start(n, &over, 0), Err(Refusal::TooLong));
     let drive = shape(10, 10, 50);
     assert_eq!(skipped::address_of(drive, &over, 0), Err(Refusal::TooLong));
-    assert_eq!(
-        skipped::block_at(drive, &over, 0, 0, 0),
-        Err(Refusal::TooLong)
-    );
+    assert_eq!(skipped::block_at(drive, &over, 0, 0, 0), Err(Refusal::TooLong));
 
     let mut room = vec![0; 16_402];
     assert_eq!(page::write(n, 1, &full, &mut room), Ok(16_398));
     assert_eq!(page::write(n, 1, &over, &mut room), Err(Refusal::TooLong));
     let mut list = vec![0; LIST_MOST + 1];
-    let read = page::Page {
-        kind: 1,
-        n,
-        entries: 4_096,
-    };
+    let read = page::Page { kind: 1, n, entries: 4_096 };
     assert_eq!(page::read(&room[..16_398], &mut list), Ok(read));
     let long_page = model::page::bytes(n, 1, &over);
     assert_eq!(page::read(&long_page, &mut list), Err(Refusal::BadPage));
@@ -67,90 +48,40 @@ fn a_list_of_4096_and_of_4097() {
 
 #[test]
 fn n_of_16777216_and_one_more() {
-    assert_eq!(
-        skip::sector_of(UNITS_MOST, &[], UNITS_MOST - 1),
-        Ok(UNITS_MOST - 1)
-    );
-    assert_eq!(
-        skip::sector_of(UNITS_MOST, &[0], UNITS_MOST - 2),
-        Ok(UNITS_MOST - 1)
-    );
-    assert_eq!(
-        skip::sector_of(UNITS_MOST, &[0], UNITS_MOST - 1),
-        Err(Refusal::NoSuchBlock)
-    );
-    assert_eq!(
-        skip::sector_of(UNITS_MOST + 1, &[], 0),
-        Err(Refusal::OutOfRange)
-    );
-    assert_eq!(
-        skip::block_on(UNITS_MOST + 1, &[], 0),
-        Err(Refusal::OutOfRange)
-    );
-    assert_eq!(
-        Cursor::start(UNITS_MOST + 1, &[], 0),
-        Err(Refusal::OutOfRange)
-    );
-    assert_eq!(
-        Cursor::default().check(UNITS_MOST + 1, &[]),
-        Err(Refusal::OutOfRange)
-    );
+    assert_eq!(skip::sector_of(UNITS_MOST, &[], UNITS_MOST - 1), Ok(UNITS_MOST - 1));
+    assert_eq!(skip::sector_of(UNITS_MOST, &[0], UNITS_MOST - 2), Ok(UNITS_MOST - 1));
+    assert_eq!(skip::sector_of(UNITS_MOST, &[0], UNITS_MOST - 1), Err(Refusal::NoSuchBlock));
+    assert_eq!(skip::sector_of(UNITS_MOST + 1, &[], 0), Err(Refusal::OutOfRange));
+    assert_eq!(skip::block_on(UNITS_MOST + 1, &[], 0), Err(Refusal::OutOfRange));
+    assert_eq!(Cursor::start(UNITS_MOST + 1, &[], 0), Err(Refusal::OutOfRange));
+    assert_eq!(Cursor::default().check(UNITS_MOST + 1, &[]), Err(Refusal::OutOfRange));
     let refused = (Refusal::OutOfRange, Cursor::default());
     assert_eq!(Cursor::default().step(UNITS_MOST + 1, &[]), Err(refused));
-    let end = Cursor {
-        block: UNITS_MOST,
-        skipped: 0,
-    };
+    let end = Cursor { block: UNITS_MOST, skipped: 0 };
     assert_eq!(end.check(UNITS_MOST, &[]), Ok(end));
     assert_eq!(end.step(UNITS_MOST, &[]), Err((Refusal::NoSuchBlock, end)));
 
     let mut room = [0; 14];
     assert_eq!(page::write(UNITS_MOST, 0, &[], &mut room), Ok(14));
-    assert_eq!(
-        page::read(&room, &mut []).map(|read| read.n),
-        Ok(UNITS_MOST)
-    );
-    assert_eq!(
-        page::write(UNITS_MOST + 1, 0, &[], &mut room),
-        Err(Refusal::OutOfRange)
-    );
+    assert_eq!(page::read(&room, &mut []).map(|read| read.n), Ok(UNITS_MOST));
+    assert_eq!(page::write(UNITS_MOST + 1, 0, &[], &mut room), Err(Refusal::OutOfRange));
     let over = model::page::bytes(UNITS_MOST + 1, 0, &[]);
     assert_eq!(page::read(&over, &mut []), Err(Refusal::BadPage));
 
     let most = format::format(UNITS_MOST, &[], &[], 0, 6, &[], &mut [], &mut []);
-    assert_eq!(
-        most,
-        Ok(format::Formatted {
-            grown: 0,
-            list: 0,
-            space: 0
-        })
-    );
+    assert_eq!(most, Ok(format::Formatted { grown: 0, list: 0, space: 0 }));
     let over = format::format(UNITS_MOST + 1, &[], &[], 0, 6, &[], &mut [], &mut []);
     assert_eq!(over, Err(Refusal::OutOfRange));
 
     let largest = shape(4_096, 64, 64);
-    assert_eq!(
-        shapes::sector_of(largest, 4_095, 63, 63),
-        Ok(UNITS_MOST - 1)
-    );
-    assert_eq!(
-        shapes::address_of(largest, UNITS_MOST),
-        Err(Refusal::NoSuchSector)
-    );
+    assert_eq!(shapes::sector_of(largest, 4_095, 63, 63), Ok(UNITS_MOST - 1));
+    assert_eq!(shapes::address_of(largest, UNITS_MOST), Err(Refusal::NoSuchSector));
 }
 
 #[test]
 fn every_edge_of_a_shape() {
     let accepted = [(1, 1, 2), (4_096, 1, 2), (1, 64, 2), (1, 1, 64)];
-    let refused = [
-        (0, 1, 2),
-        (4_097, 1, 2),
-        (1, 0, 2),
-        (1, 65, 2),
-        (1, 1, 1),
-        (1, 1, 65),
-    ];
+    let refused = [(0, 1, 2), (4_097, 1, 2), (1, 0, 2), (1, 65, 2), (1, 1, 1), (1, 1, 65)];
     for (cylinders, heads, sectors) in accepted {
         assert_eq!(
             shapes::address_of(shape(cylinders, heads, sectors), 0).map(|at| at.sector),
@@ -172,23 +103,13 @@ fn spares_of_1024_and_of_1025() {
         let census = spares::census(most, r, &table).expect("1,024 spares");
         assert_eq!((census.free, census.null), (1_024, 0));
     }
-    for (over, r) in [
-        (shape(41, 25, 2), 1),
-        (shape(205, 1, 6), 5),
-        (shape(25, 1, 42), 41),
-    ] {
+    for (over, r) in [(shape(41, 25, 2), 1), (shape(205, 1, 6), 5), (shape(25, 1, 42), 41)] {
         let table = model_table_of_1025();
         assert_eq!(spares::census(over, r, &table), Err(Refusal::OutOfRange));
         assert_eq!(model::spares::census(paper(over), r, &table), Err(1));
-        assert_eq!(
-            spares::sector_of(over, r, &table, 0),
-            Err(Refusal::OutOfRange)
-        );
+        assert_eq!(spares::sector_of(over, r, &table, 0), Err(Refusal::OutOfRange));
         let mut room = vec![0; 2_000];
-        assert_eq!(
-            spares::first_table(over, r, &[], &mut room),
-            Err(Refusal::OutOfRange)
-        );
+        assert_eq!(spares::first_table(over, r, &[], &mut room), Err(Refusal::OutOfRange));
     }
 }
 
@@ -201,21 +122,14 @@ fn model_table_of_1025() -> Vec<u32> {
 
 #[test]
 fn every_spare_used_then_one_more() {
-    for (drive_shape, r) in [
-        (shape(64, 16, 3), 1),
-        (shape(2, 2, 5), 2),
-        (shape(16, 4, 64), 16),
-    ] {
+    for (drive_shape, r) in [(shape(64, 16, 3), 1), (shape(2, 2, 5), 2), (shape(16, 4, 64), 16)] {
         let drive = drive(paper(drive_shape), r).expect("a drive in its range");
         let (mut ours, mut theirs) = (empty_table(drive), empty_table(drive));
         // All blocks of the last track first, so that the search runs far.
         let mut blocks = (0..drive.blocks()).rev();
         for block in blocks.by_ref().take(drive.spares() as usize) {
             let place = model::spares::replace(paper(drive_shape), r, &mut theirs, block);
-            assert_eq!(
-                spares::replace(drive_shape, r, &mut ours, block).ok(),
-                place.ok()
-            );
+            assert_eq!(spares::replace(drive_shape, r, &mut ours, block).ok(), place.ok());
             assert!(place.is_ok(), "block {block} finds a spare");
         }
         assert_eq!(ours, theirs);
@@ -224,10 +138,7 @@ fn every_spare_used_then_one_more() {
         let refused = spares::replace(drive_shape, r, &mut ours, one_more);
         assert_eq!(refused, Err(Refusal::NoSpare));
         assert_eq!(ours, full);
-        assert_eq!(
-            spares::census(drive_shape, r, &ours).map(|count| count.free),
-            Ok(0)
-        );
+        assert_eq!(spares::census(drive_shape, r, &ours).map(|count| count.free), Ok(0));
     }
 }
 
@@ -270,19 +181,9 @@ fn one_sector_and_it_is_bad() {
     let none = Cursor::default();
     assert_eq!(none.check(1, &[0]), Ok(none));
     assert_eq!(none.step(1, &[0]), Err((Refusal::NoSuchBlock, none)));
-    let stray = Cursor {
-        block: 0,
-        skipped: 1,
-    };
+    let stray = Cursor { block: 0, skipped: 1 };
     assert_eq!(stray.step(1, &[0]), Err((Refusal::StrayCursor, stray)));
-    let night = Drawn {
-        n: 1,
-        p: vec![0],
-        g: vec![],
-        space: 1,
-        option: 1,
-        d: vec![0],
-    };
+    let night = Drawn { n: 1, p: vec![0], g: vec![], space: 1, option: 1, d: vec![0] };
     assert_eq!(formatted(&night, &mut [], &mut [0]), Err(Refusal::Outside));
     assert_eq!(model::format::lists(night.lent()), Err(4));
 }
@@ -291,11 +192,7 @@ fn one_sector_and_it_is_bad() {
 fn a_page_of_14_bytes_and_of_13() {
     let page = model::page::bytes(20, 0, &[]);
     assert_eq!(page.len(), 14);
-    let read = page::Page {
-        kind: 0,
-        n: 20,
-        entries: 0,
-    };
+    let read = page::Page { kind: 0, n: 20, entries: 0 };
     assert_eq!(page::read(&page, &mut []), Ok(read));
     assert_eq!(page::read(&page[..13], &mut []), Err(Refusal::BadPage));
     assert_eq!(model::page::read(&page[..13], &mut []), Err(8));
@@ -339,16 +236,8 @@ fn nights_of_4096_and_of_4097() {
     for (case, (night, expected)) in cases.into_iter().enumerate() {
         let (mut grown, mut list) = (vec![0; 4_096], vec![0; 4_096]);
         let library = formatted(&night, &mut grown, &mut list);
-        assert_eq!(
-            library.map(|done| done.list).map_err(Refusal::number),
-            expected,
-            "case {case}"
-        );
+        assert_eq!(library.map(|done| done.list).map_err(Refusal::number), expected, "case {case}");
         let model = model::format::lists(night.lent());
-        assert_eq!(
-            model.map(|(_, list, _)| list.len() as u32),
-            expected,
-            "case {case}"
-        );
+        assert_eq!(model.map(|(_, list, _)| list.len() as u32), expected, "case {case}");
     }
 }

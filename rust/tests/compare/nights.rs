@@ -13,14 +13,7 @@ const SEEDS: u64 = 40_000;
 
 /// The library's Format of a drawn night.
 pub fn formatted(night: &Drawn, grown: &mut [u32], list: &mut [u32]) -> Result<Formatted, Refusal> {
-    let Drawn {
-        n,
-        p,
-        g,
-        space,
-        option,
-        d,
-    } = night;
+    let Drawn { n, p, g, space, option, d } = night;
     format(*n, p, g, *space, *option, d, grown, list)
 }
 
@@ -47,13 +40,7 @@ fn format_of_any_night() {
         let (grown_written, list_written, _) = model.unwrap_or((0, 0, 0));
         let library = library.map(|done| (done.grown, done.list, done.space));
         tally.same(seed, library, model);
-        tally.same_room(
-            seed,
-            &grown,
-            &our_grown,
-            &their_grown,
-            grown_written as usize,
-        );
+        tally.same_room(seed, &grown, &our_grown, &their_grown, grown_written as usize);
         tally.same_room(seed, &list, &our_list, &their_list, list_written as usize);
     }
     tally.saw(&[0, 1, 2, 3, 4, 7, 10]);
@@ -93,26 +80,14 @@ fn two_nights_are_one() {
             continue;
         }
         let d = draw.list(blocks);
-        let first = Drawn {
-            n,
-            p,
-            g,
-            space,
-            option,
-            d,
-        };
+        let first = Drawn { n, p, g, space, option, d };
         let (grown, list, space) = in_full(&first).expect("a short night");
         let left = n - list.len() as u32;
         if left == 0 {
             continue;
         }
         let d = draw.list(left);
-        let second = Drawn {
-            g: grown,
-            d: d.clone(),
-            space,
-            ..first.clone()
-        };
+        let second = Drawn { g: grown, d: d.clone(), space, ..first.clone() };
 
         let in_first_numbers = map(blocks, &first.d, &d);
         let d = model::format::union(&first.d, &in_first_numbers);
@@ -125,10 +100,7 @@ fn two_nights_are_one() {
         }
         joined_nights += 1;
     }
-    assert!(
-        joined_nights > 2_000,
-        "only {joined_nights} pairs of nights"
-    );
+    assert!(joined_nights > 2_000, "only {joined_nights} pairs of nights");
 }
 
 /// Rooms about as long as the results.

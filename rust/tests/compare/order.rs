@@ -46,10 +46,7 @@ fn same(call: &str, library: Vec<u32>, model: Vec<u32>, expected: &[u32]) {
 #[test]
 fn skipping_in_order() {
     let ask = |call: &dyn Fn(u32, &[u32], u32) -> u32| -> Vec<u32> {
-        spaces()
-            .iter()
-            .map(|(n, list, asked)| call(*n, list, *asked))
-            .collect()
+        spaces().iter().map(|(n, list, asked)| call(*n, list, *asked)).collect()
     };
     same(
         "skip::sector_of",
@@ -91,9 +88,7 @@ fn skipping_in_order() {
     // The cursor after the last block strays before it ends.
     for (skipped, expected) in [(1, 9), (2, 5)] {
         let cursor = Cursor { block: 98, skipped };
-        let refused = cursor
-            .step(100, &[5, 9])
-            .map_err(|(refusal, _)| refusal.number());
+        let refused = cursor.step(100, &[5, 9]).map_err(|(refusal, _)| refusal.number());
         assert_eq!(refused.err(), Some(expected));
         let model = skipping::step((98, skipped), 100, &[5, 9]);
         assert_eq!(model.map_err(|(number, _)| number).err(), Some(expected));
@@ -102,16 +97,10 @@ fn skipping_in_order() {
 
 #[test]
 fn shapes_in_order() {
-    let cases = [
-        (shape(0, 1, 2), 9),
-        (shape(5, 4, 5), 900),
-        (shape(5, 4, 5), 2),
-    ];
+    let cases = [(shape(0, 1, 2), 9), (shape(5, 4, 5), 900), (shape(5, 4, 5), 2)];
     same(
         "shape::sector_of",
-        cases
-            .map(|(drive, asked)| number(shapes::sector_of(drive, asked, 0, 0)))
-            .to_vec(),
+        cases.map(|(drive, asked)| number(shapes::sector_of(drive, asked, 0, 0))).to_vec(),
         cases
             .map(|(drive, asked)| {
                 paper_number(model::shape::sector_of(paper(drive), (asked, 0, 0)))
@@ -121,9 +110,7 @@ fn shapes_in_order() {
     );
     same(
         "shape::address_of",
-        cases
-            .map(|(drive, asked)| number(shapes::address_of(drive, asked)))
-            .to_vec(),
+        cases.map(|(drive, asked)| number(shapes::address_of(drive, asked))).to_vec(),
         cases
             .map(|(drive, asked)| paper_number(model::shape::address_of(paper(drive), asked)))
             .to_vec(),
@@ -143,10 +130,7 @@ fn shaped(n: u32) -> Shape {
 #[test]
 fn skipped_drives_in_order() {
     let ask = |call: &dyn Fn(Shape, &[u32], u32) -> u32| -> Vec<u32> {
-        spaces()
-            .iter()
-            .map(|(n, list, asked)| call(shaped(*n), list, *asked))
-            .collect()
+        spaces().iter().map(|(n, list, asked)| call(shaped(*n), list, *asked)).collect()
     };
     same(
         "skipped::address_of",
@@ -162,10 +146,7 @@ fn skipped_drives_in_order() {
         assert_eq!(number(library), 4);
         let library = skipped::block_at(drive, &[5, 9], cylinder, head, sector);
         assert_eq!(number(library), 6);
-        assert_eq!(
-            paper_number(skipping::block_at(paper(drive), &[5, 9], at)),
-            6
-        );
+        assert_eq!(paper_number(skipping::block_at(paper(drive), &[5, 9], at)), 6);
     }
 }
 
@@ -177,18 +158,10 @@ fn pages_in_order() {
     *broken.last_mut().expect("a byte") = 0;
     let outside = model::page::bytes(20, 0, &[7, 30]);
     let proper = model::page::bytes(20, 0, &[7, 9]);
-    let cases = [
-        (&broken, 0),
-        (&strays, 0),
-        (&outside, 0),
-        (&proper, 1),
-        (&proper, 2),
-    ];
+    let cases = [(&broken, 0), (&strays, 0), (&outside, 0), (&proper, 1), (&proper, 2)];
     same(
         "page::read",
-        cases
-            .map(|(page, room)| number(page::read(page, &mut vec![0; room])))
-            .to_vec(),
+        cases.map(|(page, room)| number(page::read(page, &mut vec![0; room]))).to_vec(),
         cases
             .map(|(page, room)| paper_number(model::page::read(page, &mut vec![0; room])))
             .to_vec(),
@@ -244,33 +217,14 @@ fn nights_in_order() {
         (night(9_000, &even, &both, 2, 7, &[9]), 1, 0),
     ];
     for (step, (night, room, expected)) in steps.into_iter().enumerate() {
-        let Night {
-            n,
-            p,
-            g,
-            space,
-            option,
-            d,
-        } = night;
+        let Night { n, p, g, space, option, d } = night;
         let (mut grown, mut list) = (vec![0; 4_096], vec![0; room]);
         let library = format::format(n, p, g, space, option, d, &mut grown, &mut list);
-        assert_eq!(
-            number(library),
-            expected,
-            "format::format: the library at step {step}"
-        );
+        assert_eq!(number(library), expected, "format::format: the library at step {step}");
         let library = format::format(n, p, g, space, option, d, &mut list, &mut grown);
-        assert_eq!(
-            number(library),
-            expected,
-            "format::format: the other room at step {step}"
-        );
+        assert_eq!(number(library), expected, "format::format: the other room at step {step}");
         let model = model::format::format(night, &mut grown, &mut list);
-        assert_eq!(
-            paper_number(model),
-            expected,
-            "format::format: the model at step {step}"
-        );
+        assert_eq!(paper_number(model), expected, "format::format: the model at step {step}");
     }
     // For options 1 and 3 D is held against the number of blocks.
     for (option, expected) in [(1, 4), (3, 4), (5, 0), (7, 0)] {
@@ -289,14 +243,7 @@ fn night<'a>(
     option: u32,
     d: &'a [u32],
 ) -> Night<'a> {
-    Night {
-        n,
-        p,
-        g,
-        space,
-        option,
-        d,
-    }
+    Night { n, p, g, space, option, d }
 }
 
 /// Drives and tables with ever fewer faults, and the number asked for: C 2, H 2, S 5, r 2 has 12
@@ -332,12 +279,9 @@ fn ask_tables(
     expected: &[u32],
 ) {
     let rows = tables();
-    let ours = rows
-        .iter()
-        .map(|(drive, r, table, asked)| library(*drive, *r, table, *asked));
-    let theirs = rows
-        .iter()
-        .map(|(drive, r, table, asked)| model(paper(*drive), *r, table, *asked));
+    let ours = rows.iter().map(|(drive, r, table, asked)| library(*drive, *r, table, *asked));
+    let theirs =
+        rows.iter().map(|(drive, r, table, asked)| model(paper(*drive), *r, table, *asked));
     same(call, ours.collect(), theirs.collect(), expected);
 }
 
@@ -404,10 +348,7 @@ fn already_replaced_before_no_spare() {
         }
     }
     for (block, expected) in [(900, 5), (7, 12), (0, 13)] {
-        assert_eq!(
-            number(spares::replace(drive, 2, &mut table, block)),
-            expected
-        );
+        assert_eq!(number(spares::replace(drive, 2, &mut table, block)), expected);
         let model = model::spares::replace(paper(drive), 2, &mut table, block);
         assert_eq!(paper_number(model), expected);
     }
@@ -459,12 +400,7 @@ fn images_in_order() {
             .to_vec(),
         cases
             .map(|(data, room)| {
-                paper_number(model::image::write(
-                    7,
-                    &vec![0; data],
-                    true,
-                    &mut vec![0; room],
-                ))
+                paper_number(model::image::write(7, &vec![0; data], true, &mut vec![0; room]))
             })
             .to_vec(),
         &[14, 14, 7, 0],
@@ -473,26 +409,14 @@ fn images_in_order() {
     let images = faulty_images();
     same(
         "image::header",
-        images
-            .iter()
-            .map(|image| number(image::header(image)))
-            .collect(),
-        images
-            .iter()
-            .map(|image| paper_number(model::image::header(image)))
-            .collect(),
+        images.iter().map(|image| number(image::header(image))).collect(),
+        images.iter().map(|image| paper_number(model::image::header(image))).collect(),
         &[14, 15, 0, 0, 0, 0],
     );
     same(
         "image::judge",
-        images
-            .iter()
-            .map(|image| number(image::judge(image, 7)))
-            .collect(),
-        images
-            .iter()
-            .map(|image| paper_number(model::image::judge(image, 7)))
-            .collect(),
+        images.iter().map(|image| number(image::judge(image, 7))).collect(),
+        images.iter().map(|image| paper_number(model::image::judge(image, 7))).collect(),
         &[14, 15, 16, 18, 17, 0],
     );
 }
@@ -524,22 +448,8 @@ fn reads_in_order() {
     for (drive, r, table, block) in tables().into_iter().take(7) {
         cases.push((drive, r, table, block, noise.clone(), vec![0; 3]));
     }
-    cases.push((
-        drive,
-        2,
-        table.clone(),
-        7,
-        vec![0xA5; track + 1],
-        noise.clone(),
-    ));
-    cases.push((
-        drive,
-        2,
-        table.clone(),
-        7,
-        noise.clone(),
-        vec![0xA5; track - 1],
-    ));
+    cases.push((drive, 2, table.clone(), 7, vec![0xA5; track + 1], noise.clone()));
+    cases.push((drive, 2, table.clone(), 7, noise.clone(), vec![0xA5; track - 1]));
     for image in faulty_images().into_iter().skip(1) {
         // Block 7 lies on place 4, which is sector 3 of its track.
         let mut spare = noise.clone();
@@ -552,19 +462,8 @@ fn reads_in_order() {
         assert_eq!(number(judged), expected, "reading::judge");
         let part = reading::data(*drive, *r, table, *block, home, spare);
         assert_eq!(number(part), expected, "reading::data");
-        let read = Read {
-            shape: paper(*drive),
-            r: *r,
-            table,
-            block: *block,
-            home,
-            spare,
-        };
-        assert_eq!(
-            paper_number(model::image::spot(read)),
-            expected,
-            "the model's read"
-        );
+        let read = Read { shape: paper(*drive), r: *r, table, block: *block, home, spare };
+        assert_eq!(paper_number(model::image::spot(read)), expected, "the model's read");
     }
     assert_eq!(cases.len(), expected.len());
 }

@@ -32,11 +32,8 @@ fn page_write() {
     for seed in 0..SEEDS {
         let mut draw = Draw::of(seed);
         let (n, list) = draw.space();
-        let kind = if draw.one_in(16) {
-            draw.of_these(&[2, 255, 256, u32::MAX])
-        } else {
-            draw.below(2)
-        };
+        let kind =
+            if draw.one_in(16) { draw.of_these(&[2, 255, 256, u32::MAX]) } else { draw.below(2) };
         let length = draw.room_length(14 + 4 * list.len());
         let before = draw.byte_room(length);
         let (mut ours, mut theirs) = (before.clone(), before.clone());

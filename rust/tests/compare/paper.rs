@@ -31,21 +31,10 @@ fn three_bad_sectors_at_the_start() {
 
 #[test]
 fn the_night_of_twenty_sectors() {
-    let night = Drawn {
-        n: 20,
-        p: vec![3, 7],
-        g: vec![],
-        space: 3,
-        option: 1,
-        d: vec![3, 16],
-    };
+    let night = Drawn { n: 20, p: vec![3, 7], g: vec![], space: 3, option: 1, d: vec![3, 16] };
     let (mut grown, mut list) = ([0; 2], [0; 4]);
     let answer = formatted(&night, &mut grown, &mut list);
-    let expected = format::Formatted {
-        grown: 2,
-        list: 4,
-        space: 3,
-    };
+    let expected = format::Formatted { grown: 2, list: 4, space: 3 };
     assert_eq!(answer, Ok(expected));
     assert_eq!((grown, list), ([4, 18], [3, 4, 7, 18]));
     assert_eq!(skip::sector_of(20, &list, 15), Ok(19));
@@ -61,16 +50,9 @@ fn three_replacements() {
     let (mut ours, mut theirs) = ([0; 128], [0; 128]);
     ours[8..].fill(0x8000_0000);
     theirs[8..].fill(0x8000_0000);
-    for (block, place, word) in [
-        (7, 4, 0x2000_0007),
-        (8, 5, 0x3000_0008),
-        (6, 3, 0x3000_0006),
-    ] {
+    for (block, place, word) in [(7, 4, 0x2000_0007), (8, 5, 0x3000_0008), (6, 3, 0x3000_0006)] {
         assert_eq!(spares::replace(drive, 2, &mut ours, block), Ok(place));
-        assert_eq!(
-            model::spares::replace(paper(drive), 2, &mut theirs, block),
-            Ok(place)
-        );
+        assert_eq!(model::spares::replace(paper(drive), 2, &mut theirs, block), Ok(place));
         assert_eq!((ours[place as usize], theirs[place as usize]), (word, word));
     }
     assert_eq!(spares::shift(drive, 2, &ours, 6), Ok(-1));
@@ -99,19 +81,14 @@ fn the_codes() {
 
 #[test]
 fn the_whole_page() {
-    let bytes = [
-        0, 0, 0, 0x16, 1, 0, 0, 0, 0, 0x14, 0, 0, 0, 3, 0, 0, 0, 7, 0xFF, 0xFF, 0xFF, 0xFF,
-    ];
+    let bytes =
+        [0, 0, 0, 0x16, 1, 0, 0, 0, 0, 0x14, 0, 0, 0, 3, 0, 0, 0, 7, 0xFF, 0xFF, 0xFF, 0xFF];
     let mut room = [0; 22];
     assert_eq!(page::write(20, 0, &[3, 7], &mut room), Ok(22));
     assert_eq!(room, bytes);
     assert_eq!(model::page::bytes(20, 0, &[3, 7]), bytes);
     let mut list = [0; 2];
-    let read = page::Page {
-        kind: 0,
-        n: 20,
-        entries: 2,
-    };
+    let read = page::Page { kind: 0, n: 20, entries: 2 };
     assert_eq!(page::read(&bytes, &mut list), Ok(read));
     assert_eq!(list, [3, 7]);
 }

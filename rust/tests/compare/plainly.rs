@@ -18,10 +18,7 @@ fn plain_step() {
         let mut draw = Draw::of(seed);
         let (n, list) = draw.space();
         let drawn = any_cursor(&mut draw, n, &list);
-        let cursor = plain::Cursor {
-            block: drawn.block,
-            skipped: drawn.skipped,
-        };
+        let cursor = plain::Cursor { block: drawn.block, skipped: drawn.skipped };
         let pair = |cursor: plain::Cursor| (cursor.block, cursor.skipped);
         let plain = plain::step(cursor, n, &list)
             .map(|(sector, next)| (sector, pair(next)))
@@ -42,16 +39,8 @@ fn plain_spare_sector() {
         let mut draw = Draw::of(seed);
         let tabled = draw.any_tabled();
         let block = draw.near(tabled.drive.blocks());
-        let Shape {
-            cylinders,
-            heads,
-            sectors,
-        } = tabled.shape;
-        let shape = plain::Shape {
-            cylinders,
-            heads,
-            sectors,
-        };
+        let Shape { cylinders, heads, sectors } = tabled.shape;
+        let shape = plain::Shape { cylinders, heads, sectors };
         let plain = plain::spare_sector(shape, tabled.r, &tabled.table, block);
         let drive = paper(tabled.shape);
         let model = model::spares::sector_of(drive, tabled.r, &tabled.table, block);
@@ -70,11 +59,7 @@ fn plain_judge() {
         let block = draw.any_block();
         let mut image = draw.any_image(block);
         draw.any_length(&mut image, 10);
-        let asked = if draw.one_in(8) {
-            draw.any_block()
-        } else {
-            block
-        };
+        let asked = if draw.one_in(8) { draw.any_block() } else { block };
         let plain = plain::judge(&image, asked);
         tally.same_numbers(seed, plain, model::image::judge(&image, asked));
     }
@@ -146,13 +131,7 @@ fn plain_format() {
         let model = model::format::format(night.lent(), their_grown.lent(), their_list.lent());
         let (grown_written, list_written, _) = model.unwrap_or((0, 0, 0));
         tally.same_numbers(seed, plain, model);
-        tally.same_room(
-            seed,
-            &grown,
-            &our_grown,
-            &their_grown,
-            grown_written as usize,
-        );
+        tally.same_room(seed, &grown, &our_grown, &their_grown, grown_written as usize);
         tally.same_room(seed, &list, &our_list, &their_list, list_written as usize);
     }
     tally.saw(&[0, 1, 2, 3, 4, 7, 10]);

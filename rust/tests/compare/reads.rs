@@ -40,16 +40,9 @@ fn any_read(draw: &mut Draw) -> Drawn {
     let place = drive.place_of(&tabled.table, block).unwrap_or(0);
     let track = drive.shape.s as usize * 530;
     let (mut home, mut spare) = (draw.bytes(track), draw.bytes(track));
-    let on_home = if draw.one_in(12) {
-        draw.below(drive.shape.s)
-    } else {
-        block % drive.l
-    };
-    let on_spare = if draw.one_in(12) {
-        draw.below(drive.shape.s)
-    } else {
-        drive.l + place % drive.r
-    };
+    let on_home = if draw.one_in(12) { draw.below(drive.shape.s) } else { block % drive.l };
+    let on_spare =
+        if draw.one_in(12) { draw.below(drive.shape.s) } else { drive.l + place % drive.r };
     for (image, sector) in [(&mut home, on_home), (&mut spare, on_spare)] {
         let start = sector as usize * 530;
         image[start..start + 530].copy_from_slice(&draw.any_image(block));
@@ -59,12 +52,7 @@ fn any_read(draw: &mut Draw) -> Drawn {
     }
     draw.any_length(&mut home, 20);
     draw.any_length(&mut spare, 20);
-    Drawn {
-        tabled,
-        block,
-        home,
-        spare,
-    }
+    Drawn { tabled, block, home, spare }
 }
 
 #[test]
@@ -72,12 +60,7 @@ fn reading_judge() {
     let mut tally = Tally::of("reading::judge");
     for seed in 0..SEEDS {
         let read = any_read(&mut Draw::of(seed));
-        let Drawn {
-            tabled,
-            block,
-            home,
-            spare,
-        } = &read;
+        let Drawn { tabled, block, home, spare } = &read;
         let library = reading::judge(tabled.shape, tabled.r, &tabled.table, *block, home, spare);
         tally.same(seed, library, model::image::judge_read(read.paper()));
     }
@@ -91,12 +74,7 @@ fn reading_spot_and_data() {
     let (mut at_home, mut on_spare) = (0, 0);
     for seed in 0..SEEDS {
         let read = any_read(&mut Draw::of(seed));
-        let Drawn {
-            tabled,
-            block,
-            home,
-            spare,
-        } = &read;
+        let Drawn { tabled, block, home, spare } = &read;
         let (shape, r, table) = (tabled.shape, tabled.r, &tabled.table);
         let library = reading::spot(shape, r, table, *block, home, spare).map(|spot| {
             let image = match spot.track {
@@ -120,8 +98,5 @@ fn reading_spot_and_data() {
     }
     tally.saw(&[0, 1, 5, 11, 14, 15, 16, 17, 18]);
     parts.saw(&[0, 1, 5, 11, 14, 15, 16, 17, 18]);
-    assert!(
-        at_home > 1_000 && on_spare > 1_000,
-        "{at_home} at home, {on_spare} on spares"
-    );
+    assert!(at_home > 1_000 && on_spare > 1_000, "{at_home} at home, {on_spare} on spares");
 }

@@ -17,15 +17,9 @@ fn lend<T: Copy + PartialEq>(
 ) {
     let mut room = before.clone();
     assert_eq!(call(room.lent()), expected, "{case}");
-    assert!(
-        room.kept(before, written),
-        "{case}: bytes outside the result changed"
-    );
+    assert!(room.kept(before, written), "{case}: bytes outside the result changed");
     if written > 0 {
-        assert!(
-            !room.kept(before, written - 1),
-            "{case}: the result was not written"
-        );
+        assert!(!room.kept(before, written - 1), "{case}: the result was not written");
     }
 }
 
@@ -49,9 +43,7 @@ fn rooms_of_a_page_that_is_read() {
     for (case, page, length, expected) in cases {
         let before = draw.word_room(length);
         let written = if expected.is_ok() { 2 } else { 0 };
-        lend(case, &before, written, expected, |room| {
-            page::read(&page, room).map(|_| ())
-        });
+        lend(case, &before, written, expected, |room| page::read(&page, room).map(|_| ()));
     }
 }
 
@@ -98,14 +90,8 @@ fn both_rooms_of_a_night() {
         let answer = format::format(n, &[3, 7], &[], 3, option, d, grown.lent(), list.lent());
         assert_eq!(answer.map(|_| ()), expected, "format::format");
         let [grown_written, list_written] = if expected.is_ok() { [2, 4] } else { [0, 0] };
-        assert!(
-            grown.kept(&before_grown, grown_written),
-            "format::format, {expected:?}"
-        );
-        assert!(
-            list.kept(&before_list, list_written),
-            "format::format, {expected:?}"
-        );
+        assert!(grown.kept(&before_grown, grown_written), "format::format, {expected:?}");
+        assert!(list.kept(&before_list, list_written), "format::format, {expected:?}");
     }
 }
 
@@ -124,10 +110,7 @@ fn the_table_of_a_replacement() {
     let drive = shape(2, 2, 5);
     let proper = table(&mut draw);
     let mut full = proper.clone();
-    full.lent()
-        .iter_mut()
-        .filter(|word| **word == 0)
-        .for_each(|word| *word = 0x4000_0000);
+    full.lent().iter_mut().filter(|word| **word == 0).for_each(|word| *word = 0x4000_0000);
     let mut broken = proper.clone();
     broken.lent()[0] = 1;
     let cases = [
@@ -159,12 +142,7 @@ fn the_room_of_a_first_table() {
         (2, &[1, 1], 140, Err(Refusal::NotRising)),
         (2, &[20], 140, Err(Refusal::Outside)),
         (2, &[0], 127, Err(Refusal::NoRoom)),
-        (
-            2,
-            &[0, 1, 2, 5, 6, 7, 10, 11, 12],
-            140,
-            Err(Refusal::NoSpare),
-        ),
+        (2, &[0, 1, 2, 5, 6, 7, 10, 11, 12], 140, Err(Refusal::NoSpare)),
         (2, &[0], 140, Ok(())),
     ];
     for (r, list, length, expected) in cases {

@@ -45,10 +45,7 @@ fn skip_block_on() {
         tally.same(seed, library, skipping::block_on(n, &list, sector));
     }
     tally.saw(&[0, 1, 2, 3, 4, 6]);
-    assert!(
-        blocks > 1_000 && none > 1_000,
-        "{blocks} blocks, {none} times none"
-    );
+    assert!(blocks > 1_000 && none > 1_000, "{blocks} blocks, {none} times none");
 }
 
 #[test]
@@ -99,11 +96,7 @@ fn cursor_walks_to_the_end() {
         let list = draw.list(n);
         let blocks = n - list.len() as u32;
         if blocks == 0 {
-            assert_eq!(
-                Cursor::start(n, &list, 0),
-                Err(Refusal::NoSuchBlock),
-                "seed {seed}"
-            );
+            assert_eq!(Cursor::start(n, &list, 0), Err(Refusal::NoSuchBlock), "seed {seed}");
             continue;
         }
         let first = draw.below(blocks);
@@ -131,11 +124,7 @@ fn shape_sector_of() {
         let shape = draw.any_shape(shape);
         let (cylinder, head, sector) = address;
         let library = shape::sector_of(shape, cylinder, head, sector);
-        tally.same(
-            seed,
-            library,
-            model::shape::sector_of(paper(shape), address),
-        );
+        tally.same(seed, library, model::shape::sector_of(paper(shape), address));
     }
     tally.saw(&[0, 1, 6]);
 }
@@ -149,11 +138,7 @@ fn shape_address_of() {
         let sector = draw.near(shape.cylinders * shape.heads * shape.sectors);
         let shape = draw.any_shape(shape);
         let library = shape::address_of(shape, sector).map(numbers);
-        tally.same(
-            seed,
-            library,
-            model::shape::address_of(paper(shape), sector),
-        );
+        tally.same(seed, library, model::shape::address_of(paper(shape), sector));
     }
     tally.saw(&[0, 1, 6]);
 }
@@ -169,11 +154,7 @@ fn skipped_address_of() {
         let block = draw.near(n.saturating_sub(list.len() as u32));
         let shape = draw.any_shape(shape);
         let library = skipped::address_of(shape, &list, block).map(numbers);
-        tally.same(
-            seed,
-            library,
-            skipping::address_of(paper(shape), &list, block),
-        );
+        tally.same(seed, library, skipping::address_of(paper(shape), &list, block));
     }
     tally.saw(&[0, 1, 2, 3, 4, 5]);
 }
@@ -192,17 +173,10 @@ fn skipped_block_at() {
         let library = skipped::block_at(shape, &list, cylinder, head, sector);
         blocks += u32::from(matches!(library, Ok(Some(_))));
         none += u32::from(library == Ok(None));
-        tally.same(
-            seed,
-            library,
-            skipping::block_at(paper(shape), &list, address),
-        );
+        tally.same(seed, library, skipping::block_at(paper(shape), &list, address));
     }
     tally.saw(&[0, 1, 2, 3, 4, 6]);
-    assert!(
-        blocks > 1_000 && none > 1_000,
-        "{blocks} blocks, {none} times none"
-    );
+    assert!(blocks > 1_000 && none > 1_000, "{blocks} blocks, {none} times none");
 }
 
 /// Both sides step, and a refused step hands the cursor back.
@@ -214,9 +188,7 @@ fn same_step(tally: &mut Tally, seed: u64, cursor: Cursor, n: u32, list: &[u32])
     }
     tally.same(
         seed,
-        library
-            .map(|(sector, next)| (sector, pair(next)))
-            .map_err(|(refusal, _)| refusal),
+        library.map(|(sector, next)| (sector, pair(next))).map_err(|(refusal, _)| refusal),
         model.map_err(|(number, _)| number),
     );
 }
@@ -228,33 +200,18 @@ fn pair(cursor: Cursor) -> skipping::Cursor {
 /// A cursor of the list, also the one after its last block, or one that strays.
 pub fn any_cursor(draw: &mut Draw, n: u32, list: &[u32]) -> Cursor {
     if check_size(n).is_err() || check_list(n, list).is_err() {
-        return Cursor {
-            block: draw.below(8),
-            skipped: draw.below(3),
-        };
+        return Cursor { block: draw.below(8), skipped: draw.below(3) };
     }
     let blocks = skipping::blocks(n, list);
-    let block = if draw.one_in(8) {
-        blocks
-    } else {
-        draw.below(blocks + 1)
-    };
-    let mut cursor = Cursor {
-        block,
-        skipped: skipping::count(n, list, block),
-    };
+    let block = if draw.one_in(8) { blocks } else { draw.below(blocks + 1) };
+    let mut cursor = Cursor { block, skipped: skipping::count(n, list, block) };
     match draw.below(12) {
         0 => cursor.skipped = cursor.skipped.wrapping_add(1),
         1 => cursor.skipped = cursor.skipped.wrapping_sub(1),
         2 => cursor.skipped = draw.below(list.len() as u32 + 2),
         3 => cursor.block = cursor.block.wrapping_add(1),
         4 => cursor.block = draw.near(blocks),
-        5 => {
-            cursor = Cursor {
-                block: draw.any(),
-                skipped: draw.any(),
-            }
-        }
+        5 => cursor = Cursor { block: draw.any(), skipped: draw.any() },
         // As many as lie below the block itself, not below the one before.
         6 if block < blocks => cursor.skipped = skipping::count(n, list, block + 1),
         _ => {}

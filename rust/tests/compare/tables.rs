@@ -20,11 +20,7 @@ fn spares_sector_of() {
         let block = draw.near(tabled.drive.blocks());
         let (shape, r, table) = (tabled.shape, tabled.r, &tabled.table);
         let library = spares::sector_of(shape, r, table, block);
-        tally.same(
-            seed,
-            library,
-            model::spares::sector_of(paper(shape), r, table, block),
-        );
+        tally.same(seed, library, model::spares::sector_of(paper(shape), r, table, block));
     }
     tally.saw(&[0, 1, 5, 11]);
 }
@@ -38,11 +34,7 @@ fn spares_address_of() {
         let block = draw.near(tabled.drive.blocks());
         let (shape, r, table) = (tabled.shape, tabled.r, &tabled.table);
         let library = spares::address_of(shape, r, table, block).map(numbers);
-        tally.same(
-            seed,
-            library,
-            model::spares::address_of(paper(shape), r, table, block),
-        );
+        tally.same(seed, library, model::spares::address_of(paper(shape), r, table, block));
     }
     tally.saw(&[0, 1, 5, 11]);
 }
@@ -59,17 +51,10 @@ fn spares_shift() {
         let library = spares::shift(shape, r, table, block);
         toward += u32::from(library.is_ok_and(|shift| shift < 0));
         away += u32::from(library.is_ok_and(|shift| shift > 0));
-        tally.same(
-            seed,
-            library,
-            model::spares::shift(paper(shape), r, table, block),
-        );
+        tally.same(seed, library, model::spares::shift(paper(shape), r, table, block));
     }
     tally.saw(&[0, 1, 5, 11]);
-    assert!(
-        toward > 200 && away > 200,
-        "{toward} negative, {away} positive"
-    );
+    assert!(toward > 200 && away > 200, "{toward} negative, {away} positive");
 }
 
 #[test]
@@ -84,17 +69,10 @@ fn spares_block_on() {
         let library = spares::block_on(shape, r, table, sector);
         blocks += u32::from(matches!(library, Ok(Some(_))));
         none += u32::from(library == Ok(None));
-        tally.same(
-            seed,
-            library,
-            model::spares::block_on(paper(shape), r, table, sector),
-        );
+        tally.same(seed, library, model::spares::block_on(paper(shape), r, table, sector));
     }
     tally.saw(&[0, 1, 6, 11]);
-    assert!(
-        blocks > 1_000 && none > 1_000,
-        "{blocks} blocks, {none} times none"
-    );
+    assert!(blocks > 1_000 && none > 1_000, "{blocks} blocks, {none} times none");
 }
 
 #[test]
@@ -110,17 +88,10 @@ fn spares_block_at() {
         let library = spares::block_at(shape, r, table, cylinder, head, sector);
         blocks += u32::from(matches!(library, Ok(Some(_))));
         none += u32::from(library == Ok(None));
-        tally.same(
-            seed,
-            library,
-            model::spares::block_at(paper(shape), r, table, address),
-        );
+        tally.same(seed, library, model::spares::block_at(paper(shape), r, table, address));
     }
     tally.saw(&[0, 1, 6, 11]);
-    assert!(
-        blocks > 1_000 && none > 1_000,
-        "{blocks} blocks, {none} times none"
-    );
+    assert!(blocks > 1_000 && none > 1_000, "{blocks} blocks, {none} times none");
 }
 
 #[test]
@@ -135,16 +106,10 @@ fn spares_replace() {
         let library = spares::replace(shape, r, &mut ours, block);
         let model = model::spares::replace(paper(shape), r, &mut theirs, block);
         tally.same(seed, library, model);
-        assert_eq!(
-            ours, theirs,
-            "spares::replace: another table at seed {seed}"
-        );
+        assert_eq!(ours, theirs, "spares::replace: another table at seed {seed}");
         let altered = (0..ours.len()).filter(|place| ours[*place] != tabled.table[*place]);
         let expected = library.ok().map(|place| place as usize);
-        assert!(
-            altered.eq(expected),
-            "spares::replace: another place altered at seed {seed}"
-        );
+        assert!(altered.eq(expected), "spares::replace: another place altered at seed {seed}");
     }
     tally.saw(&[0, 1, 5, 11, 12, 13]);
 }
@@ -156,15 +121,8 @@ fn spares_census() {
         let mut draw = Draw::of(seed);
         let tabled = draw.any_tabled();
         let (shape, r, table) = (tabled.shape, tabled.r, &tabled.table);
-        let library = spares::census(shape, r, table).map(|count| {
-            [
-                count.free,
-                count.primary,
-                count.elsewhere,
-                count.unusable,
-                count.null,
-            ]
-        });
+        let library = spares::census(shape, r, table)
+            .map(|count| [count.free, count.primary, count.elsewhere, count.unusable, count.null]);
         tally.same(seed, library, model::spares::census(paper(shape), r, table));
     }
     tally.saw(&[0, 1, 11]);

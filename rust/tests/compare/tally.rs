@@ -16,11 +16,7 @@ pub struct Tally {
 
 impl Tally {
     pub fn of(call: &'static str) -> Tally {
-        Tally {
-            call,
-            library: BTreeMap::new(),
-            model: BTreeMap::new(),
-        }
+        Tally { call, library: BTreeMap::new(), model: BTreeMap::new() }
     }
 
     /// Counts one input's answers, which must be the same.
@@ -76,11 +72,7 @@ impl Tally {
         println!("{}: {inputs} inputs, answers {:?}", self.call, self.library);
         for (side, seen) in [("library", &self.library), ("model", &self.model)] {
             let given: Vec<u32> = seen.keys().copied().collect();
-            assert_eq!(
-                given, numbers,
-                "{}: numbers that the {side} gave",
-                self.call
-            );
+            assert_eq!(given, numbers, "{}: numbers that the {side} gave", self.call);
         }
     }
 }
