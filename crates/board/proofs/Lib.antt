@@ -1,1 +1,4 @@
 pub mod Leaving
+pub mod Refused
+pub mod Determined
+pub mod Said

@@ -3,9 +3,9 @@ use Prim.Native.Nat.{ℕ, suc, _+_}
 use mathlib.Core.Path.{_≡_}
 use mathlib.Core.Bool.{Bool}
 use mathlib.Core.List.{List}
-use lib.IntN.{ℤ, pos}
+use lib.IntN.{pos}
 use lib.ListN.{length}
-use Rattle.paper.specs.Checks.{pick, answer}
+use Rattle.paper.specs.Checks.{answer}
 use Rattle.paper.specs.Limits.{dataSize, imageExtra}
 use Rattle.paper.specs.Answers.{saidNamed}
 use Rattle.paper.specs.declared.Named.{Named}
@@ -59,119 +59,142 @@ nowhere = record { cylinder = 0; head = 0; sector = 0 }
 abbrev pub foundAs : Named → ℕ × ℕ
 foundAs named = (saidNamed named .1, saidNamed named .2)
 
+-- the sector that a block lies on
 abbrev pub SkipSector : ℕ → List ℕ → ℕ → TbPlaced → Type 0
 SkipSector n list block r = Leaves (blockFault n list block) 0 (place (isIn list) n block) (r .refusal) (r .sector)
 
+-- the block that lies on a sector, or none
 abbrev pub SkipBlock : ℕ → List ℕ → ℕ → TbNamed → Type 0
 SkipBlock n list sector r =
     Leaves {Rest = ℕ × ℕ} (sectorFault n list sector) (0, 0) (foundAs (blockOn list sector)) (r .refusal) (r .found, r .block)
 
+-- a job that opens at a block: the cursor whose next block it is
 abbrev pub JobStart : ℕ → List ℕ → ℕ → TbJob → Type 0
 JobStart n list block r =
     Leaves {Rest = ℕ × Cursor} (blockFault n list block) (0, noCursor) (0, cursorAt n list block) (r .refusal) (r .sector, r .next)
 
+-- a cursor of this list, handed back as it is
 abbrev pub JobCheck : Cursor → ℕ → List ℕ → TbJob → Type 0
 JobCheck cursor n list r =
     Leaves {Rest = ℕ × Cursor} (cursorFault n list cursor) (0, noCursor) (0, cursor) (r .refusal) (r .sector, r .next)
 
--- a refused step hands back the cursor it was given
+-- the sector of the cursor's block and the cursor for the block after it; a refused step hands back the cursor it was given
 abbrev pub JobStep : Cursor → ℕ → List ℕ → TbJob → Type 0
 JobStep cursor n list r =
     Leaves {Rest = ℕ × Cursor} (stepFault n list cursor) (0, cursor)
     (place (isIn list) n (cursor .block), cursorAt n list (suc (cursor .block)))
     (r .refusal) (r .sector, r .next)
 
+-- the sector number of cylinder, head and sector
 abbrev pub ShapeSector : Shape → ℕ → ℕ → ℕ → TbPlaced → Type 0
 ShapeSector shape cylinder head sector r =
     Leaves (addressFault shape cylinder head sector) 0 (sectorAt shape cylinder head sector) (r .refusal) (r .sector)
 
+-- cylinder, head and sector of a sector number
 abbrev pub ShapeAddress : Shape → ℕ → TbLocated → Type 0
 ShapeAddress shape sector r = Leaves (shapeSectorFault shape sector) nowhere (addressAt shape sector) (r .refusal) (r .address)
 
+-- the address that a block of a skipped drive lies at
 abbrev pub SkippedAddress : Shape → List ℕ → ℕ → TbLocated → Type 0
 SkippedAddress shape list block r =
     Leaves (skippedBlockFault shape list block) nowhere (addressAt shape (place (isIn list) (sizeOf shape) block)) (r .refusal) (r .address)
 
+-- the block that lies at an address of a skipped drive, or none
 abbrev pub SkippedBlock : Shape → List ℕ → ℕ → ℕ → ℕ → TbNamed → Type 0
 SkippedBlock shape list cylinder head sector r =
     Leaves {Rest = ℕ × ℕ} (placeFault shape list cylinder head sector) (0, 0)
     (foundAs (blockOn list (sectorAt shape cylinder head sector)))
     (r .refusal) (r .found, r .block)
 
+-- kind, N and the number of entries of a page, and the room with the entries in its first places
 abbrev pub PageRead : List ℕ → List ℕ → TbPaged → List ℕ → Type 0
 PageRead page room r after =
     Leaves {Rest = (ℕ × ℕ × ℕ) × List ℕ} (pageFault page room) ((0, 0, 0), room)
     ((kindOf page, unitsOf page, length (entriesOf page)), written (entriesOf page) room)
     (r .refusal) ((r .kind, r .n, r .entries), after)
 
+-- the length of a page, and the room with the page in its first places
 abbrev pub PageWrite : ℕ → ℕ → List ℕ → List ℕ → TbWritten → List ℕ → Type 0
 PageWrite n kind list room r after =
     Leaves {Rest = ℕ × List ℕ} (pageWriteFault n kind list room) (0, room)
     (pageLength (length list), written (pageBytes n kind list) room)
     (r .refusal) (r .length, after)
 
+-- the lengths of the new grown list and of the new list, the new space, and both rooms with their lists in their first places
 abbrev pub Format : ℕ → List ℕ → List ℕ → ℕ → ℕ → List ℕ → List ℕ → List ℕ → TbFormatted → List ℕ → List ℕ → Type 0
 Format n p g space option d grown list r grownAfter listAfter =
     Leaves {Rest = ((ℕ × ℕ × ℕ) × List ℕ) × List ℕ} (formatFault n p g space option d grown list) (((0, 0, 0), grown), list)
     (((length (newGrown n p g space option d), length (newList n p g space option d), newSpace space option), written (newGrown n p g space option d) grown), written (newList n p g space option d) list)
     (r .refusal) (((r .grown, r .list, r .space), grownAfter), listAfter)
 
+-- the sector that a block of a revectored drive lies on
 abbrev pub SpareSector : Shape → ℕ → List ℕ → ℕ → TbPlaced → Type 0
 SpareSector shape r table block p =
     Leaves (spareBlockFault shape r table block) 0 (liesOn (layoutOf shape r) table block) (p .refusal) (p .sector)
 
+-- the address that it lies at
 abbrev pub SpareAddress : Shape → ℕ → List ℕ → ℕ → TbLocated → Type 0
 SpareAddress shape r table block p =
     Leaves (spareBlockFault shape r table block) nowhere (addressAt shape (liesOn (layoutOf shape r) table block)) (p .refusal) (p .address)
 
+-- the signed number of cylinders from its home to its spare
 abbrev pub SpareShift : Shape → ℕ → List ℕ → ℕ → TbShifted → Type 0
 SpareShift shape r table block p =
     Leaves (spareBlockFault shape r table block) (pos 0) (shiftOf (layoutOf shape r) table block) (p .refusal) (p .shift)
 
+-- the block that lies on a sector of a revectored drive, or none
 abbrev pub SpareBlock : Shape → ℕ → List ℕ → ℕ → TbNamed → Type 0
 SpareBlock shape r table sector p =
     Leaves {Rest = ℕ × ℕ} (blockOnFault shape r table sector) (0, 0) (foundAs (lyingOn (layoutOf shape r) table sector)) (p .refusal) (p .found, p .block)
 
+-- the block that lies at an address of it, or none
 abbrev pub SpareBlockAt : Shape → ℕ → List ℕ → ℕ → ℕ → ℕ → TbNamed → Type 0
 SpareBlockAt shape r table cylinder head sector p =
     Leaves {Rest = ℕ × ℕ} (blockAtFault shape r table cylinder head sector) (0, 0)
     (foundAs (lyingOn (layoutOf shape r) table (sectorAt shape cylinder head sector)))
     (p .refusal) (p .found, p .block)
 
+-- the place that a replacement takes, and the table with the block's descriptor there
 abbrev pub SpareReplace : Shape → ℕ → List ℕ → ℕ → TbReplaced → List ℕ → Type 0
 SpareReplace shape r table block p after =
     Leaves {Rest = ℕ × List ℕ} (replaceFault shape r table block) (0, table)
     (spareFor (layoutOf shape r) table block, replacedIn (layoutOf shape r) table block)
     (p .refusal) (p .place, after)
 
+-- how many places of a table have each code
 abbrev pub SpareCensus : Shape → ℕ → List ℕ → TbCounted → Type 0
 SpareCensus shape r table p =
     Leaves {Rest = ℕ × ℕ × ℕ × ℕ × ℕ} (tableFault shape r table) (0, 0, 0, 0, 0)
     (censusOf table .free, censusOf table .primary, censusOf table .elsewhere, censusOf table .unusable, censusOf table .null)
     (p .refusal) (p .free, p .primary, p .elsewhere, p .unusable, p .null)
 
+-- the length of a first table, and the room with the table in its first places
 abbrev pub SpareFirst : Shape → ℕ → List ℕ → List ℕ → TbWritten → List ℕ → Type 0
 SpareFirst shape r list room w after =
     Leaves {Rest = ℕ × List ℕ} (firstFault shape r list room) (0, room)
     (tableLength (layoutOf shape r), written (firstTable (layoutOf shape r) list) room)
     (w .refusal) (w .length, after)
 
+-- the length of an image, and the room with the image in its first places
 abbrev pub ImageWrite : ℕ → List ℕ → Bool → List ℕ → TbWritten → List ℕ → Type 0
 ImageWrite block bytes forced room r after =
     Leaves {Rest = ℕ × List ℕ} (writeFault dataSize bytes room) (0, room)
     (dataSize + imageExtra, imageIn block bytes forced room)
     (r .refusal) (r .length, after)
 
+-- the number that a header carries
 abbrev pub ImageHeader : List ℕ → TbHeaded → Type 0
 ImageHeader image r = Leaves (headerFault dataSize image) 0 (headerOf image) (r .refusal) (r .block)
 
+-- the verdict on an image: a refusal is all that it says
 abbrev pub ImageJudge : List ℕ → ℕ → TbJudged → Type 0
 ImageJudge image block r = r .refusal ≡ imageFault dataSize image block
 
+-- the verdict on a block of a revectored drive, from two track images
 abbrev pub ReadJudge : Shape → ℕ → List ℕ → ℕ → List ℕ → List ℕ → TbJudged → Type 0
 ReadJudge shape r table block home spare v = v .refusal ≡ readFault dataSize shape r table block home spare
 
--- image 0 is that of the home track, 1 the second one
+-- where its data begins: in image 0, that of the home track, or in image 1, the second one, and how far inside it
 abbrev pub ReadData : Shape → ℕ → List ℕ → ℕ → List ℕ → List ℕ → TbSpotted → Type 0
 ReadData shape r table block home spare s =
     Leaves {Rest = ℕ × ℕ} (readFault dataSize shape r table block home spare) (0, 0)

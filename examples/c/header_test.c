@@ -1,0 +1,395 @@
+/* Holds include/tautberry.h to libboard.a by what the calls do: the size and the fields of each struct, each limit at its last number and one
+ * beyond, each refusal number, and NULL for each slice of length 0. It is compiled as C and as C++. It returns 1 if anything differs. */
+#include <inttypes.h>
+#include <stdio.h>
+#include <string.h>
+
+#include "tautberry.h"
+
+static uint32_t facts = 0;
+static uint32_t wrong = 0;
+
+static void same(const char *what, uint32_t got, uint32_t expected)
+{
+    facts++;
+    if (got != expected) {
+        wrong++;
+        printf("%s: %" PRIu32 ", and not %" PRIu32 "\n", what, got, expected);
+    }
+}
+
+/* One entry more than a list may have, each entry its own place. */
+static uint32_t places[TB_LIST_MOST + 1];
+
+/* Room for any list, page, table or track that is tried. */
+static uint32_t words[TB_LIST_MOST + 1];
+static uint32_t more_words[TB_LIST_MOST + 1];
+static uint8_t page[TB_PAGE_MOST + TB_ENTRY_SIZE];
+static uint8_t home[TB_TRACK_LENGTH(5) + 1];
+static uint8_t spare[TB_TRACK_LENGTH(5) + 1];
+static uint8_t data[TB_DATA_SIZE + 1];
+static uint8_t image[TB_IMAGE_SIZE + 1];
+
+static tb_shape shaped(uint32_t cylinders, uint32_t heads, uint32_t sectors)
+{
+    tb_shape shape;
+    shape.cylinders = cylinders;
+    shape.heads = heads;
+    shape.sectors = sectors;
+    return shape;
+}
+
+static tb_cursor cursor_at(uint32_t block, uint32_t skipped)
+{
+    tb_cursor cursor;
+    cursor.block = block;
+    cursor.skipped = skipped;
+    return cursor;
+}
+
+static uint32_t format(uint32_t space, uint32_t option, size_t d_length)
+{
+    return tb_format(20, places, 2, places, 1, space, option, places, d_length, words, 9, more_words, 9).refusal;
+}
+
+static void sizes(void)
+{
+    same("sizeof (tb_shape)", sizeof(tb_shape), 12);
+    same("sizeof (tb_address)", sizeof(tb_address), 12);
+    same("sizeof (tb_cursor)", sizeof(tb_cursor), 8);
+    same("sizeof (tb_placed)", sizeof(tb_placed), 8);
+    same("sizeof (tb_named)", sizeof(tb_named), 12);
+    same("sizeof (tb_job)", sizeof(tb_job), 16);
+    same("sizeof (tb_located)", sizeof(tb_located), 16);
+    same("sizeof (tb_paged)", sizeof(tb_paged), 16);
+    same("sizeof (tb_written)", sizeof(tb_written), 8);
+    same("sizeof (tb_formatted)", sizeof(tb_formatted), 16);
+    same("sizeof (tb_shifted)", sizeof(tb_shifted), 8);
+    same("sizeof (tb_replaced)", sizeof(tb_replaced), 8);
+    same("sizeof (tb_counted)", sizeof(tb_counted), 24);
+    same("sizeof (tb_headed)", sizeof(tb_headed), 8);
+    same("sizeof (tb_judged)", sizeof(tb_judged), 4);
+    same("sizeof (tb_spotted)", sizeof(tb_spotted), 12);
+}
+
+/* Each field of each struct, by an answer in which no two numbers are alike. */
+static void fields(void)
+{
+    const uint32_t list[4] = {3, 7, 60, 61};
+    const tb_shape shape = shaped(2, 2, 5);
+
+    tb_placed placed = tb_skip_sector(848, list, 4, 58);
+    same("tb_skip_sector refusal", placed.refusal, TB_ACCEPTED);
+    same("tb_skip_sector sector", placed.sector, 62);
+    tb_named named = tb_skip_block(848, list, 4, 62);
+    same("tb_skip_block refusal", named.refusal, TB_ACCEPTED);
+    same("tb_skip_block found", named.found, 1);
+    same("tb_skip_block block", named.block, 58);
+    named = tb_skip_block(848, list, 4, 61);
+    same("tb_skip_block refusal, no block", named.refusal, TB_ACCEPTED);
+    same("tb_skip_block found, no block", named.found, 0);
+    same("tb_skip_block block, no block", named.block, 0);
+
+    tb_job job = tb_job_start(848, list, 4, 58);
+    same("tb_job_start refusal", job.refusal, TB_ACCEPTED);
+    same("tb_job_start sector", job.sector, 0);
+    same("tb_job_start next.block", job.next.block, 58);
+    same("tb_job_start next.skipped", job.next.skipped, 2);
+    job = tb_job_check(job.next, 848, list, 4);
+    same("tb_job_check refusal", job.refusal, TB_ACCEPTED);
+    same("tb_job_check sector", job.sector, 0);
+    same("tb_job_check next.block", job.next.block, 58);
+    same("tb_job_check next.skipped", job.next.skipped, 2);
+    job = tb_job_step(job.next, 848, list, 4);
+    same("tb_job_step refusal", job.refusal, TB_ACCEPTED);
+    same("tb_job_step sector", job.sector, 62);
+    same("tb_job_step next.block", job.next.block, 59);
+    same("tb_job_step next.skipped", job.next.skipped, 4);
+    job = tb_job_step(cursor_at(58, 3), 848, list, 4);
+    same("tb_job_step refused", job.refusal, TB_STRAY_CURSOR);
+    same("tb_job_step sector, refused", job.sector, 0);
+    same("tb_job_step next.block, refused", job.next.block, 58);
+    same("tb_job_step next.skipped, refused", job.next.skipped, 3);
+    job = tb_job_check(cursor_at(58, 3), 848, list, 4);
+    same("tb_job_check refused", job.refusal, TB_STRAY_CURSOR);
+    same("tb_job_check next.block, refused", job.next.block, 0);
+    same("tb_job_check next.skipped, refused", job.next.skipped, 0);
+
+    same("tb_shape_sector", tb_shape_sector(shaped(9, 7, 5), 8, 6, 4).sector, (8 * 7 + 6) * 5 + 4);
+    tb_located located = tb_shape_address(shaped(9, 7, 5), (8 * 7 + 6) * 5 + 4);
+    same("tb_shape_address refusal", located.refusal, TB_ACCEPTED);
+    same("tb_shape_address cylinder", located.address.cylinder, 8);
+    same("tb_shape_address head", located.address.head, 6);
+    same("tb_shape_address sector", located.address.sector, 4);
+    located = tb_skipped_address(shape, list, 2, 9);
+    same("tb_skipped_address cylinder", located.address.cylinder, 1);
+    same("tb_skipped_address head", located.address.head, 0);
+    same("tb_skipped_address sector", located.address.sector, 1);
+    named = tb_skipped_block(shape, list, 2, 1, 0, 1);
+    same("tb_skipped_block found", named.found, 1);
+    same("tb_skipped_block block", named.block, 9);
+
+    tb_written written = tb_page_write(20, 1, list, 2, page, sizeof page);
+    same("tb_page_write refusal", written.refusal, TB_ACCEPTED);
+    same("tb_page_write length", written.length, 22);
+    tb_paged paged = tb_page_read(page, 22, words, 2);
+    same("tb_page_read refusal", paged.refusal, TB_ACCEPTED);
+    same("tb_page_read kind", paged.kind, 1);
+    same("tb_page_read n", paged.n, 20);
+    same("tb_page_read entries", paged.entries, 2);
+    same("tb_page_read first entry", words[0], 3);
+    same("tb_page_read second entry", words[1], 7);
+
+    const uint32_t scan[2] = {3, 16};
+    tb_formatted formatted = tb_format(20, list, 2, NULL, 0, 3, 1, scan, 2, words, 2, more_words, 4);
+    same("tb_format refusal", formatted.refusal, TB_ACCEPTED);
+    same("tb_format grown", formatted.grown, 2);
+    same("tb_format list", formatted.list, 4);
+    same("tb_format space", formatted.space, 3);
+    same("tb_format first grown", words[0], 4);
+    same("tb_format last grown", words[1], 18);
+    same("tb_format first of the list", more_words[0], 3);
+    same("tb_format last of the list", more_words[3], 18);
+
+    /* Sectors 3 and 8 are spares; blocks 7, 8 and 6 are replaced on top of them. */
+    const uint32_t bad[2] = {3, 8};
+    written = tb_spare_first(shape, 2, bad, 2, words, 128);
+    same("tb_spare_first refusal", written.refusal, TB_ACCEPTED);
+    same("tb_spare_first length", written.length, 128);
+    tb_replaced replaced = tb_spare_replace(shape, 2, words, 128, 7);
+    same("tb_spare_replace refusal", replaced.refusal, TB_ACCEPTED);
+    same("tb_spare_replace place", replaced.place, 4);
+    same("tb_spare_replace descriptor", words[4], 0x20000007);
+    same("tb_spare_replace elsewhere", tb_spare_replace(shape, 2, words, 128, 8).place, 5);
+    same("tb_spare_replace farther", tb_spare_replace(shape, 2, words, 128, 6).place, 3);
+    same("tb_spare_replace last", tb_spare_replace(shape, 2, words, 128, 0).place, 1);
+    tb_counted counted = tb_spare_census(shape, 2, words, 128);
+    same("tb_spare_census refusal", counted.refusal, TB_ACCEPTED);
+    same("tb_spare_census free", counted.free, 2);
+    same("tb_spare_census primary", counted.primary, 1);
+    same("tb_spare_census elsewhere", counted.elsewhere, 3);
+    same("tb_spare_census unusable", counted.unusable, 2);
+    same("tb_spare_census null", counted.null, 120);
+    tb_shifted shifted = tb_spare_shift(shape, 2, words, 128, 6);
+    same("tb_spare_shift refusal", shifted.refusal, TB_ACCEPTED);
+    same("tb_spare_shift is negative", shifted.shift < 0, 1);
+    same("tb_spare_shift is by one", shifted.shift + 1 == 0, 1);
+    same("tb_spare_sector", tb_spare_sector(shape, 2, words, 128, 6).sector, 9);
+    located = tb_spare_address(shape, 2, words, 128, 6);
+    same("tb_spare_address cylinder", located.address.cylinder, 0);
+    same("tb_spare_address head", located.address.head, 1);
+    same("tb_spare_address sector", located.address.sector, 4);
+    named = tb_spare_block(shape, 2, words, 128, 9);
+    same("tb_spare_block found", named.found, 1);
+    same("tb_spare_block block", named.block, 6);
+    named = tb_spare_block_at(shape, 2, words, 128, 0, 1, 4);
+    same("tb_spare_block_at found", named.found, 1);
+    same("tb_spare_block_at block", named.block, 6);
+
+    data[0] = 1;
+    written = tb_image_write(6, data, TB_DATA_SIZE, false, spare + 4 * TB_IMAGE_SIZE, TB_IMAGE_SIZE);
+    same("tb_image_write length", written.length, 530);
+    tb_headed headed = tb_image_header(spare + 4 * TB_IMAGE_SIZE, TB_IMAGE_SIZE);
+    same("tb_image_header refusal", headed.refusal, TB_ACCEPTED);
+    same("tb_image_header block", headed.block, 6);
+    same("tb_image_judge refusal", tb_image_judge(spare + 4 * TB_IMAGE_SIZE, TB_IMAGE_SIZE, 6).refusal, TB_ACCEPTED);
+    same("tb_read_judge refusal", tb_read_judge(shape, 2, words, 128, 6, home, TB_TRACK_LENGTH(5), spare, TB_TRACK_LENGTH(5)).refusal, TB_ACCEPTED);
+    tb_spotted spotted = tb_read_data(shape, 2, words, 128, 6, home, TB_TRACK_LENGTH(5), spare, TB_TRACK_LENGTH(5));
+    same("tb_read_data refusal", spotted.refusal, TB_ACCEPTED);
+    same("tb_read_data image", spotted.image, 1);
+    same("tb_read_data offset", spotted.offset, 4 * TB_IMAGE_SIZE + TB_HEADER_SIZE);
+}
+
+/* Each limit: its last number accepted, and the one beyond refused. */
+static void limits(void)
+{
+    same("N 0", tb_skip_block(0, NULL, 0, 0).refusal, TB_OUT_OF_RANGE);
+    same("N 1", tb_skip_block(1, NULL, 0, 0).refusal, TB_ACCEPTED);
+    same("TB_UNITS_MOST", tb_skip_block(TB_UNITS_MOST, NULL, 0, TB_UNITS_MOST - 1).refusal, TB_ACCEPTED);
+    same("TB_UNITS_MOST + 1", tb_skip_block(TB_UNITS_MOST + 1, NULL, 0, 0).refusal, TB_OUT_OF_RANGE);
+    same("cylinders 0", tb_shape_sector(shaped(0, 1, 2), 0, 0, 0).refusal, TB_OUT_OF_RANGE);
+    same("TB_CYLINDERS_MOST", tb_shape_sector(shaped(TB_CYLINDERS_MOST, 1, 2), 0, 0, 0).refusal, TB_ACCEPTED);
+    same("TB_CYLINDERS_MOST + 1", tb_shape_sector(shaped(TB_CYLINDERS_MOST + 1, 1, 2), 0, 0, 0).refusal, TB_OUT_OF_RANGE);
+    same("heads 0", tb_shape_sector(shaped(1, 0, 2), 0, 0, 0).refusal, TB_OUT_OF_RANGE);
+    same("TB_HEADS_MOST", tb_shape_sector(shaped(1, TB_HEADS_MOST, 2), 0, 0, 0).refusal, TB_ACCEPTED);
+    same("TB_HEADS_MOST + 1", tb_shape_sector(shaped(1, TB_HEADS_MOST + 1, 2), 0, 0, 0).refusal, TB_OUT_OF_RANGE);
+    same("TB_SECTORS_LEAST - 1", tb_shape_sector(shaped(1, 1, TB_SECTORS_LEAST - 1), 0, 0, 0).refusal, TB_OUT_OF_RANGE);
+    same("TB_SECTORS_LEAST", tb_shape_sector(shaped(1, 1, TB_SECTORS_LEAST), 0, 0, 0).refusal, TB_ACCEPTED);
+    same("TB_SECTORS_MOST", tb_shape_sector(shaped(1, 1, TB_SECTORS_MOST), 0, 0, 0).refusal, TB_ACCEPTED);
+    same("TB_SECTORS_MOST + 1", tb_shape_sector(shaped(1, 1, TB_SECTORS_MOST + 1), 0, 0, 0).refusal, TB_OUT_OF_RANGE);
+    const tb_shape largest = shaped(TB_CYLINDERS_MOST, TB_HEADS_MOST, TB_SECTORS_MOST);
+    same("the last sector of the largest shape", tb_shape_address(largest, TB_UNITS_MOST - 1).refusal, TB_ACCEPTED);
+    same("the sector after it", tb_shape_address(largest, TB_UNITS_MOST).refusal, TB_NO_SUCH_SECTOR);
+
+    same("TB_LIST_MOST", tb_skip_sector(TB_UNITS_MOST, places, TB_LIST_MOST, 0).refusal, TB_ACCEPTED);
+    same("TB_LIST_MOST + 1", tb_skip_sector(TB_UNITS_MOST, places, TB_LIST_MOST + 1, 0).refusal, TB_TOO_LONG);
+
+    same("r 0", tb_spare_first(shaped(2, 2, 5), 0, NULL, 0, words, 128).refusal, TB_OUT_OF_RANGE);
+    same("r 1", tb_spare_first(shaped(2, 2, 5), 1, NULL, 0, words, 128).refusal, TB_ACCEPTED);
+    same("r one below sectors", tb_spare_first(shaped(2, 2, 5), 4, NULL, 0, words, 128).refusal, TB_ACCEPTED);
+    same("r as many as sectors", tb_spare_first(shaped(2, 2, 5), 5, NULL, 0, words, 128).refusal, TB_OUT_OF_RANGE);
+    same("TB_SPARES_MOST", tb_spare_first(shaped(TB_SPARES_MOST, 1, 2), 1, NULL, 0, words, TB_SPARES_MOST).refusal, TB_ACCEPTED);
+    same("TB_SPARES_MOST + 1", tb_spare_first(shaped(TB_SPARES_MOST + 1, 1, 2), 1, NULL, 0, words, TB_LIST_MOST).refusal, TB_OUT_OF_RANGE);
+    same("TB_TABLE_BLOCK spares", tb_spare_first(shaped(TB_TABLE_BLOCK, 1, 2), 1, NULL, 0, words, TB_LIST_MOST).length, TB_TABLE_BLOCK);
+    same("one spare more", tb_spare_first(shaped(TB_TABLE_BLOCK + 1, 1, 2), 1, NULL, 0, words, TB_LIST_MOST).length, 2 * TB_TABLE_BLOCK);
+    same("TB_TABLE_LENGTH", tb_spare_first(shaped(300, 1, 2), 1, NULL, 0, words, TB_TABLE_LENGTH(300)).length, TB_TABLE_LENGTH(300));
+    same("TB_TABLE_LENGTH - 1", tb_spare_first(shaped(300, 1, 2), 1, NULL, 0, words, TB_TABLE_LENGTH(300) - 1).refusal, TB_NO_ROOM);
+
+    memset(data, 0, sizeof data);
+    same("TB_DATA_SIZE", tb_image_write(7, data, TB_DATA_SIZE, false, image, TB_IMAGE_SIZE).refusal, TB_ACCEPTED);
+    same("TB_DATA_SIZE - 1", tb_image_write(7, data, TB_DATA_SIZE - 1, false, image, TB_IMAGE_SIZE).refusal, TB_WRONG_LENGTH);
+    same("TB_DATA_SIZE + 1", tb_image_write(7, data, TB_DATA_SIZE + 1, false, image, TB_IMAGE_SIZE).refusal, TB_WRONG_LENGTH);
+    same("TB_IMAGE_SIZE - 1 as room", tb_image_write(7, data, TB_DATA_SIZE, false, image, TB_IMAGE_SIZE - 1).refusal, TB_NO_ROOM);
+    same("TB_IMAGE_SIZE", tb_image_judge(image, TB_IMAGE_SIZE, 7).refusal, TB_ACCEPTED);
+    same("TB_IMAGE_SIZE - 1", tb_image_judge(image, TB_IMAGE_SIZE - 1, 7).refusal, TB_WRONG_LENGTH);
+    same("TB_IMAGE_SIZE + 1", tb_image_judge(image, TB_IMAGE_SIZE + 1, 7).refusal, TB_WRONG_LENGTH);
+    same("TB_START_CODE", (uint32_t)image[TB_IMAGE_SIZE - 2] * 256 + image[TB_IMAGE_SIZE - 1], TB_START_CODE);
+    same("the byte before TB_HEADER_SIZE", image[TB_HEADER_SIZE - 1], 7);
+    same("the byte at TB_HEADER_SIZE", image[TB_HEADER_SIZE], 0);
+    same("TB_IMAGE_EXTRA", TB_IMAGE_EXTRA, TB_HEADER_SIZE + 2);
+
+    same("TB_PAGE_FRAME", tb_page_write(20, 0, NULL, 0, page, sizeof page).length, TB_PAGE_FRAME);
+    same("TB_PAGE_FRAME read", tb_page_read(page, TB_PAGE_FRAME, NULL, 0).refusal, TB_ACCEPTED);
+    same("TB_PAGE_FRAME - 1", tb_page_read(page, TB_PAGE_FRAME - 1, NULL, 0).refusal, TB_BAD_PAGE);
+    same("TB_ENTRY_SIZE", tb_page_write(20, 0, places, 1, page, sizeof page).length, TB_PAGE_FRAME + TB_ENTRY_SIZE);
+    same("TB_PAGE_LENGTH", tb_page_write(20, 0, places, 9, page, TB_PAGE_LENGTH(9)).length, TB_PAGE_LENGTH(9));
+    same("TB_PAGE_LENGTH - 1", tb_page_write(20, 0, places, 9, page, TB_PAGE_LENGTH(9) - 1).refusal, TB_NO_ROOM);
+    same("TB_KIND_MOST", tb_page_write(20, TB_KIND_MOST, NULL, 0, page, sizeof page).refusal, TB_ACCEPTED);
+    same("TB_KIND_MOST + 1", tb_page_write(20, TB_KIND_MOST + 1, NULL, 0, page, sizeof page).refusal, TB_BAD_PAGE);
+    same("TB_PAGE_MOST", tb_page_write(TB_UNITS_MOST, 0, places, TB_LIST_MOST, page, sizeof page).length, TB_PAGE_MOST);
+    same("TB_PAGE_MOST read", tb_page_read(page, TB_PAGE_MOST, words, TB_LIST_MOST).entries, TB_LIST_MOST);
+    /* The same page with one entry more: its length field and its end are those of a page of that length. */
+    memmove(page + TB_PAGE_FRAME, page + TB_PAGE_FRAME - TB_ENTRY_SIZE, TB_PAGE_MOST - TB_PAGE_FRAME + TB_ENTRY_SIZE);
+    page[2] = (uint8_t)((TB_PAGE_MOST + TB_ENTRY_SIZE) / 256);
+    page[3] = (uint8_t)((TB_PAGE_MOST + TB_ENTRY_SIZE) % 256);
+    same("TB_PAGE_MOST + TB_ENTRY_SIZE", tb_page_read(page, TB_PAGE_MOST + TB_ENTRY_SIZE, words, TB_LIST_MOST + 1).refusal, TB_BAD_PAGE);
+
+    same("TB_OPTION_MOST", format(0, TB_OPTION_MOST, 0), TB_ACCEPTED);
+    same("TB_OPTION_MOST + 1", format(0, TB_OPTION_MOST + 1, 0), TB_BAD_OPTION);
+    same("TB_SPACE_MOST", format(TB_SPACE_MOST, 0, 0), TB_ACCEPTED);
+    same("TB_SPACE_MOST + 1", format(TB_SPACE_MOST + 1, 0, 0), TB_BAD_OPTION);
+
+    const tb_shape shape = shaped(2, 2, 5);
+    same("a table for block 0", tb_spare_first(shape, 2, NULL, 0, words, 128).refusal, TB_ACCEPTED);
+    same("an image of block 0", tb_image_write(0, data, TB_DATA_SIZE, false, home, TB_IMAGE_SIZE).refusal, TB_ACCEPTED);
+    for (uint32_t more = 0; more < 3; more++) {
+        for (uint32_t other = 0; other < 3; other++) {
+            same("TB_TRACK_LENGTH, one less and one more, of either image",
+                 tb_read_judge(shape, 2, words, 128, 0, home, TB_TRACK_LENGTH(5) - 1 + more, spare, TB_TRACK_LENGTH(5) - 1 + other).refusal,
+                 more == 1 && other == 1 ? TB_ACCEPTED : TB_WRONG_LENGTH);
+        }
+    }
+}
+
+/* Each refusal number once, by its name and by its number. */
+static void refusals(void)
+{
+    const uint32_t twice[2] = {7, 7};
+    const tb_shape shape = shaped(1, 1, 3);
+    uint32_t number = 1;
+
+    same("TB_OUT_OF_RANGE", tb_skip_sector(0, NULL, 0, 0).refusal, TB_OUT_OF_RANGE);
+    same("its number", TB_OUT_OF_RANGE, number++);
+    same("TB_TOO_LONG", tb_skip_sector(20, places, TB_LIST_MOST + 1, 0).refusal, TB_TOO_LONG);
+    same("its number", TB_TOO_LONG, number++);
+    same("TB_NOT_RISING", tb_skip_sector(20, twice, 2, 0).refusal, TB_NOT_RISING);
+    same("its number", TB_NOT_RISING, number++);
+    same("TB_OUTSIDE", tb_skip_sector(7, twice, 1, 0).refusal, TB_OUTSIDE);
+    same("its number", TB_OUTSIDE, number++);
+    same("TB_NO_SUCH_BLOCK", tb_skip_sector(20, twice, 1, 19).refusal, TB_NO_SUCH_BLOCK);
+    same("its number", TB_NO_SUCH_BLOCK, number++);
+    same("TB_NO_SUCH_SECTOR", tb_skip_block(20, twice, 1, 20).refusal, TB_NO_SUCH_SECTOR);
+    same("its number", TB_NO_SUCH_SECTOR, number++);
+    same("TB_NO_ROOM", tb_page_write(20, 0, twice, 1, page, 17).refusal, TB_NO_ROOM);
+    same("its number", TB_NO_ROOM, number++);
+    same("TB_BAD_PAGE", tb_page_write(20, 2, twice, 1, page, sizeof page).refusal, TB_BAD_PAGE);
+    same("its number", TB_BAD_PAGE, number++);
+    same("TB_STRAY_CURSOR", tb_job_check(cursor_at(0, 1), 20, twice, 1).refusal, TB_STRAY_CURSOR);
+    same("its number", TB_STRAY_CURSOR, number++);
+    same("TB_BAD_OPTION", format(0, 0, 1), TB_BAD_OPTION);
+    same("its number", TB_BAD_OPTION, number++);
+    same("TB_BAD_TABLE", tb_spare_census(shape, 1, places, 128).refusal, TB_BAD_TABLE);
+    same("its number", TB_BAD_TABLE, number++);
+    same("a first table", tb_spare_first(shape, 1, NULL, 0, words, 128).refusal, TB_ACCEPTED);
+    same("the only spare", tb_spare_replace(shape, 1, words, 128, 0).refusal, TB_ACCEPTED);
+    same("TB_ALREADY_REPLACED", tb_spare_replace(shape, 1, words, 128, 0).refusal, TB_ALREADY_REPLACED);
+    same("its number", TB_ALREADY_REPLACED, number++);
+    same("TB_NO_SPARE", tb_spare_replace(shape, 1, words, 128, 1).refusal, TB_NO_SPARE);
+    same("its number", TB_NO_SPARE, number++);
+    same("TB_WRONG_LENGTH", tb_image_header(image, 1).refusal, TB_WRONG_LENGTH);
+    same("its number", TB_WRONG_LENGTH, number++);
+    memset(image, 0, sizeof image);
+    image[0] = 1;
+    image[4] = 1;
+    same("TB_NO_ADDRESS", tb_image_header(image, TB_IMAGE_SIZE).refusal, TB_NO_ADDRESS);
+    same("its number", TB_NO_ADDRESS, number++);
+    image[8] = 1;
+    same("TB_OTHER_BLOCK", tb_image_judge(image, TB_IMAGE_SIZE, 1).refusal, TB_OTHER_BLOCK);
+    same("its number", TB_OTHER_BLOCK, number++);
+    same("a forced image", tb_image_write(1, data, TB_DATA_SIZE, true, image, TB_IMAGE_SIZE).refusal, TB_ACCEPTED);
+    same("TB_FORCED_ERROR", tb_image_judge(image, TB_IMAGE_SIZE, 1).refusal, TB_FORCED_ERROR);
+    same("its number", TB_FORCED_ERROR, number++);
+    image[TB_HEADER_SIZE] ^= 1;
+    same("TB_BAD_CODE", tb_image_judge(image, TB_IMAGE_SIZE, 1).refusal, TB_BAD_CODE);
+    same("its number", TB_BAD_CODE, number++);
+    same("the refusals", number, 19);
+}
+
+/* NULL for each slice of length 0. */
+static void nothing_lent(void)
+{
+    const tb_shape shape = shaped(2, 2, 5);
+
+    same("tb_skip_sector list", tb_skip_sector(20, NULL, 0, 19).sector, 19);
+    same("tb_skip_block list", tb_skip_block(20, NULL, 0, 19).block, 19);
+    same("tb_job_start list", tb_job_start(20, NULL, 0, 19).next.block, 19);
+    same("tb_job_check list", tb_job_check(cursor_at(19, 0), 20, NULL, 0).next.block, 19);
+    same("tb_job_step list", tb_job_step(cursor_at(19, 0), 20, NULL, 0).sector, 19);
+    same("tb_skipped_address list", tb_skipped_address(shape, NULL, 0, 19).address.sector, 4);
+    same("tb_skipped_block list", tb_skipped_block(shape, NULL, 0, 1, 1, 4).block, 19);
+    same("tb_page_read page", tb_page_read(NULL, 0, words, 1).refusal, TB_BAD_PAGE);
+    same("tb_page_write list", tb_page_write(20, 0, NULL, 0, page, TB_PAGE_FRAME).length, TB_PAGE_FRAME);
+    same("tb_page_read room", tb_page_read(page, TB_PAGE_FRAME, NULL, 0).n, 20);
+    same("tb_page_write room", tb_page_write(20, 0, NULL, 0, NULL, 0).refusal, TB_NO_ROOM);
+    tb_formatted formatted = tb_format(20, NULL, 0, NULL, 0, 3, 1, NULL, 0, NULL, 0, NULL, 0);
+    same("tb_format p, g, d, grown and list", formatted.refusal, TB_ACCEPTED);
+    same("tb_format space", formatted.space, 3);
+    same("tb_spare_sector table", tb_spare_sector(shape, 2, NULL, 0, 0).refusal, TB_BAD_TABLE);
+    same("tb_spare_address table", tb_spare_address(shape, 2, NULL, 0, 0).refusal, TB_BAD_TABLE);
+    same("tb_spare_shift table", tb_spare_shift(shape, 2, NULL, 0, 0).refusal, TB_BAD_TABLE);
+    same("tb_spare_block table", tb_spare_block(shape, 2, NULL, 0, 0).refusal, TB_BAD_TABLE);
+    same("tb_spare_block_at table", tb_spare_block_at(shape, 2, NULL, 0, 0, 0, 0).refusal, TB_BAD_TABLE);
+    same("tb_spare_replace table", tb_spare_replace(shape, 2, NULL, 0, 0).refusal, TB_BAD_TABLE);
+    same("tb_spare_census table", tb_spare_census(shape, 2, NULL, 0).refusal, TB_BAD_TABLE);
+    same("tb_spare_first list", tb_spare_first(shape, 2, NULL, 0, words, 128).length, 128);
+    same("tb_spare_first room", tb_spare_first(shape, 2, NULL, 0, NULL, 0).refusal, TB_NO_ROOM);
+    same("tb_image_write data", tb_image_write(0, NULL, 0, false, image, TB_IMAGE_SIZE).refusal, TB_WRONG_LENGTH);
+    same("tb_image_write room", tb_image_write(0, data, TB_DATA_SIZE, false, NULL, 0).refusal, TB_NO_ROOM);
+    same("tb_image_header image", tb_image_header(NULL, 0).refusal, TB_WRONG_LENGTH);
+    same("tb_image_judge image", tb_image_judge(NULL, 0, 0).refusal, TB_WRONG_LENGTH);
+    same("tb_read_judge table", tb_read_judge(shape, 2, NULL, 0, 0, home, TB_TRACK_LENGTH(5), spare, TB_TRACK_LENGTH(5)).refusal, TB_BAD_TABLE);
+    same("tb_read_judge home", tb_read_judge(shape, 2, words, 128, 0, NULL, 0, spare, TB_TRACK_LENGTH(5)).refusal, TB_WRONG_LENGTH);
+    same("tb_read_judge spare", tb_read_judge(shape, 2, words, 128, 0, home, TB_TRACK_LENGTH(5), NULL, 0).refusal, TB_WRONG_LENGTH);
+    same("tb_read_data table", tb_read_data(shape, 2, NULL, 0, 0, home, TB_TRACK_LENGTH(5), spare, TB_TRACK_LENGTH(5)).refusal, TB_BAD_TABLE);
+    same("tb_read_data home", tb_read_data(shape, 2, words, 128, 0, NULL, 0, spare, TB_TRACK_LENGTH(5)).refusal, TB_WRONG_LENGTH);
+    same("tb_read_data spare", tb_read_data(shape, 2, words, 128, 0, home, TB_TRACK_LENGTH(5), NULL, 0).refusal, TB_WRONG_LENGTH);
+}
+
+int main(void)
+{
+    for (uint32_t i = 0; i <= TB_LIST_MOST; i++) {
+        places[i] = i;
+    }
+    sizes();
+    fields();
+    limits();
+    refusals();
+    nothing_lent();
+#ifdef __cplusplus
+    printf("header as C++: ");
+#else
+    printf("header as C: ");
+#endif
+    printf("%" PRIu32 " facts tried, %" PRIu32 " wrong\n", facts, wrong);
+    return wrong == 0 ? 0 : 1;
+}

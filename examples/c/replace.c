@@ -1,0 +1,140 @@
+/* The day of a bad block on a small revectored drive: a first table, three replacements, an image written on the spare, and the block read
+ * back from two track images. It prints what it sees, and returns 1 if anything is not as it must be. */
+#include <inttypes.h>
+#include <stdio.h>
+#include <string.h>
+
+#include "tautberry.h"
+
+enum { CYLINDERS = 2, HEADS = 2, SECTORS = 5, SPARES_OF_TRACK = 2 };
+enum { HOMES_OF_TRACK = SECTORS - SPARES_OF_TRACK, TRACKS = CYLINDERS * HEADS };
+
+static const tb_shape shape = {CYLINDERS, HEADS, SECTORS};
+static const uint32_t r = SPARES_OF_TRACK;
+static uint32_t table[TB_TABLE_LENGTH(TRACKS * SPARES_OF_TRACK)];
+static const size_t table_length = sizeof table / sizeof table[0];
+
+static uint8_t tracks[TRACKS][TB_TRACK_LENGTH(SECTORS)];
+static const size_t track_length = sizeof tracks[0];
+
+static int off = 0;
+
+/* Says so where something is not as it must be. */
+static void must(int holds, const char *what)
+{
+    if (!holds) {
+        printf("  OFF: %s\n", what);
+        off = 1;
+    }
+}
+
+/* One sector's data: a line of text, and zeros after it. */
+static void fill(uint8_t data[TB_DATA_SIZE], const char *text)
+{
+    memset(data, 0, TB_DATA_SIZE);
+    memcpy(data, text, strlen(text));
+}
+
+/* Writes every sector of the drive as the block that lies on it, and a sector on which none lies as a forced error. */
+static void write_drive(const char *text)
+{
+    uint8_t data[TB_DATA_SIZE];
+    fill(data, text);
+    for (uint32_t sector = 0; sector < TRACKS * SECTORS; sector++) {
+        tb_named lying = tb_spare_block(shape, r, table, table_length, sector);
+        uint8_t *image = &tracks[sector / SECTORS][sector % SECTORS * TB_IMAGE_SIZE];
+        tb_written written = tb_image_write(lying.block, data, sizeof data, lying.found == 0, image, TB_IMAGE_SIZE);
+        must(lying.refusal == TB_ACCEPTED && written.refusal == TB_ACCEPTED, "every sector of the drive can be written");
+    }
+}
+
+static void replace(uint32_t block, uint32_t place, uint32_t descriptor, int32_t shift)
+{
+    tb_replaced replaced = tb_spare_replace(shape, r, table, table_length, block);
+    tb_shifted shifted = tb_spare_shift(shape, r, table, table_length, block);
+    printf("  block %" PRIu32 " goes to place %" PRIu32 ", descriptor %08" PRIX32 ", shift %+" PRId32 "\n", block, replaced.place, table[replaced.place], shifted.shift);
+    must(replaced.refusal == TB_ACCEPTED && replaced.place == place, "the place of a replaced block");
+    must(table[place] == descriptor, "the descriptor of a replaced block");
+    must(shifted.refusal == TB_ACCEPTED && shifted.shift == shift, "the shift of a replaced block");
+}
+
+static void census(uint32_t free_places)
+{
+    tb_counted counted = tb_spare_census(shape, r, table, table_length);
+    printf("  %" PRIu32 " spares free, %" PRIu32 " taken as a block's primary, %" PRIu32 " as another, %" PRIu32 " unusable\n", counted.free, counted.primary, counted.elsewhere, counted.unusable);
+    must(counted.refusal == TB_ACCEPTED && counted.free == free_places, "the number of free spares");
+    must(counted.free + counted.primary + counted.elsewhere + counted.unusable + counted.null == table_length, "the census counts every place once");
+}
+
+/* Reads a block from the images of its home track and of the track that it lies on now. */
+static uint32_t read_block(uint32_t block, const char *text)
+{
+    tb_located now = tb_spare_address(shape, r, table, table_length, block);
+    const uint8_t *home = tracks[block / HOMES_OF_TRACK];
+    const uint8_t *spare = tracks[now.address.cylinder * HEADS + now.address.head];
+    tb_judged judged = tb_read_judge(shape, r, table, table_length, block, home, track_length, spare, track_length);
+    tb_spotted spotted = tb_read_data(shape, r, table, table_length, block, home, track_length, spare, track_length);
+    must(judged.refusal == spotted.refusal, "verdict and data refuse alike");
+    if (spotted.refusal != TB_ACCEPTED) {
+        printf("  block %" PRIu32 " is refused %" PRIu32 "\n", block, spotted.refusal);
+        must(spotted.image == 0 && spotted.offset == 0, "a refusal carries zeros");
+        return spotted.refusal;
+    }
+    const uint8_t *data = (spotted.image == 0 ? home : spare) + spotted.offset;
+    printf("  block %" PRIu32 " reads \"%s\", %" PRIu32 " bytes into the image of its %s track\n", block, (const char *)data, spotted.offset, spotted.image == 0 ? "home" : "spare's");
+    uint8_t expected[TB_DATA_SIZE];
+    fill(expected, text);
+    must(memcmp(data, expected, TB_DATA_SIZE) == 0, "the data is what was written");
+    return TB_ACCEPTED;
+}
+
+int main(void)
+{
+    printf("A drive of %d cylinders, %d heads and %d sectors a track, the last %d of them spares: %d blocks.\n", CYLINDERS, HEADS, SECTORS, SPARES_OF_TRACK, TRACKS * HOMES_OF_TRACK);
+
+    puts("Its first table, with no bad sector known:");
+    tb_written first = tb_spare_first(shape, r, NULL, 0, table, table_length);
+    must(first.refusal == TB_ACCEPTED && first.length == table_length, "the first table");
+    census(8);
+    write_drive("Monday's log");
+    must(read_block(6, "Monday's log") == TB_ACCEPTED, "block 6 reads well at home");
+
+    puts("Blocks 7, 8 and 6 go bad:");
+    replace(7, 4, 0x20000007, 0);
+    replace(8, 5, 0x30000008, 0);
+    replace(6, 3, 0x30000006, -1);
+    census(5);
+
+    tb_located located = tb_spare_address(shape, r, table, table_length, 6);
+    tb_placed placed = tb_shape_sector(shape, located.address.cylinder, located.address.head, located.address.sector);
+    printf("  block 6 now lies at cylinder %" PRIu32 ", head %" PRIu32 ", sector %" PRIu32 ": sector number %" PRIu32 "\n", located.address.cylinder, located.address.head, located.address.sector, placed.sector);
+    must(located.refusal == TB_ACCEPTED && placed.refusal == TB_ACCEPTED && placed.sector == 9, "the sector of block 6");
+
+    puts("Nothing names block 6 on its spare yet; then it is written there:");
+    must(read_block(6, "") == TB_OTHER_BLOCK, "a spare that was not written is refused");
+    uint8_t data[TB_DATA_SIZE];
+    fill(data, "Tuesday's log");
+    uint8_t *image = &tracks[1][4 * TB_IMAGE_SIZE];
+    tb_written written = tb_image_write(6, data, sizeof data, false, image, TB_IMAGE_SIZE);
+    must(written.refusal == TB_ACCEPTED && written.length == TB_IMAGE_SIZE, "the image of block 6");
+    must(read_block(6, "Tuesday's log") == TB_ACCEPTED, "block 6 reads well from its spare");
+
+    puts("One bit of its data turns over:");
+    image[TB_HEADER_SIZE + 100] ^= 0x10;
+    must(read_block(6, "") == TB_BAD_CODE, "one bit is seen");
+
+    puts("It is written as lost, so that nobody takes it for good:");
+    written = tb_image_write(6, data, sizeof data, true, image, TB_IMAGE_SIZE);
+    must(written.refusal == TB_ACCEPTED && read_block(6, "") == TB_FORCED_ERROR, "a forced error is told");
+
+    puts("It cannot be replaced twice:");
+    uint32_t before[sizeof table / sizeof table[0]];
+    memcpy(before, table, sizeof table);
+    tb_replaced again = tb_spare_replace(shape, r, table, table_length, 6);
+    printf("  refused %" PRIu32 ", place %" PRIu32 ", the table as it was\n", again.refusal, again.place);
+    must(again.refusal == TB_ALREADY_REPLACED && again.place == 0, "a second replacement is refused");
+    must(memcmp(before, table, sizeof table) == 0, "a refusal leaves the table");
+
+    puts(off ? "Something is off." : "All as it must be.");
+    return off;
+}

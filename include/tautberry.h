@@ -1,0 +1,325 @@
+/* The C face of Tautberry, for C (C99 and later) and C++: the calls of libboard.a.
+ *
+ * A call takes any numbers. It ends, it calls nothing back, it keeps nothing between calls, and it answers a small
+ * struct by value. `refusal` is the first field: TB_ACCEPTED (0), or the number of the first check that fails.
+ * Refused, every other number of the result is 0, and every byte that was lent is as it was; the one exception is
+ * tb_job_step, which hands back in `next` the cursor it was given. The checks of a call are named in its comment, in
+ * their order. "list" there means TB_TOO_LONG, then the lowest entry at fault, TB_NOT_RISING or TB_OUTSIDE.
+ *
+ * What is lent:
+ * - A pointer and the number of its elements stand together, the pointer first. The pointer may be NULL where the
+ *   number is 0, and only there.
+ * - A pointer to uint32_t is aligned as uint32_t is.
+ * - A pointer to const is read and never written. One that is not const is a room: it may be read and written.
+ * - A room overlaps nothing else that is lent to the same call. What is only read may overlap.
+ * - An accepted result fills the first elements of its room and leaves the rest.
+ * - `forced` is the language's own bool: a byte that is 0 or 1.
+ */
+#ifndef TAUTBERRY_H
+#define TAUTBERRY_H
+
+#include <stddef.h>
+#include <stdint.h>
+#ifndef __cplusplus
+#include <stdbool.h>
+#endif
+
+#ifdef __cplusplus
+extern "C" {
+#endif
+
+/* ---- Refusals ---- */
+
+enum tb_refusal {
+    TB_ACCEPTED = 0,
+    TB_OUT_OF_RANGE = 1,      /* N, a number of the shape, r, or the number of all spares is out of its range */
+    TB_TOO_LONG = 2,          /* a list is, or a list to be made would be, longer than TB_LIST_MOST */
+    TB_NOT_RISING = 3,        /* an entry of a list does not exceed the entry before it */
+    TB_OUTSIDE = 4,           /* an entry of a list is not a unit of its space */
+    TB_NO_SUCH_BLOCK = 5,     /* the block asked for lies beyond the last one */
+    TB_NO_SUCH_SECTOR = 6,    /* the sector, cylinder or head asked for lies beyond the last one */
+    TB_NO_ROOM = 7,           /* the room for a result has too few elements */
+    TB_BAD_PAGE = 8,          /* the bytes are no list page, or there is no such kind of page */
+    TB_STRAY_CURSOR = 9,      /* the cursor does not belong to this N and list */
+    TB_BAD_OPTION = 10,       /* there is no such option or space, or the option takes no list and one came */
+    TB_BAD_TABLE = 11,        /* the descriptor table is not one of this drive, or a descriptor breaks a rule */
+    TB_ALREADY_REPLACED = 12, /* the block lies on a spare already */
+    TB_NO_SPARE = 13,         /* no spare is left, or too few for all bad home sectors */
+    TB_WRONG_LENGTH = 14,     /* the data or an image is not as long as it must be */
+    TB_NO_ADDRESS = 15,       /* fewer than three copies in the header agree */
+    TB_OTHER_BLOCK = 16,      /* the header carries another block's number */
+    TB_FORCED_ERROR = 17,     /* the sector was written as bad: its data was lost before */
+    TB_BAD_CODE = 18          /* the data does not have the code that stands behind it */
+};
+
+/* ---- Limits and sizes ---- */
+
+#define TB_UNITS_MOST 16777216u   /* N: sectors of a drive */
+#define TB_CYLINDERS_MOST 4096u   /* cylinders of a shape, from 1 */
+#define TB_HEADS_MOST 64u         /* heads of a shape, from 1 */
+#define TB_SECTORS_LEAST 2u       /* sectors of a track */
+#define TB_SECTORS_MOST 64u
+#define TB_LIST_MOST 4096u        /* entries of a list */
+#define TB_SPARES_MOST 1024u      /* cylinders x heads x r */
+#define TB_TABLE_BLOCK 128u       /* descriptors of a table block */
+#define TB_DATA_SIZE 512u         /* data bytes of a sector */
+#define TB_HEADER_SIZE 16u        /* bytes before the data of an image: where the data begins */
+#define TB_IMAGE_EXTRA 18u        /* bytes of an image that are no data: header and code */
+#define TB_IMAGE_SIZE (TB_DATA_SIZE + TB_IMAGE_EXTRA) /* 530: bytes of a sector image */
+#define TB_START_CODE 0x5A3Cu     /* the code of no data */
+#define TB_PAGE_FRAME 14u         /* bytes of a page that are no entries */
+#define TB_ENTRY_SIZE 4u          /* bytes of an entry of a page */
+#define TB_PAGE_MOST TB_PAGE_LENGTH(TB_LIST_MOST) /* 16398: bytes of the longest page */
+#define TB_KIND_MOST 1u           /* kinds of a page: 0 manufacturer's, 1 grown */
+#define TB_OPTION_MOST 7u         /* options of Format, from 0 */
+#define TB_SPACE_MOST 3u          /* spaces: 0 none, 1 P, 2 G, 3 P and G */
+#define TB_LISTING_MOST 16398u    /* bytes that the listing program takes; no call here has this limit */
+
+/* Bytes of a page with so many entries, of the image of a track with so many sectors; descriptors of a table for so many spares. */
+#define TB_PAGE_LENGTH(entries) (TB_PAGE_FRAME + TB_ENTRY_SIZE * (entries))
+#define TB_TRACK_LENGTH(sectors) (TB_IMAGE_SIZE * (sectors))
+#define TB_TABLE_LENGTH(spares) (TB_TABLE_BLOCK * (((spares) + TB_TABLE_BLOCK - 1u) / TB_TABLE_BLOCK))
+
+/* ---- What goes in and comes out ---- */
+
+typedef struct tb_shape {
+    uint32_t cylinders;
+    uint32_t heads;
+    uint32_t sectors; /* of a track, its spares among them */
+} tb_shape;
+
+typedef struct tb_address {
+    uint32_t cylinder;
+    uint32_t head;
+    uint32_t sector; /* in its track */
+} tb_address;
+
+/* Where a job stands. Both numbers come from a call and go back as they are. */
+typedef struct tb_cursor {
+    uint32_t block;   /* the next block of the job */
+    uint32_t skipped; /* entries of the list below the sector of the block before it */
+} tb_cursor;
+
+typedef struct tb_placed {
+    uint32_t refusal;
+    uint32_t sector;
+} tb_placed;
+
+typedef struct tb_named {
+    uint32_t refusal;
+    uint32_t found; /* 1 where a block lies there, 0 where none does: that is no refusal */
+    uint32_t block; /* 0 where none does */
+} tb_named;
+
+typedef struct tb_job {
+    uint32_t refusal;
+    uint32_t sector;
+    tb_cursor next;
+} tb_job;
+
+typedef struct tb_located {
+    uint32_t refusal;
+    tb_address address;
+} tb_located;
+
+typedef struct tb_paged {
+    uint32_t refusal;
+    uint32_t kind;
+    uint32_t n;
+    uint32_t entries; /* of the room that are filled */
+} tb_paged;
+
+typedef struct tb_written {
+    uint32_t refusal;
+    uint32_t length; /* elements of the room that are filled */
+} tb_written;
+
+typedef struct tb_formatted {
+    uint32_t refusal;
+    uint32_t grown; /* entries of the new grown list */
+    uint32_t list;  /* entries of the list of the new space */
+    uint32_t space; /* the new space */
+} tb_formatted;
+
+typedef struct tb_shifted {
+    uint32_t refusal;
+    int32_t shift; /* cylinders from home to spare, negative toward cylinder 0 */
+} tb_shifted;
+
+typedef struct tb_replaced {
+    uint32_t refusal;
+    uint32_t place; /* of the table that was written: the spare's number */
+} tb_replaced;
+
+/* How many descriptors of a table have each code. Together they are the table's length. */
+typedef struct tb_counted {
+    uint32_t refusal;
+    uint32_t free;
+    uint32_t primary;   /* a block at its primary spare */
+    uint32_t elsewhere; /* a block on any other spare */
+    uint32_t unusable;
+    uint32_t null; /* no spare: the tail of the last table block */
+} tb_counted;
+
+typedef struct tb_headed {
+    uint32_t refusal;
+    uint32_t block;
+} tb_headed;
+
+typedef struct tb_judged {
+    uint32_t refusal;
+} tb_judged;
+
+typedef struct tb_spotted {
+    uint32_t refusal;
+    uint32_t image;  /* 0: the data lies in `home`, 1: in `spare` */
+    uint32_t offset; /* of its TB_DATA_SIZE bytes from the start of that image */
+} tb_spotted;
+
+/* ---- A skipped drive of n sectors, with the list of its bad ones ---- */
+
+/* The sector that a block lies on.
+ * Checks: TB_OUT_OF_RANGE (n), list, TB_NO_SUCH_BLOCK. Answers sector. Writes nothing. */
+tb_placed tb_skip_sector(uint32_t n, const uint32_t *list, size_t list_length, uint32_t block);
+
+/* The block that lies on a sector; a sector of the list has none.
+ * Checks: TB_OUT_OF_RANGE (n), list, TB_NO_SUCH_SECTOR. Answers found and block. Writes nothing. */
+tb_named tb_skip_block(uint32_t n, const uint32_t *list, size_t list_length, uint32_t sector);
+
+/* Opens a job at a block: a run of blocks one after another, each found without a walk from the start.
+ * Checks: TB_OUT_OF_RANGE (n), list, TB_NO_SUCH_BLOCK. Answers in next the cursor for the block; sector is 0. Writes nothing. */
+tb_job tb_job_start(uint32_t n, const uint32_t *list, size_t list_length, uint32_t block);
+
+/* Whether a cursor belongs to this n and list.
+ * Checks: TB_OUT_OF_RANGE (n), list, TB_STRAY_CURSOR. Answers in next the cursor as it is; sector is 0. Writes nothing. */
+tb_job tb_job_check(tb_cursor cursor, uint32_t n, const uint32_t *list, size_t list_length);
+
+/* One step of a job: the sector of the cursor's block, and the cursor for the block after it. After the last block a step
+ * refuses TB_NO_SUCH_BLOCK and the cursor stays.
+ * Checks: TB_OUT_OF_RANGE (n), list, TB_STRAY_CURSOR, TB_NO_SUCH_BLOCK. Answers sector and next; refused, next is `cursor`.
+ * Writes nothing. */
+tb_job tb_job_step(tb_cursor cursor, uint32_t n, const uint32_t *list, size_t list_length);
+
+/* ---- Sector numbers and addresses of any drive with a shape ---- */
+
+/* Cylinder, head and sector to sector number, (cylinder x heads + head) x sectors + sector.
+ * Checks: TB_OUT_OF_RANGE (shape), TB_NO_SUCH_SECTOR (any of the three). Answers sector. Writes nothing. */
+tb_placed tb_shape_sector(tb_shape shape, uint32_t cylinder, uint32_t head, uint32_t sector);
+
+/* Sector number to cylinder, head and sector.
+ * Checks: TB_OUT_OF_RANGE (shape), TB_NO_SUCH_SECTOR. Answers address. Writes nothing. */
+tb_located tb_shape_address(tb_shape shape, uint32_t sector);
+
+/* ---- A skipped drive by its shape ---- */
+
+/* The address that a block lies at.
+ * Checks: TB_OUT_OF_RANGE (shape), list, TB_NO_SUCH_BLOCK. Answers address. Writes nothing. */
+tb_located tb_skipped_address(tb_shape shape, const uint32_t *list, size_t list_length, uint32_t block);
+
+/* The block that lies at an address; a sector of the list has none.
+ * Checks: TB_OUT_OF_RANGE (shape), list, TB_NO_SUCH_SECTOR (any of the three). Answers found and block. Writes nothing. */
+tb_named tb_skipped_block(tb_shape shape, const uint32_t *list, size_t list_length, uint32_t cylinder, uint32_t head, uint32_t sector);
+
+/* ---- The list page ---- */
+
+/* Reads a page. page_length must be the length that the page itself says.
+ * Checks: TB_BAD_PAGE (layout, kind, the page's own n), TB_NOT_RISING or TB_OUTSIDE at the lowest entry at fault, TB_NO_ROOM.
+ * Answers kind, n and entries. Writes the entries into the first places of room. */
+tb_paged tb_page_read(const uint8_t *page, size_t page_length, uint32_t *room, size_t room_length);
+
+/* Writes the page of n, a kind and a list. It needs TB_PAGE_LENGTH(list_length) bytes of room.
+ * Checks: TB_OUT_OF_RANGE (n), TB_BAD_PAGE (kind), list, TB_NO_ROOM. Answers length, in bytes. Writes the page into the first
+ * bytes of room. */
+tb_written tb_page_write(uint32_t n, uint32_t kind, const uint32_t *list, size_t list_length, uint8_t *room, size_t room_length);
+
+/* ---- Format ---- */
+
+/* The lists after a Format. p is the manufacturer's list and g the grown list, both over n sectors; space is the one in use;
+ * d is the list that comes with the option: blocks of the space in use for options 1 and 3, sectors for 5 and 7, none for the rest.
+ * Checks: TB_OUT_OF_RANGE (n), list (p), list (g), TB_BAD_OPTION, TB_TOO_LONG (the list in use), list (d), TB_TOO_LONG (the new grown
+ * list, then the new list), TB_NO_ROOM (either room). Answers grown, list and space. Writes the new grown list into the first places
+ * of grown, and the list of the new space into those of list. */
+tb_formatted tb_format(
+    uint32_t n,
+    const uint32_t *p, size_t p_length,
+    const uint32_t *g, size_t g_length,
+    uint32_t space, uint32_t option,
+    const uint32_t *d, size_t d_length,
+    uint32_t *grown, size_t grown_length,
+    uint32_t *list, size_t list_length);
+
+/* ---- A revectored drive: r spares at the end of each track, and its descriptor table ---- */
+
+/* The table has TB_TABLE_LENGTH(cylinders x heads x r) descriptors. Its rules are checked in every call. */
+
+/* The sector that a block lies on: its spare, or its home where it is not replaced.
+ * Checks: TB_OUT_OF_RANGE (shape, r), TB_BAD_TABLE, TB_NO_SUCH_BLOCK. Answers sector. Writes nothing. */
+tb_placed tb_spare_sector(tb_shape shape, uint32_t r, const uint32_t *table, size_t table_length, uint32_t block);
+
+/* The address that a block lies at.
+ * Checks: TB_OUT_OF_RANGE (shape, r), TB_BAD_TABLE, TB_NO_SUCH_BLOCK. Answers address. Writes nothing. */
+tb_located tb_spare_address(tb_shape shape, uint32_t r, const uint32_t *table, size_t table_length, uint32_t block);
+
+/* How many cylinders the arm moves from the home of a block to its spare; 0 for a block at home.
+ * Checks: TB_OUT_OF_RANGE (shape, r), TB_BAD_TABLE, TB_NO_SUCH_BLOCK. Answers shift. Writes nothing. */
+tb_shifted tb_spare_shift(tb_shape shape, uint32_t r, const uint32_t *table, size_t table_length, uint32_t block);
+
+/* The block that lies on a sector; the home of a replaced block has none, nor has a spare that is not allocated.
+ * Checks: TB_OUT_OF_RANGE (shape, r), TB_BAD_TABLE, TB_NO_SUCH_SECTOR. Answers found and block. Writes nothing. */
+tb_named tb_spare_block(tb_shape shape, uint32_t r, const uint32_t *table, size_t table_length, uint32_t sector);
+
+/* The same, for a sector that is asked for by cylinder, head and sector.
+ * Checks: TB_OUT_OF_RANGE (shape, r), TB_BAD_TABLE, TB_NO_SUCH_SECTOR (any of the three). Answers found and block. Writes nothing. */
+tb_named tb_spare_block_at(
+    tb_shape shape, uint32_t r, const uint32_t *table, size_t table_length, uint32_t cylinder, uint32_t head, uint32_t sector);
+
+/* Replaces a block by the free spare that comes first in its search order.
+ * Checks: TB_OUT_OF_RANGE (shape, r), TB_BAD_TABLE, TB_NO_SUCH_BLOCK, TB_ALREADY_REPLACED, TB_NO_SPARE. Answers place. Writes one
+ * descriptor of table, the one at place, and no other. */
+tb_replaced tb_spare_replace(tb_shape shape, uint32_t r, uint32_t *table, size_t table_length, uint32_t block);
+
+/* Counts the descriptors of each code.
+ * Checks: TB_OUT_OF_RANGE (shape, r), TB_BAD_TABLE. Answers free, primary, elsewhere, unusable and null. Writes nothing. */
+tb_counted tb_spare_census(tb_shape shape, uint32_t r, const uint32_t *table, size_t table_length);
+
+/* The first table of a drive, from the list of its bad sectors: bad spares are marked, then bad home blocks are replaced in rising order.
+ * Checks: TB_OUT_OF_RANGE (shape, r), list, TB_NO_ROOM, TB_NO_SPARE. Answers length. Writes the table into the first places of room. */
+tb_written tb_spare_first(tb_shape shape, uint32_t r, const uint32_t *list, size_t list_length, uint32_t *room, size_t room_length);
+
+/* ---- Sector images ---- */
+
+/* Writes the image of a block's data: a good one, or, where forced, one that tells every reader that the data was bad already.
+ * Checks: TB_WRONG_LENGTH (data), TB_NO_ROOM. Answers length, TB_IMAGE_SIZE. Writes the image into the first bytes of room. */
+tb_written tb_image_write(uint32_t block, const uint8_t *data, size_t data_length, bool forced, uint8_t *room, size_t room_length);
+
+/* The number that the header of an image carries.
+ * Checks: TB_WRONG_LENGTH (image), TB_NO_ADDRESS. Answers block. Writes nothing. */
+tb_headed tb_image_header(const uint8_t *image, size_t image_length);
+
+/* The verdict on the image of a block. Where it accepts, the data is the TB_DATA_SIZE bytes from TB_HEADER_SIZE on.
+ * Checks: TB_WRONG_LENGTH (image), TB_NO_ADDRESS, TB_OTHER_BLOCK, then TB_FORCED_ERROR or TB_BAD_CODE. Writes nothing. */
+tb_judged tb_image_judge(const uint8_t *image, size_t image_length, uint32_t block);
+
+/* ---- A read of a block of a revectored drive, from two track images ---- */
+
+/* home is the image of the block's home track and spare that of its spare's track; for a block at home spare may be any track's.
+ * Both are TB_TRACK_LENGTH(sectors) bytes long, and only the one that the block lies on is looked into. */
+
+/* The verdict on a block.
+ * Checks: TB_OUT_OF_RANGE (shape, r), TB_BAD_TABLE, TB_NO_SUCH_BLOCK, TB_WRONG_LENGTH (either image), TB_NO_ADDRESS, TB_OTHER_BLOCK,
+ * then TB_FORCED_ERROR or TB_BAD_CODE. Writes nothing. */
+tb_judged tb_read_judge(
+    tb_shape shape, uint32_t r, const uint32_t *table, size_t table_length, uint32_t block,
+    const uint8_t *home, size_t home_length, const uint8_t *spare, size_t spare_length);
+
+/* Where the data of a good block lies.
+ * Checks: those of tb_read_judge, with the same number. Answers image and offset. Writes nothing. */
+tb_spotted tb_read_data(
+    tb_shape shape, uint32_t r, const uint32_t *table, size_t table_length, uint32_t block,
+    const uint8_t *home, size_t home_length, const uint8_t *spare, size_t spare_length);
+
+#ifdef __cplusplus
+}
+#endif
+
+#endif
