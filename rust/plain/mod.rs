@@ -25,11 +25,11 @@ fn check_size(n: u32) -> Answer<()> {
 
 fn check_list(size: u32, list: &[u32]) -> Answer<()> {
     refuse(list.len() > LIST_MOST, 2)?;
-    let mut least = 0;
-    for &entry in list {
-        refuse(entry < least, 3)?;
-        refuse(entry >= size, 4)?;
-        least = entry + 1;
+    let Some(&first) = list.first() else { return Ok(()) };
+    refuse(first >= size, 4)?;
+    for pair in list.windows(2) {
+        refuse(pair[1] <= pair[0], 3)?;
+        refuse(pair[1] >= size, 4)?;
     }
     Ok(())
 }

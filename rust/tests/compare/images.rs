@@ -11,7 +11,7 @@ const SEEDS: u64 = 30_000;
 #[test]
 fn image_write() {
     let mut tally = Tally::of("image::write");
-    for seed in 0..SEEDS {
+    for seed in tally.seeds(SEEDS) {
         let mut draw = Draw::of(seed);
         let block = draw.any_block();
         let mut data = draw.data();
@@ -32,7 +32,7 @@ fn image_write() {
 #[test]
 fn image_header() {
     let mut tally = Tally::of("image::header");
-    for seed in 0..SEEDS {
+    for seed in tally.seeds(SEEDS) {
         let mut draw = Draw::of(seed);
         let block = draw.any_block();
         let mut image = draw.any_image(block);
@@ -46,7 +46,7 @@ fn image_header() {
 fn image_judge_and_data() {
     let mut tally = Tally::of("image::judge");
     let mut parts = Tally::of("image::data");
-    for seed in 0..SEEDS {
+    for seed in tally.seeds(SEEDS) {
         let mut draw = Draw::of(seed);
         let block = draw.any_block();
         let mut image = draw.any_image(block);

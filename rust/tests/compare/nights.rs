@@ -29,7 +29,7 @@ fn in_full(night: &Drawn) -> Result<(Vec<u32>, Vec<u32>, u32), Refusal> {
 #[test]
 fn format_of_any_night() {
     let mut tally = Tally::of("format::format");
-    for seed in 0..SEEDS {
+    for seed in tally.seeds(SEEDS) {
         let mut draw = Draw::of(seed);
         let night = draw.any_night();
         let (grown, list) = rooms(&mut draw, &night);
@@ -51,7 +51,7 @@ fn format_of_any_night() {
 fn format_of_every_option_in_every_space() {
     let mut accepted = [[0; 4]; 8];
     let mut tally = Tally::of("format::format, proper nights");
-    for seed in 0..20_000 {
+    for seed in tally.seeds(20_000) {
         let mut draw = Draw::of(seed);
         let night = draw.night();
         let library = in_full(&night);

@@ -11,7 +11,7 @@ const SEEDS: u64 = 30_000;
 #[test]
 fn page_read() {
     let mut tally = Tally::of("page::read");
-    for seed in 0..SEEDS {
+    for seed in tally.seeds(SEEDS) {
         let mut draw = Draw::of(seed);
         let page = draw.any_page();
         let length = draw.room_length(page.len().saturating_sub(14) / 4);
@@ -29,7 +29,7 @@ fn page_read() {
 #[test]
 fn page_write() {
     let mut tally = Tally::of("page::write");
-    for seed in 0..SEEDS {
+    for seed in tally.seeds(SEEDS) {
         let mut draw = Draw::of(seed);
         let (n, list) = draw.space();
         let kind =

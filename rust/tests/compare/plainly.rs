@@ -14,7 +14,7 @@ const SEEDS: u64 = 10_000;
 #[test]
 fn plain_step() {
     let mut tally = Tally::of("plain::step");
-    for seed in 0..SEEDS {
+    for seed in tally.seeds(SEEDS) {
         let mut draw = Draw::of(seed);
         let (n, list) = draw.space();
         let drawn = any_cursor(&mut draw, n, &list);
@@ -35,7 +35,7 @@ fn plain_step() {
 #[test]
 fn plain_spare_sector() {
     let mut tally = Tally::of("plain::spare_sector");
-    for seed in 0..SEEDS {
+    for seed in tally.seeds(SEEDS) {
         let mut draw = Draw::of(seed);
         let tabled = draw.any_tabled();
         let block = draw.near(tabled.drive.blocks());
@@ -54,7 +54,7 @@ fn plain_spare_sector() {
 #[test]
 fn plain_judge() {
     let mut tally = Tally::of("plain::judge");
-    for seed in 0..SEEDS {
+    for seed in tally.seeds(SEEDS) {
         let mut draw = Draw::of(seed);
         let block = draw.any_block();
         let mut image = draw.any_image(block);
@@ -69,7 +69,7 @@ fn plain_judge() {
 #[test]
 fn plain_read_page() {
     let mut tally = Tally::of("plain::read_page");
-    for seed in 0..SEEDS {
+    for seed in tally.seeds(SEEDS) {
         let mut draw = Draw::of(seed);
         let page = draw.any_page();
         let length = draw.room_length(page.len().saturating_sub(14) / 4);
@@ -87,7 +87,7 @@ fn plain_read_page() {
 #[test]
 fn plain_write_page() {
     let mut tally = Tally::of("plain::write_page");
-    for seed in 0..SEEDS {
+    for seed in tally.seeds(SEEDS) {
         let mut draw = Draw::of(seed);
         let (n, list) = draw.space();
         let kind = draw.of_these(&[0, 0, 1, 1, 1, 2, 256]);
@@ -106,7 +106,7 @@ fn plain_write_page() {
 #[test]
 fn plain_format() {
     let mut tally = Tally::of("plain::format");
-    for seed in 0..SEEDS {
+    for seed in tally.seeds(SEEDS) {
         let mut draw = Draw::of(seed);
         let night = draw.any_night();
         let lengths = match model::format::lists(night.lent()) {

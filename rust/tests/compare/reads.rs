@@ -58,7 +58,7 @@ fn any_read(draw: &mut Draw) -> Drawn {
 #[test]
 fn reading_judge() {
     let mut tally = Tally::of("reading::judge");
-    for seed in 0..SEEDS {
+    for seed in tally.seeds(SEEDS) {
         let read = any_read(&mut Draw::of(seed));
         let Drawn { tabled, block, home, spare } = &read;
         let library = reading::judge(tabled.shape, tabled.r, &tabled.table, *block, home, spare);
@@ -72,7 +72,7 @@ fn reading_spot_and_data() {
     let mut tally = Tally::of("reading::spot");
     let mut parts = Tally::of("reading::data");
     let (mut at_home, mut on_spare) = (0, 0);
-    for seed in 0..SEEDS {
+    for seed in tally.seeds(SEEDS) {
         let read = any_read(&mut Draw::of(seed));
         let Drawn { tabled, block, home, spare } = &read;
         let (shape, r, table) = (tabled.shape, tabled.r, &tabled.table);

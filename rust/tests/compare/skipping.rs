@@ -18,7 +18,7 @@ pub fn numbers(address: Address) -> (u32, u32, u32) {
 #[test]
 fn skip_sector_of() {
     let mut tally = Tally::of("skip::sector_of");
-    for seed in 0..SEEDS {
+    for seed in tally.seeds(SEEDS) {
         let mut draw = Draw::of(seed);
         let (n, list) = draw.space();
         let block = draw.near(n.saturating_sub(list.len() as u32));
@@ -32,7 +32,7 @@ fn skip_sector_of() {
 fn skip_block_on() {
     let mut tally = Tally::of("skip::block_on");
     let (mut blocks, mut none) = (0, 0);
-    for seed in 0..SEEDS {
+    for seed in tally.seeds(SEEDS) {
         let mut draw = Draw::of(seed);
         let (n, list) = draw.space();
         let sector = match list.first() {
@@ -51,7 +51,7 @@ fn skip_block_on() {
 #[test]
 fn cursor_start() {
     let mut tally = Tally::of("Cursor::start");
-    for seed in 0..SEEDS {
+    for seed in tally.seeds(SEEDS) {
         let mut draw = Draw::of(seed);
         let (n, list) = draw.space();
         let block = draw.near(n.saturating_sub(list.len() as u32));
@@ -64,7 +64,7 @@ fn cursor_start() {
 #[test]
 fn cursor_check() {
     let mut tally = Tally::of("Cursor::check");
-    for seed in 0..SEEDS {
+    for seed in tally.seeds(SEEDS) {
         let mut draw = Draw::of(seed);
         let (n, list) = draw.space();
         let cursor = any_cursor(&mut draw, n, &list);
@@ -77,7 +77,7 @@ fn cursor_check() {
 #[test]
 fn cursor_step() {
     let mut tally = Tally::of("Cursor::step");
-    for seed in 0..SEEDS {
+    for seed in tally.seeds(SEEDS) {
         let mut draw = Draw::of(seed);
         let (n, list) = draw.space();
         let cursor = any_cursor(&mut draw, n, &list);
@@ -90,7 +90,7 @@ fn cursor_step() {
 #[test]
 fn cursor_walks_to_the_end() {
     let mut tally = Tally::of("Cursor::step, whole jobs");
-    for seed in 0..1_000 {
+    for seed in tally.seeds(1_000) {
         let mut draw = Draw::of(seed);
         let n = draw.within(1, 60);
         let list = draw.list(n);
@@ -117,7 +117,7 @@ fn cursor_walks_to_the_end() {
 #[test]
 fn shape_sector_of() {
     let mut tally = Tally::of("shape::sector_of");
-    for seed in 0..SEEDS {
+    for seed in tally.seeds(SEEDS) {
         let mut draw = Draw::of(seed);
         let shape = draw.shape();
         let address = draw.any_address(shape);
@@ -132,7 +132,7 @@ fn shape_sector_of() {
 #[test]
 fn shape_address_of() {
     let mut tally = Tally::of("shape::address_of");
-    for seed in 0..SEEDS {
+    for seed in tally.seeds(SEEDS) {
         let mut draw = Draw::of(seed);
         let shape = draw.shape();
         let sector = draw.near(shape.cylinders * shape.heads * shape.sectors);
@@ -146,7 +146,7 @@ fn shape_address_of() {
 #[test]
 fn skipped_address_of() {
     let mut tally = Tally::of("skipped::address_of");
-    for seed in 0..SEEDS {
+    for seed in tally.seeds(SEEDS) {
         let mut draw = Draw::of(seed);
         let shape = draw.shape();
         let n = shape.cylinders * shape.heads * shape.sectors;
@@ -163,7 +163,7 @@ fn skipped_address_of() {
 fn skipped_block_at() {
     let mut tally = Tally::of("skipped::block_at");
     let (mut blocks, mut none) = (0, 0);
-    for seed in 0..SEEDS {
+    for seed in tally.seeds(SEEDS) {
         let mut draw = Draw::of(seed);
         let shape = draw.shape();
         let list = draw.any_list(shape.cylinders * shape.heads * shape.sectors);

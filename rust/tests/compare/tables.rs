@@ -14,7 +14,7 @@ const SEEDS: u64 = 20_000;
 #[test]
 fn spares_sector_of() {
     let mut tally = Tally::of("spares::sector_of");
-    for seed in 0..SEEDS {
+    for seed in tally.seeds(SEEDS) {
         let mut draw = Draw::of(seed);
         let tabled = draw.any_tabled();
         let block = draw.near(tabled.drive.blocks());
@@ -28,7 +28,7 @@ fn spares_sector_of() {
 #[test]
 fn spares_address_of() {
     let mut tally = Tally::of("spares::address_of");
-    for seed in 0..SEEDS {
+    for seed in tally.seeds(SEEDS) {
         let mut draw = Draw::of(seed);
         let tabled = draw.any_tabled();
         let block = draw.near(tabled.drive.blocks());
@@ -43,7 +43,7 @@ fn spares_address_of() {
 fn spares_shift() {
     let mut tally = Tally::of("spares::shift");
     let (mut toward, mut away) = (0, 0);
-    for seed in 0..SEEDS {
+    for seed in tally.seeds(SEEDS) {
         let mut draw = Draw::of(seed);
         let tabled = draw.any_tabled();
         let block = draw.near(tabled.drive.blocks());
@@ -61,7 +61,7 @@ fn spares_shift() {
 fn spares_block_on() {
     let mut tally = Tally::of("spares::block_on");
     let (mut blocks, mut none) = (0, 0);
-    for seed in 0..SEEDS {
+    for seed in tally.seeds(SEEDS) {
         let mut draw = Draw::of(seed);
         let tabled = draw.any_tabled();
         let sector = draw.near(tabled.drive.blocks() + tabled.drive.spares());
@@ -79,7 +79,7 @@ fn spares_block_on() {
 fn spares_block_at() {
     let mut tally = Tally::of("spares::block_at");
     let (mut blocks, mut none) = (0, 0);
-    for seed in 0..SEEDS {
+    for seed in tally.seeds(SEEDS) {
         let mut draw = Draw::of(seed);
         let tabled = draw.any_tabled();
         let address = draw.any_address(tabled.shape);
@@ -97,7 +97,7 @@ fn spares_block_at() {
 #[test]
 fn spares_replace() {
     let mut tally = Tally::of("spares::replace");
-    for seed in 0..SEEDS {
+    for seed in tally.seeds(SEEDS) {
         let mut draw = Draw::of(seed);
         let tabled = draw.any_tabled();
         let block = draw.near(tabled.drive.blocks());
@@ -117,7 +117,7 @@ fn spares_replace() {
 #[test]
 fn spares_census() {
     let mut tally = Tally::of("spares::census");
-    for seed in 0..SEEDS {
+    for seed in tally.seeds(SEEDS) {
         let mut draw = Draw::of(seed);
         let tabled = draw.any_tabled();
         let (shape, r, table) = (tabled.shape, tabled.r, &tabled.table);
@@ -131,7 +131,7 @@ fn spares_census() {
 #[test]
 fn spares_first_table() {
     let mut tally = Tally::of("spares::first_table");
-    for seed in 0..SEEDS {
+    for seed in tally.seeds(SEEDS) {
         let mut draw = Draw::of(seed);
         let (shape, r) = draw.drive();
         let drive = model::spares::drive(paper(shape), r).expect("a drive in its range");
@@ -159,7 +159,7 @@ fn spares_first_table() {
 #[test]
 fn replacing_until_no_spare_is_left() {
     let mut tally = Tally::of("spares::replace, whole lives");
-    for seed in 0..300 {
+    for seed in tally.seeds(300) {
         let mut draw = Draw::of(seed);
         let (shape, r) = draw.drive();
         let drive = model::spares::drive(paper(shape), r).expect("a drive in its range");

@@ -2,6 +2,7 @@
 
 use std::collections::BTreeMap;
 use std::fmt::Debug;
+use std::ops::Range;
 
 use tautberry::Refusal;
 
@@ -17,6 +18,14 @@ pub struct Tally {
 impl Tally {
     pub fn of(call: &'static str) -> Tally {
         Tally { call, library: BTreeMap::new(), model: BTreeMap::new() }
+    }
+
+    /// So many seeds that no other call has, as its name gives them.
+    pub fn seeds(&self, count: u64) -> Range<u64> {
+        let mixed =
+            self.call.bytes().fold(0, |mixed: u64, byte| mixed * 31 % 1_000_003 + u64::from(byte));
+        let first = mixed * 1_000_000;
+        first..first + count
     }
 
     /// Counts one input's answers, which must be the same.
