@@ -1,4 +1,4 @@
--- What a refused call of the C face leaves: every number besides the refusal is 0, but that a step hands back its cursor, and each lent room holds what it held. One law for all calls, and each call by it.
+-- What a refused call of the C face leaves: every number besides the refusal is 0, but that a step hands back its cursor, and each lent room holds what it held. One law for all calls, and each call by it; a verdict says nothing besides its refusal.
 -- Assumes nothing.
 use Prim.Native.Nat.{ℕ}
 use mathlib.Core.Path.{_≡_, sym, _∙_}

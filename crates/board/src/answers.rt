@@ -1,4 +1,4 @@
-// The results of the C face, each made of the numbers that an answer of the house says: `refusal` first, 0 where the call accepts.
+// The results of the C face, and one function for each that makes it of an answer: `refusal` first, 0 where the call accepts, and all else 0 where it refuses. Only this crate calls the functions.
 ghost use mathlib.Core.Path.{_≡_};
 ghost use Rattle.paper.specs.Answers.{saidPlaced, saidNamed, saidWritten};
 ghost use Rattle.shape.specs.Promises.{saidLocated};
@@ -24,12 +24,14 @@ use spares::Counted;
 use spares::Replaced;
 use spares::Shifted;
 
+// Where a block lies, as a sector number.
 #[repr(C)]
 pub struct TbPlaced {
     pub refusal: u32,
     pub sector: u32,
 }
 
+// Whether a block lies on a sector, 1 or 0, and the block.
 #[repr(C)]
 pub struct TbNamed {
     pub refusal: u32,
@@ -37,18 +39,21 @@ pub struct TbNamed {
     pub block: u32,
 }
 
+// How many places of the lent room a result fills.
 #[repr(C)]
 pub struct TbWritten {
     pub refusal: u32,
     pub length: u32,
 }
 
+// Where a sector or a block lies, as an address.
 #[repr(C)]
 pub struct TbLocated {
     pub refusal: u32,
     pub address: Address,
 }
 
+// The sector of a block, and the cursor of the job.
 #[repr(C)]
 pub struct TbJob {
     pub refusal: u32,
@@ -56,6 +61,7 @@ pub struct TbJob {
     pub next: Cursor,
 }
 
+// A page as it was read.
 #[repr(C)]
 pub struct TbPaged {
     pub refusal: u32,
@@ -64,6 +70,7 @@ pub struct TbPaged {
     pub entries: u32,
 }
 
+// The lengths of the new grown list and of the new list, and the new space.
 #[repr(C)]
 pub struct TbFormatted {
     pub refusal: u32,
@@ -72,18 +79,21 @@ pub struct TbFormatted {
     pub space: u32,
 }
 
+// How many cylinders a block is moved, negative toward cylinder 0.
 #[repr(C)]
 pub struct TbShifted {
     pub refusal: u32,
     pub shift: i32,
 }
 
+// The place that a replacement wrote.
 #[repr(C)]
 pub struct TbReplaced {
     pub refusal: u32,
     pub place: u32,
 }
 
+// How many places of a table have each code.
 #[repr(C)]
 pub struct TbCounted {
     pub refusal: u32,
@@ -94,17 +104,20 @@ pub struct TbCounted {
     pub null: u32,
 }
 
+// The number that a header carries.
 #[repr(C)]
 pub struct TbHeaded {
     pub refusal: u32,
     pub block: u32,
 }
 
+// A verdict.
 #[repr(C)]
 pub struct TbJudged {
     pub refusal: u32,
 }
 
+// Where the data of a block begins: in image 0, that of its home track, or in image 1, the second one, and how far inside it.
 #[repr(C)]
 pub struct TbSpotted {
     pub refusal: u32,
