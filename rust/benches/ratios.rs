@@ -1,0 +1,284 @@
+//! The proved library against plain Rust: the same inputs and the same checks, both optimised, in one
+//! run. `cargo bench --offline` prints the table.
+//!
+//! A round times one side, then the other. The best of a side is its fastest round, the spread says
+//! how much longer its slowest took. The ratio is the library's best by plain Rust's best: 1.00 is as
+//! fast, 2.00 twice as slow. Before it is timed, each job is run once by both sides and the answers
+//! compared.
+
+use std::fmt::Debug;
+use std::hint::black_box;
+use std::process::exit;
+use std::time::{Duration, Instant};
+
+use tautberry::{format, image, page, spares, Cursor, Shape, LIST_MOST, UNITS_MOST};
+
+#[path = "../plain/mod.rs"]
+mod plain;
+
+/// Rounds of each side.
+const ROUNDS: usize = 7;
+
+fn main() {
+    if cfg!(not(target_arch = "x86_64")) {
+        eprintln!(
+            "The proved library runs under an emulator here, and its times would say nothing."
+        );
+        exit(1);
+    }
+    println!(
+        "{:<45} {:>11} {:>7} {:>11} {:>7} {:>6}  per",
+        "job", "library", "spread", "plain", "spread", "ratio"
+    );
+    steps();
+    look_ups();
+    verdicts();
+    pages_read();
+    pages_written();
+    night();
+    println!(
+        "Best of {ROUNDS} rounds a side; the spread is what the slowest round took longer. Rooms are \
+         allocated and cleared once, then lent as the last round left them."
+    );
+}
+
+/// Times both sides of a job of `units` and prints its row; both must answer the same.
+fn compare<T: PartialEq + Debug>(
+    job: &str,
+    unit: &str,
+    units: u64,
+    mut library: impl FnMut() -> T,
+    mut plain: impl FnMut() -> T,
+) {
+    assert_eq!(library(), plain(), "{job}: the sides differ");
+    let (mut ours, mut theirs) = (Vec::new(), Vec::new());
+    for _ in 0..ROUNDS {
+        ours.push(timed(&mut library));
+        theirs.push(timed(&mut plain));
+    }
+    let (best, spread) = best_and_spread(&ours);
+    let (plain_best, plain_spread) = best_and_spread(&theirs);
+    println!(
+        "{job:<45} {:>8.1} ns {spread:>6.0}% {:>8.1} ns {plain_spread:>6.0}% {:>6.2}  {unit}",
+        nanoseconds(best, units),
+        nanoseconds(plain_best, units),
+        best.as_secs_f64() / plain_best.as_secs_f64()
+    );
+}
+
+fn timed<T>(job: &mut impl FnMut() -> T) -> Duration {
+    let start = Instant::now();
+    black_box(job());
+    start.elapsed()
+}
+
+fn best_and_spread(rounds: &[Duration]) -> (Duration, f64) {
+    let best = rounds.iter().min().expect("a round");
+    let worst = rounds.iter().max().expect("a round");
+    (*best, (worst.as_secs_f64() / best.as_secs_f64() - 1.0) * 100.0)
+}
+
+fn nanoseconds(time: Duration, units: u64) -> f64 {
+    time.as_secs_f64() * 1e9 / units as f64
+}
+
+/// A full list of single entries and runs, spread over the space.
+fn full_list() -> Vec<u32> {
+    (0..LIST_MOST as u32).map(|entry| entry / 4 * 1_000 + entry % 4).collect()
+}
+
+/// A job of 4,096 steps along a full list; each step checks the whole list and the cursor.
+fn steps() {
+    let list = full_list();
+    let steps = 4_096;
+    let first = 500_000;
+    let start = Cursor::start(UNITS_MOST, &list, first).expect("a block of the space");
+    let library = || {
+        let (mut cursor, mut sum) = (black_box(start), 0u64);
+        for _ in 0..steps {
+            let (sector, next) =
+                cursor.step(UNITS_MOST, black_box(&list)).expect("a block is left");
+            sum += u64::from(sector);
+            cursor = next;
+        }
+        sum
+    };
+    let plain = || {
+        let start = black_box(start);
+        let mut cursor = plain::Cursor { block: start.block, skipped: start.skipped };
+        let mut sum = 0u64;
+        for _ in 0..steps {
+            let answer = plain::step(cursor, UNITS_MOST, black_box(&list));
+            let (sector, next) = answer.expect("a block is left");
+            sum += u64::from(sector);
+            cursor = next;
+        }
+        sum
+    };
+    compare("step by cursor, list of 4,096", "step", steps, library, plain);
+}
+
+/// A drive of 1,024 spares, all but eight of them used, by blocks of their own track and of others.
+fn nearly_full() -> (Shape, u32, Vec<u32>) {
+    let shape = Shape { cylinders: 64, heads: 4, sectors: 32 };
+    let r = 4;
+    let blocks = 64 * 4 * 28;
+    let mut table = vec![0; 1_024];
+    for replaced in 0..1_016u32 {
+        let block = replaced.wrapping_mul(1_237) % blocks;
+        spares::replace(shape, r, &mut table, block).expect("a spare is free");
+    }
+    (shape, r, table)
+}
+
+/// Look-ups of blocks at home and on spares; each checks the whole table. The library holds every
+/// descriptor against all before it; plain Rust does so too, or keeps a mark for each block.
+fn look_ups() {
+    let (shape, r, table) = nearly_full();
+    let look_ups = 512;
+    let blocks: Vec<u32> = (0..look_ups as u32).map(|ask| ask * 13 % 7_168).collect();
+    let library = || {
+        let look_up = |block: &u32| spares::sector_of(shape, r, black_box(&table), *block);
+        sum(blocks.iter().map(|block| look_up(block).ok()))
+    };
+    let plain_shape =
+        plain::Shape { cylinders: shape.cylinders, heads: shape.heads, sectors: shape.sectors };
+    let by_pairs = || {
+        let look_up = |block: &u32| {
+            plain::spare_sector_by_pairs(plain_shape, r, black_box(&table), *block).ok()
+        };
+        sum(blocks.iter().map(look_up))
+    };
+    let by_marks = || {
+        let look_up =
+            |block: &u32| plain::spare_sector(plain_shape, r, black_box(&table), *block).ok();
+        sum(blocks.iter().map(look_up))
+    };
+    let job = "look-up, 1,016 of 1,024 spares used";
+    compare(&format!("{job}, by pairs"), "look-up", look_ups, library, by_pairs);
+    compare(&format!("{job}, by marks"), "look-up", look_ups, library, by_marks);
+}
+
+/// The sum of what was answered; every call must have been accepted.
+fn sum(sectors: impl Iterator<Item = Option<u32>>) -> u64 {
+    sectors.map(|sector| u64::from(sector.expect("an answer"))).sum()
+}
+
+/// Verdicts on 64 MiB of data, in 131,072 images one after the other.
+fn verdicts() {
+    let count = 64 * 1_024 * 1_024 / 512;
+    let mut images = vec![0; count * 530];
+    let mut data = [0; 512];
+    for (block, image) in images.chunks_exact_mut(530).enumerate() {
+        for (at, byte) in data.iter_mut().enumerate() {
+            *byte = (at * 31 + block * 7) as u8;
+        }
+        image::write(block as u32, &data, block % 16 == 0, image).expect("512 bytes");
+    }
+    let library = || {
+        let images = black_box(&images).chunks_exact(530).enumerate();
+        images.filter(|(block, image)| image::judge(image, *block as u32).is_ok()).count()
+    };
+    let plain = || {
+        let images = black_box(&images).chunks_exact(530).enumerate();
+        images.filter(|(block, image)| plain::judge(image, *block as u32).is_ok()).count()
+    };
+    compare("verdicts on 64 MiB of sectors", "sector", count as u64, library, plain);
+}
+
+const PAGES: u64 = 1_000;
+
+fn pages_read() {
+    let list = full_list();
+    let mut page = vec![0; 14 + 4 * LIST_MOST];
+    page::write(UNITS_MOST, 1, &list, &mut page).expect("a proper list");
+    let (mut our_room, mut plain_room) = (vec![0; LIST_MOST], vec![0; LIST_MOST]);
+    let library = || {
+        let mut entries = 0;
+        for _ in 0..PAGES {
+            let read = page::read(black_box(&page), black_box(&mut our_room));
+            entries += read.expect("a proper page").entries;
+        }
+        (entries, our_room[LIST_MOST - 1])
+    };
+    let plain = || {
+        let mut entries = 0;
+        for _ in 0..PAGES {
+            let read = plain::read_page(black_box(&page), black_box(&mut plain_room));
+            entries += read.expect("a proper page").2;
+        }
+        (entries, plain_room[LIST_MOST - 1])
+    };
+    compare("page of 4,096 entries read", "page", PAGES, library, plain);
+}
+
+fn pages_written() {
+    let list = full_list();
+    let length = 14 + 4 * LIST_MOST;
+    let (mut our_room, mut plain_room) = (vec![0; length], vec![0; length]);
+    let library = || {
+        let mut bytes = 0;
+        for _ in 0..PAGES {
+            let written = page::write(UNITS_MOST, 1, black_box(&list), black_box(&mut our_room));
+            bytes += written.expect("a proper list");
+        }
+        (bytes, our_room[length - 5])
+    };
+    let plain = || {
+        let mut bytes = 0;
+        for _ in 0..PAGES {
+            let written =
+                plain::write_page(UNITS_MOST, 1, black_box(&list), black_box(&mut plain_room));
+            bytes += written.expect("a proper list");
+        }
+        (bytes, plain_room[length - 5])
+    };
+    compare("page of 4,096 entries written", "page", PAGES, library, plain);
+}
+
+/// Option 1 in space 3: 1,024 entries in P, 1,024 in G, 2,048 blocks found; the new list is full.
+fn night() {
+    let p: Vec<u32> = (0..1_024).map(|entry| entry * 8_000).collect();
+    let g: Vec<u32> = (0..1_024).map(|entry| entry * 8_000 + 1 + entry % 3).collect();
+    let d: Vec<u32> = (0..2_048).map(|entry| entry * 4_000 + 2_000).collect();
+    let nights = 200;
+    let rooms = || (vec![0; LIST_MOST], vec![0; LIST_MOST]);
+    let ((mut our_grown, mut our_list), (mut plain_grown, mut plain_list)) = (rooms(), rooms());
+    let library = || {
+        let mut entries = 0;
+        for _ in 0..nights {
+            let night = format::format(
+                UNITS_MOST,
+                black_box(&p),
+                black_box(&g),
+                3,
+                1,
+                black_box(&d),
+                black_box(&mut our_grown),
+                black_box(&mut our_list),
+            );
+            let night = night.expect("a full night");
+            entries += night.grown + night.list;
+        }
+        (entries, our_grown[3_071], our_list[LIST_MOST - 1])
+    };
+    let plain = || {
+        let mut entries = 0;
+        for _ in 0..nights {
+            let night = plain::format(
+                UNITS_MOST,
+                black_box(&p),
+                black_box(&g),
+                3,
+                1,
+                black_box(&d),
+                black_box(&mut plain_grown),
+                black_box(&mut plain_list),
+            );
+            let (grown, list, _) = night.expect("a full night");
+            entries += grown + list;
+        }
+        (entries, plain_grown[3_071], plain_list[LIST_MOST - 1])
+    };
+    compare("Format of a full night, 4,096 entries", "night", nights, library, plain);
+}

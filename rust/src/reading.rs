@@ -1,0 +1,123 @@
+//! A read of a revectored block from the image of its home track and that of its spare's track.
+//!
+//! Only the image that the block lies on is looked into. For a block at home the second image may be
+//! any of the right length.
+
+use crate::ffi;
+use crate::refusal::{answered, Refusal};
+use crate::shape::Shape;
+use crate::DATA_SIZE;
+
+/// One of the two track images that a read is lent.
+#[derive(Clone, Copy, Debug, PartialEq, Eq, Hash)]
+pub enum Track {
+    Home,
+    Spare,
+}
+
+/// Where a block's data lie: the image, and the offset of the 512 bytes in it.
+#[derive(Clone, Copy, Debug, PartialEq, Eq, Hash)]
+pub struct Spot {
+    pub track: Track,
+    pub offset: u32,
+}
+
+/// Accepts where the image of `block` is good.
+///
+/// Checks: [`OutOfRange`](Refusal::OutOfRange) for shape, `r` and the number of spares;
+/// [`BadTable`](Refusal::BadTable); [`NoSuchBlock`](Refusal::NoSuchBlock);
+/// [`WrongLength`](Refusal::WrongLength) where either image is not 530 bytes a sector;
+/// [`NoAddress`](Refusal::NoAddress); [`OtherBlock`](Refusal::OtherBlock);
+/// [`ForcedError`](Refusal::ForcedError) or [`BadCode`](Refusal::BadCode).
+pub fn judge(
+    shape: Shape,
+    r: u32,
+    table: &[u32],
+    block: u32,
+    home: &[u8],
+    spare: &[u8],
+) -> Result<(), Refusal> {
+    // SAFETY: pointers and lengths are those of live slices.
+    let answer = unsafe {
+        ffi::tb_read_judge(
+            shape,
+            r,
+            table.as_ptr(),
+            table.len(),
+            block,
+            home.as_ptr(),
+            home.len(),
+            spare.as_ptr(),
+            spare.len(),
+        )
+    };
+    answered(answer.refusal, ())
+}
+
+/// Where the data of a good image of `block` lie.
+///
+/// Checks: those of [`judge`].
+pub fn spot(
+    shape: Shape,
+    r: u32,
+    table: &[u32],
+    block: u32,
+    home: &[u8],
+    spare: &[u8],
+) -> Result<Spot, Refusal> {
+    // SAFETY: pointers and lengths are those of live slices.
+    let answer = unsafe {
+        ffi::tb_read_data(
+            shape,
+            r,
+            table.as_ptr(),
+            table.len(),
+            block,
+            home.as_ptr(),
+            home.len(),
+            spare.as_ptr(),
+            spare.len(),
+        )
+    };
+    let track = match answer.image {
+        0 => Track::Home,
+        _ => Track::Spare,
+    };
+    answered(answer.refusal, Spot { track, offset: answer.offset })
+}
+
+/// The 512 bytes of data of a good image of `block`, where they lie in `home` or in `spare`. They
+/// belong to the images and not to the table.
+///
+/// Checks: those of [`judge`].
+///
+/// The part lives no longer than the images:
+///
+/// ```compile_fail,E0597
+/// use tautberry::{reading, Shape};
+///
+/// let shape = Shape { cylinders: 1, heads: 1, sectors: 2 };
+/// let table = [0; 128];
+/// let part = {
+///     let home = [0; 2 * 530];
+///     let spare = [0; 2 * 530];
+///     reading::data(shape, 1, &table, 0, &home, &spare)
+/// };
+/// assert!(part.is_err());
+/// ```
+pub fn data<'a>(
+    shape: Shape,
+    r: u32,
+    table: &[u32],
+    block: u32,
+    home: &'a [u8],
+    spare: &'a [u8],
+) -> Result<&'a [u8], Refusal> {
+    let spot = spot(shape, r, table, block, home, spare)?;
+    let image = match spot.track {
+        Track::Home => home,
+        Track::Spare => spare,
+    };
+    let start = spot.offset as usize;
+    Ok(&image[start..start + DATA_SIZE])
+}

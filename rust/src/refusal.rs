@@ -1,0 +1,130 @@
+//! The refusals by name and number.
+
+use std::error::Error;
+use std::fmt;
+
+/// Why a call refused. Its number is the one of the C face.
+#[derive(Clone, Copy, Debug, PartialEq, Eq, Hash, PartialOrd, Ord)]
+#[repr(u32)]
+pub enum Refusal {
+    /// A shape number, the spares of a track, the number of sectors or of all spares is outside its range.
+    OutOfRange = 1,
+    /// A list has, or a resulting list would have, more than 4,096 entries.
+    TooLong = 2,
+    /// An entry is not greater than the one before.
+    NotRising = 3,
+    /// An entry is not below the size of its space.
+    Outside = 4,
+    /// The block number is not below the number of blocks.
+    NoSuchBlock = 5,
+    /// The sector number, or a cylinder, head or sector, is not below its bound.
+    NoSuchSector = 6,
+    /// The lent room is too short for the result.
+    NoRoom = 7,
+    /// A page breaks its layout, or the kind to write is neither 0 nor 1.
+    BadPage = 8,
+    /// The cursor is not one of this list.
+    StrayCursor = 9,
+    /// Format's option is above 7, its space above 3, or a list comes with an option that takes none.
+    BadOption = 10,
+    /// The descriptor table breaks its rules.
+    BadTable = 11,
+    /// The block is already replaced.
+    AlreadyReplaced = 12,
+    /// No spare is free, or a first table would need more good spares than there are.
+    NoSpare = 13,
+    /// A sector image, a track image or the data to write has the wrong length.
+    WrongLength = 14,
+    /// No number stands in three of the four header copies.
+    NoAddress = 15,
+    /// The header names another block.
+    OtherBlock = 16,
+    /// The stored code is the complement: the data was bad when it was written.
+    ForcedError = 17,
+    /// The stored code matches neither way.
+    BadCode = 18,
+}
+
+impl Refusal {
+    /// Every refusal, by rising number.
+    pub const ALL: [Refusal; 18] = [
+        Refusal::OutOfRange,
+        Refusal::TooLong,
+        Refusal::NotRising,
+        Refusal::Outside,
+        Refusal::NoSuchBlock,
+        Refusal::NoSuchSector,
+        Refusal::NoRoom,
+        Refusal::BadPage,
+        Refusal::StrayCursor,
+        Refusal::BadOption,
+        Refusal::BadTable,
+        Refusal::AlreadyReplaced,
+        Refusal::NoSpare,
+        Refusal::WrongLength,
+        Refusal::NoAddress,
+        Refusal::OtherBlock,
+        Refusal::ForcedError,
+        Refusal::BadCode,
+    ];
+
+    /// The refusal's number, 1 to 18.
+    pub const fn number(self) -> u32 {
+        self as u32
+    }
+
+    /// The refusal of a number, none for 0 and above 18.
+    pub fn of_number(number: u32) -> Option<Refusal> {
+        Refusal::ALL.into_iter().find(|each| each.number() == number)
+    }
+
+    /// The refusal's name in words.
+    pub const fn name(self) -> &'static str {
+        match self {
+            Refusal::OutOfRange => "out of range",
+            Refusal::TooLong => "too long",
+            Refusal::NotRising => "not rising",
+            Refusal::Outside => "outside",
+            Refusal::NoSuchBlock => "no such block",
+            Refusal::NoSuchSector => "no such sector",
+            Refusal::NoRoom => "no room",
+            Refusal::BadPage => "bad page",
+            Refusal::StrayCursor => "stray cursor",
+            Refusal::BadOption => "bad option",
+            Refusal::BadTable => "bad table",
+            Refusal::AlreadyReplaced => "already replaced",
+            Refusal::NoSpare => "no spare",
+            Refusal::WrongLength => "wrong length",
+            Refusal::NoAddress => "no address",
+            Refusal::OtherBlock => "other block",
+            Refusal::ForcedError => "forced error",
+            Refusal::BadCode => "bad code",
+        }
+    }
+}
+
+impl fmt::Display for Refusal {
+    fn fmt(&self, f: &mut fmt::Formatter<'_>) -> fmt::Result {
+        write!(f, "refused {}: {}", self.number(), self.name())
+    }
+}
+
+impl Error for Refusal {}
+
+/// `value` where the C face answered 0, else the refusal of the number it answered.
+pub(crate) fn answered<T>(number: u32, value: T) -> Result<T, Refusal> {
+    match number {
+        0 => Ok(value),
+        _ => Err(of_answer(number)),
+    }
+}
+
+/// The refusal of a number other than 0 that the C face answered.
+pub(crate) fn of_answer(number: u32) -> Refusal {
+    Refusal::of_number(number).unwrap_or_else(|| panic!("the library answered number {number}"))
+}
+
+/// The block of an answer that may be "no block".
+pub(crate) fn named(found: u32, block: u32) -> Option<u32> {
+    (found != 0).then_some(block)
+}

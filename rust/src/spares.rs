@@ -1,0 +1,127 @@
+//! A revectored drive: `r` spares at the end of each track, and the descriptor table over them.
+
+use crate::ffi;
+use crate::refusal::{answered, named, Refusal};
+use crate::shape::{Address, Shape};
+
+/// The sector that `block` lies on: its spare's where the table names the block, else its home.
+///
+/// Checks: [`OutOfRange`](Refusal::OutOfRange) for shape, `r` and the number of spares;
+/// [`BadTable`](Refusal::BadTable); [`NoSuchBlock`](Refusal::NoSuchBlock).
+pub fn sector_of(shape: Shape, r: u32, table: &[u32], block: u32) -> Result<u32, Refusal> {
+    // SAFETY: the pointer and length are those of a live slice.
+    let answer = unsafe { ffi::tb_spare_sector(shape, r, table.as_ptr(), table.len(), block) };
+    answered(answer.refusal, answer.sector)
+}
+
+/// The place that `block` lies on, as cylinder, head and sector.
+///
+/// Checks: [`OutOfRange`](Refusal::OutOfRange) for shape, `r` and the number of spares;
+/// [`BadTable`](Refusal::BadTable); [`NoSuchBlock`](Refusal::NoSuchBlock).
+pub fn address_of(shape: Shape, r: u32, table: &[u32], block: u32) -> Result<Address, Refusal> {
+    // SAFETY: the pointer and length are those of a live slice.
+    let answer = unsafe { ffi::tb_spare_address(shape, r, table.as_ptr(), table.len(), block) };
+    answered(answer.refusal, answer.address)
+}
+
+/// The cylinders from the home of `block` to its spare, negative toward cylinder 0; 0 at home.
+///
+/// Checks: [`OutOfRange`](Refusal::OutOfRange) for shape, `r` and the number of spares;
+/// [`BadTable`](Refusal::BadTable); [`NoSuchBlock`](Refusal::NoSuchBlock).
+pub fn shift(shape: Shape, r: u32, table: &[u32], block: u32) -> Result<i32, Refusal> {
+    // SAFETY: the pointer and length are those of a live slice.
+    let answer = unsafe { ffi::tb_spare_shift(shape, r, table.as_ptr(), table.len(), block) };
+    answered(answer.refusal, answer.shift)
+}
+
+/// The block that lies on `sector`; none for the home of a replaced block and for a spare that is not
+/// allocated.
+///
+/// Checks: [`OutOfRange`](Refusal::OutOfRange) for shape, `r` and the number of spares;
+/// [`BadTable`](Refusal::BadTable); [`NoSuchSector`](Refusal::NoSuchSector).
+pub fn block_on(shape: Shape, r: u32, table: &[u32], sector: u32) -> Result<Option<u32>, Refusal> {
+    // SAFETY: the pointer and length are those of a live slice.
+    let answer = unsafe { ffi::tb_spare_block(shape, r, table.as_ptr(), table.len(), sector) };
+    answered(answer.refusal, named(answer.found, answer.block))
+}
+
+/// The block that lies at a place; none for the home of a replaced block and for a spare that is not
+/// allocated.
+///
+/// Checks: [`OutOfRange`](Refusal::OutOfRange) for shape, `r` and the number of spares;
+/// [`BadTable`](Refusal::BadTable); [`NoSuchSector`](Refusal::NoSuchSector) where cylinder, head or
+/// sector is not below its bound.
+pub fn block_at(
+    shape: Shape,
+    r: u32,
+    table: &[u32],
+    cylinder: u32,
+    head: u32,
+    sector: u32,
+) -> Result<Option<u32>, Refusal> {
+    // SAFETY: the pointer and length are those of a live slice.
+    let answer = unsafe {
+        ffi::tb_spare_block_at(shape, r, table.as_ptr(), table.len(), cylinder, head, sector)
+    };
+    answered(answer.refusal, named(answer.found, answer.block))
+}
+
+/// Sends `block` to the first free place in its search order, writes its descriptor there and answers
+/// the place, which is the spare's number.
+///
+/// Checks: [`OutOfRange`](Refusal::OutOfRange) for shape, `r` and the number of spares;
+/// [`BadTable`](Refusal::BadTable); [`NoSuchBlock`](Refusal::NoSuchBlock);
+/// [`AlreadyReplaced`](Refusal::AlreadyReplaced); [`NoSpare`](Refusal::NoSpare).
+pub fn replace(shape: Shape, r: u32, table: &mut [u32], block: u32) -> Result<u32, Refusal> {
+    // SAFETY: the pointer and length are those of a live slice, which overlaps nothing.
+    let answer = unsafe { ffi::tb_spare_replace(shape, r, table.as_mut_ptr(), table.len(), block) };
+    answered(answer.refusal, answer.place)
+}
+
+/// How many descriptors of each code a table has.
+#[derive(Clone, Copy, Debug, PartialEq, Eq, Hash)]
+pub struct Census {
+    pub free: u32,
+    /// Allocated at the block's primary place.
+    pub primary: u32,
+    /// Allocated at another place.
+    pub elsewhere: u32,
+    pub unusable: u32,
+    /// Past the last spare.
+    pub null: u32,
+}
+
+/// Counts the descriptors of each code.
+///
+/// Checks: [`OutOfRange`](Refusal::OutOfRange) for shape, `r` and the number of spares;
+/// [`BadTable`](Refusal::BadTable).
+pub fn census(shape: Shape, r: u32, table: &[u32]) -> Result<Census, Refusal> {
+    // SAFETY: the pointer and length are those of a live slice.
+    let answer = unsafe { ffi::tb_spare_census(shape, r, table.as_ptr(), table.len()) };
+    answered(
+        answer.refusal,
+        Census {
+            free: answer.free,
+            primary: answer.primary,
+            elsewhere: answer.elsewhere,
+            unusable: answer.unusable,
+            null: answer.null,
+        },
+    )
+}
+
+/// Makes a drive's first table from its list of bad sectors, in the first places of `room`, and
+/// answers the table's length: bad spares are unusable, then bad home blocks are replaced in rising
+/// order.
+///
+/// Checks: [`OutOfRange`](Refusal::OutOfRange) for shape, `r` and the number of spares;
+/// [`TooLong`](Refusal::TooLong), then [`NotRising`](Refusal::NotRising) or
+/// [`Outside`](Refusal::Outside) at the lowest place at fault; [`NoRoom`](Refusal::NoRoom);
+/// [`NoSpare`](Refusal::NoSpare) for more bad home sectors than good spares.
+pub fn first_table(shape: Shape, r: u32, list: &[u32], room: &mut [u32]) -> Result<u32, Refusal> {
+    // SAFETY: pointers and lengths are those of live slices, and the room overlaps nothing.
+    let answer = unsafe {
+        ffi::tb_spare_first(shape, r, list.as_ptr(), list.len(), room.as_mut_ptr(), room.len())
+    };
+    answered(answer.refusal, answer.length)
+}

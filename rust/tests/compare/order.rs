@@ -1,0 +1,469 @@
+//! Several faults at once: the first check in the paper's order is the one that refuses.
+//!
+//! Each call is given an input with all its faults. Then the faults are mended one after the other in
+//! the order of the checks, and each time the next number must come up, from library and model.
+
+use tautberry::{format, image, page, reading, shape as shapes, skip, skipped, spares, Cursor};
+use tautberry::{Refusal, Shape};
+
+use crate::drawn_shapes::{paper, shape};
+use crate::model;
+use crate::model::format::Night;
+use crate::model::image::Read;
+use crate::model::skipping;
+
+/// N, a list and the number asked for, mended step by step: 1, 2, the lowest place at fault (3, then
+/// 4), then the number itself.
+fn spaces() -> Vec<(u32, Vec<u32>, u32)> {
+    let mut too_long = vec![5, 5, 900];
+    too_long.resize(4_097, 0);
+    vec![
+        (0, too_long.clone(), 900),
+        (100, too_long, 900),
+        (100, vec![5, 5, 900], 900),
+        (100, vec![900, 5], 900),
+        (100, vec![5, 900], 900),
+        (100, vec![5, 9], 900),
+        (100, vec![5, 9], 50),
+    ]
+}
+
+/// The numbers of a library's answers, 0 for accepted.
+fn number<T>(answer: Result<T, Refusal>) -> u32 {
+    answer.map_or_else(Refusal::number, |_| 0)
+}
+
+/// The same of the model.
+fn paper_number<T>(answer: Result<T, u32>) -> u32 {
+    answer.map_or_else(|number| number, |_| 0)
+}
+
+fn same(call: &str, library: Vec<u32>, model: Vec<u32>, expected: &[u32]) {
+    assert_eq!(library, expected, "{call}: the library's order");
+    assert_eq!(model, expected, "{call}: the model's order");
+}
+
+#[test]
+fn skipping_in_order() {
+    let ask = |call: &dyn Fn(u32, &[u32], u32) -> u32| -> Vec<u32> {
+        spaces().iter().map(|(n, list, asked)| call(*n, list, *asked)).collect()
+    };
+    same(
+        "skip::sector_of",
+        ask(&|n, list, block| number(skip::sector_of(n, list, block))),
+        ask(&|n, list, block| paper_number(skipping::sector_of(n, list, block))),
+        &[1, 2, 3, 4, 4, 5, 0],
+    );
+    same(
+        "skip::block_on",
+        ask(&|n, list, sector| number(skip::block_on(n, list, sector))),
+        ask(&|n, list, sector| paper_number(skipping::block_on(n, list, sector))),
+        &[1, 2, 3, 4, 4, 6, 0],
+    );
+    same(
+        "Cursor::start",
+        ask(&|n, list, block| number(Cursor::start(n, list, block))),
+        ask(&|n, list, block| paper_number(skipping::start(n, list, block))),
+        &[1, 2, 3, 4, 4, 5, 0],
+    );
+    let cursor = |block: u32| Cursor { block, skipped: 2 };
+    same(
+        "Cursor::check",
+        ask(&|n, list, block| number(cursor(block).check(n, list))),
+        ask(&|n, list, block| paper_number(skipping::check((block, 2), n, list))),
+        &[1, 2, 3, 4, 4, 9, 0],
+    );
+    same(
+        "Cursor::step",
+        ask(&|n, list, block| {
+            let answer = cursor(block).step(n, list);
+            number(answer.map_err(|(refusal, _)| refusal))
+        }),
+        ask(&|n, list, block| {
+            let answer = skipping::step((block, 2), n, list);
+            paper_number(answer.map_err(|(number, _)| number))
+        }),
+        &[1, 2, 3, 4, 4, 9, 0],
+    );
+    // The cursor after the last block strays before it ends.
+    for (skipped, expected) in [(1, 9), (2, 5)] {
+        let cursor = Cursor { block: 98, skipped };
+        let refused = cursor.step(100, &[5, 9]).map_err(|(refusal, _)| refusal.number());
+        assert_eq!(refused.err(), Some(expected));
+        let model = skipping::step((98, skipped), 100, &[5, 9]);
+        assert_eq!(model.map_err(|(number, _)| number).err(), Some(expected));
+    }
+}
+
+#[test]
+fn shapes_in_order() {
+    let cases = [(shape(0, 1, 2), 9), (shape(5, 4, 5), 900), (shape(5, 4, 5), 2)];
+    same(
+        "shape::sector_of",
+        cases.map(|(drive, asked)| number(shapes::sector_of(drive, asked, 0, 0))).to_vec(),
+        cases
+            .map(|(drive, asked)| {
+                paper_number(model::shape::sector_of(paper(drive), (asked, 0, 0)))
+            })
+            .to_vec(),
+        &[1, 6, 0],
+    );
+    same(
+        "shape::address_of",
+        cases.map(|(drive, asked)| number(shapes::address_of(drive, asked))).to_vec(),
+        cases
+            .map(|(drive, asked)| paper_number(model::shape::address_of(paper(drive), asked)))
+            .to_vec(),
+        &[1, 6, 0],
+    );
+}
+
+/// A drive of 100 sectors in the place of N; out of range where N is 0.
+fn shaped(n: u32) -> Shape {
+    if n == 0 {
+        shape(5, 65, 5)
+    } else {
+        shape(5, 4, 5)
+    }
+}
+
+#[test]
+fn skipped_drives_in_order() {
+    let ask = |call: &dyn Fn(Shape, &[u32], u32) -> u32| -> Vec<u32> {
+        spaces().iter().map(|(n, list, asked)| call(shaped(*n), list, *asked)).collect()
+    };
+    same(
+        "skipped::address_of",
+        ask(&|drive, list, block| number(skipped::address_of(drive, list, block))),
+        ask(&|drive, list, block| paper_number(skipping::address_of(paper(drive), list, block))),
+        &[1, 2, 3, 4, 4, 5, 0],
+    );
+    // Each of the three numbers has its own bound, also where the sector would be on the drive.
+    for at in [(5, 0, 0), (0, 4, 0), (0, 0, 5), (4, 3, 5)] {
+        let (cylinder, head, sector) = at;
+        let drive = shaped(100);
+        let library = skipped::block_at(drive, &[5, 900], cylinder, head, sector);
+        assert_eq!(number(library), 4);
+        let library = skipped::block_at(drive, &[5, 9], cylinder, head, sector);
+        assert_eq!(number(library), 6);
+        assert_eq!(paper_number(skipping::block_at(paper(drive), &[5, 9], at)), 6);
+    }
+}
+
+#[test]
+fn pages_in_order() {
+    // Layout, then the list, then the room.
+    let strays = model::page::bytes(20, 0, &[7, 7, 30]);
+    let mut broken = strays.clone();
+    *broken.last_mut().expect("a byte") = 0;
+    let outside = model::page::bytes(20, 0, &[7, 30]);
+    let proper = model::page::bytes(20, 0, &[7, 9]);
+    let cases = [(&broken, 0), (&strays, 0), (&outside, 0), (&proper, 1), (&proper, 2)];
+    same(
+        "page::read",
+        cases.map(|(page, room)| number(page::read(page, &mut vec![0; room]))).to_vec(),
+        cases
+            .map(|(page, room)| paper_number(model::page::read(page, &mut vec![0; room])))
+            .to_vec(),
+        &[8, 3, 4, 7, 0],
+    );
+
+    // N, kind, list, room.
+    let too_long = vec![0; 4_097];
+    let cases: [(u32, u32, &[u32], usize); 7] = [
+        (0, 2, &too_long, 0),
+        (20, 2, &too_long, 0),
+        (20, 256, &too_long, 0),
+        (20, 1, &too_long, 0),
+        (20, 1, &[7, 7, 30], 0),
+        (20, 1, &[7, 9], 21),
+        (20, 1, &[7, 9], 22),
+    ];
+    same(
+        "page::write",
+        cases
+            .map(|(n, kind, list, room)| number(page::write(n, kind, list, &mut vec![0; room])))
+            .to_vec(),
+        cases
+            .map(|(n, kind, list, room)| {
+                paper_number(model::page::write(n, kind, list, &mut vec![0; room]))
+            })
+            .to_vec(),
+        &[1, 8, 8, 2, 3, 7, 0],
+    );
+}
+
+#[test]
+fn nights_in_order() {
+    let over: Vec<u32> = (0..4_097).collect();
+    let even: Vec<u32> = (0..4_096).map(|entry| 2 * entry).collect();
+    let both = [1, 3];
+    let steps: Vec<(Night, usize, u32)> = vec![
+        (night(0, &over, &[9, 9], 4, 8, &[9, 9]), 0, 1),
+        (night(9_000, &over, &[9, 9], 4, 8, &[9, 9]), 0, 2),
+        (night(9_000, &[9_000], &[9, 9], 4, 8, &[9, 9]), 0, 4),
+        (night(9_000, &even, &[9, 9], 4, 8, &[9, 9]), 0, 3),
+        (night(9_000, &even, &both, 4, 8, &[9, 9]), 0, 10),
+        (night(9_000, &even, &both, 3, 8, &[9, 9]), 0, 10),
+        // A list with an option that takes none, before the length of the list in use.
+        (night(9_000, &even, &both, 3, 6, &[9, 9]), 0, 10),
+        // The list in use, before any look at D.
+        (night(9_000, &even, &both, 3, 7, &[9, 9]), 0, 2),
+        (night(9_000, &even, &both, 2, 5, &[9, 9]), 0, 3),
+        (night(9_000, &even, &both, 2, 5, &[9_000]), 0, 4),
+        // The new list's length before the rooms.
+        (night(9_000, &even, &both, 2, 5, &[9]), 0, 2),
+        (night(9_000, &even, &both, 2, 7, &[9]), 0, 7),
+        (night(9_000, &even, &both, 2, 7, &[9]), 1, 0),
+    ];
+    for (step, (night, room, expected)) in steps.into_iter().enumerate() {
+        let Night { n, p, g, space, option, d } = night;
+        let (mut grown, mut list) = (vec![0; 4_096], vec![0; room]);
+        let library = format::format(n, p, g, space, option, d, &mut grown, &mut list);
+        assert_eq!(number(library), expected, "format::format: the library at step {step}");
+        let library = format::format(n, p, g, space, option, d, &mut list, &mut grown);
+        assert_eq!(number(library), expected, "format::format: the other room at step {step}");
+        let model = model::format::format(night, &mut grown, &mut list);
+        assert_eq!(paper_number(model), expected, "format::format: the model at step {step}");
+    }
+    // For options 1 and 3 D is held against the number of blocks.
+    for (option, expected) in [(1, 4), (3, 4), (5, 0), (7, 0)] {
+        let night = night(20, &[3, 7], &[], 1, option, &[18]);
+        assert_eq!(paper_number(model::format::lists(night)), expected);
+        let library = format::format(20, &[3, 7], &[], 1, option, &[18], &mut [0; 9], &mut [0; 9]);
+        assert_eq!(number(library), expected, "format::format: option {option}");
+    }
+}
+
+fn night<'a>(
+    n: u32,
+    p: &'a [u32],
+    g: &'a [u32],
+    space: u32,
+    option: u32,
+    d: &'a [u32],
+) -> Night<'a> {
+    Night { n, p, g, space, option, d }
+}
+
+/// Drives and tables with ever fewer faults, and the number asked for: C 2, H 2, S 5, r 2 has 12
+/// blocks, 20 sectors and 8 spares.
+fn tables() -> Vec<(Shape, u32, Vec<u32>, u32)> {
+    let proper = table_of_8();
+    let drive = shape(2, 2, 5);
+    vec![
+        (shape(2, 2, 66), 0, vec![1; 5], 900),
+        (drive, 0, vec![1; 5], 900),
+        (drive, 5, vec![1; 5], 900),
+        (shape(2, 2, 64), 63, vec![1; 5], 900),
+        (shape(25, 1, 42), 41, vec![1; 5], 900),
+        (drive, 2, vec![1; 5], 900),
+        (drive, 2, proper.clone(), 900),
+        (drive, 2, proper, 9),
+    ]
+}
+
+/// Blocks 7, 8 and 6 replaced.
+fn table_of_8() -> Vec<u32> {
+    let mut table = vec![0; 128];
+    table[8..].fill(0x8000_0000);
+    table[3..6].copy_from_slice(&[0x3000_0006, 0x2000_0007, 0x3000_0008]);
+    table
+}
+
+/// Asks a call and the model of every row.
+fn ask_tables(
+    call: &str,
+    library: &dyn Fn(Shape, u32, &[u32], u32) -> u32,
+    model: &dyn Fn(model::shape::Shape, u32, &[u32], u32) -> u32,
+    expected: &[u32],
+) {
+    let rows = tables();
+    let ours = rows.iter().map(|(drive, r, table, asked)| library(*drive, *r, table, *asked));
+    let theirs =
+        rows.iter().map(|(drive, r, table, asked)| model(paper(*drive), *r, table, *asked));
+    same(call, ours.collect(), theirs.collect(), expected);
+}
+
+#[test]
+fn spares_in_order() {
+    let by_block = [1, 1, 1, 11, 1, 11, 5, 0];
+    ask_tables(
+        "spares::sector_of",
+        &|drive, r, table, block| number(spares::sector_of(drive, r, table, block)),
+        &|drive, r, table, block| paper_number(model::spares::sector_of(drive, r, table, block)),
+        &by_block,
+    );
+    ask_tables(
+        "spares::address_of",
+        &|drive, r, table, block| number(spares::address_of(drive, r, table, block)),
+        &|drive, r, table, block| paper_number(model::spares::address_of(drive, r, table, block)),
+        &by_block,
+    );
+    ask_tables(
+        "spares::shift",
+        &|drive, r, table, block| number(spares::shift(drive, r, table, block)),
+        &|drive, r, table, block| paper_number(model::spares::shift(drive, r, table, block)),
+        &by_block,
+    );
+    ask_tables(
+        "spares::replace",
+        &|drive, r, table, block| number(spares::replace(drive, r, &mut table.to_vec(), block)),
+        &|drive, r, table, block| {
+            paper_number(model::spares::replace(drive, r, &mut table.to_vec(), block))
+        },
+        &by_block,
+    );
+    ask_tables(
+        "spares::block_on",
+        &|drive, r, table, sector| number(spares::block_on(drive, r, table, sector)),
+        &|drive, r, table, sector| paper_number(model::spares::block_on(drive, r, table, sector)),
+        &[1, 1, 1, 11, 1, 11, 6, 0],
+    );
+    ask_tables(
+        "spares::block_at",
+        &|drive, r, table, asked| number(spares::block_at(drive, r, table, asked / 9, 0, 0)),
+        &|drive, r, table, asked| {
+            paper_number(model::spares::block_at(drive, r, table, (asked / 9, 0, 0)))
+        },
+        &[1, 1, 1, 11, 1, 11, 6, 0],
+    );
+    ask_tables(
+        "spares::census",
+        &|drive, r, table, _| number(spares::census(drive, r, table)),
+        &|drive, r, table, _| paper_number(model::spares::census(drive, r, table)),
+        &[1, 1, 1, 11, 1, 11, 0, 0],
+    );
+}
+
+/// With no spare left, a block that is already replaced is refused as such, and another for want of
+/// a spare.
+#[test]
+fn already_replaced_before_no_spare() {
+    let drive = shape(2, 2, 5);
+    let mut table = table_of_8();
+    for word in &mut table[..8] {
+        if *word == 0 {
+            *word = 0x4000_0000;
+        }
+    }
+    for (block, expected) in [(900, 5), (7, 12), (0, 13)] {
+        assert_eq!(number(spares::replace(drive, 2, &mut table, block)), expected);
+        let model = model::spares::replace(paper(drive), 2, &mut table, block);
+        assert_eq!(paper_number(model), expected);
+    }
+}
+
+#[test]
+fn first_tables_in_order() {
+    let drive = shape(2, 2, 5);
+    let too_long = vec![0; 4_097];
+    // Nine bad home sectors, eight spares.
+    let too_many = [0, 1, 2, 5, 6, 7, 10, 11, 12];
+    // Seven bad home sectors and two bad spares leave too few.
+    let spares_too = [0, 1, 2, 3, 4, 5, 6, 7, 10];
+    let cases: [(Shape, u32, &[u32], usize); 9] = [
+        (shape(0, 2, 5), 2, &too_long, 0),
+        (drive, 5, &too_long, 0),
+        (drive, 2, &too_long, 0),
+        (drive, 2, &[5, 5, 20], 0),
+        (drive, 2, &[5, 20], 0),
+        (drive, 2, &too_many, 127),
+        (drive, 2, &too_many, 128),
+        (drive, 2, &spares_too, 128),
+        (drive, 2, &too_many[1..], 128),
+    ];
+    same(
+        "spares::first_table",
+        cases
+            .map(|(drive, r, list, room)| {
+                number(spares::first_table(drive, r, list, &mut vec![0; room]))
+            })
+            .to_vec(),
+        cases
+            .map(|(drive, r, list, room)| {
+                let room = &mut vec![0; room];
+                paper_number(model::spares::first_table(paper(drive), r, list, room))
+            })
+            .to_vec(),
+        &[1, 1, 2, 3, 4, 7, 13, 13, 0],
+    );
+}
+
+#[test]
+fn images_in_order() {
+    let cases = [(511, 0), (513, 529), (512, 529), (512, 530)];
+    same(
+        "image::write",
+        cases
+            .map(|(data, room)| number(image::write(7, &vec![0; data], true, &mut vec![0; room])))
+            .to_vec(),
+        cases
+            .map(|(data, room)| {
+                paper_number(model::image::write(7, &vec![0; data], true, &mut vec![0; room]))
+            })
+            .to_vec(),
+        &[14, 14, 7, 0],
+    );
+
+    let images = faulty_images();
+    same(
+        "image::header",
+        images.iter().map(|image| number(image::header(image))).collect(),
+        images.iter().map(|image| paper_number(model::image::header(image))).collect(),
+        &[14, 15, 0, 0, 0, 0],
+    );
+    same(
+        "image::judge",
+        images.iter().map(|image| number(image::judge(image, 7))).collect(),
+        images.iter().map(|image| paper_number(model::image::judge(image, 7))).collect(),
+        &[14, 15, 16, 18, 17, 0],
+    );
+}
+
+/// Images of block 7 with ever fewer faults: length, header, another block, code, forced, good.
+fn faulty_images() -> Vec<Vec<u8>> {
+    let good = model::image::bytes(7, &[0; 512], false);
+    let forced = model::image::bytes(7, &[0; 512], true);
+    let mut bad_code = forced.clone();
+    bad_code[529] ^= 1;
+    let mut other = bad_code.clone();
+    for copy in 0..3 {
+        other[4 * copy] = 1;
+    }
+    let mut no_address = other.clone();
+    no_address[4] = 2;
+    let mut long = no_address.clone();
+    long.push(0);
+    vec![long, no_address, other, bad_code, forced, good]
+}
+
+#[test]
+fn reads_in_order() {
+    // A block on its spare: the home image is noise and not looked into.
+    let (drive, table) = (shape(2, 2, 5), table_of_8());
+    let track = 5 * 530;
+    let noise = vec![0xA5; track];
+    let mut cases = Vec::new();
+    for (drive, r, table, block) in tables().into_iter().take(7) {
+        cases.push((drive, r, table, block, noise.clone(), vec![0; 3]));
+    }
+    cases.push((drive, 2, table.clone(), 7, vec![0xA5; track + 1], noise.clone()));
+    cases.push((drive, 2, table.clone(), 7, noise.clone(), vec![0xA5; track - 1]));
+    for image in faulty_images().into_iter().skip(1) {
+        // Block 7 lies on place 4, which is sector 3 of its track.
+        let mut spare = noise.clone();
+        spare[3 * 530..4 * 530].copy_from_slice(&image);
+        cases.push((drive, 2, table.clone(), 7, noise.clone(), spare));
+    }
+    let expected = [1, 1, 1, 11, 1, 11, 5, 14, 14, 15, 16, 18, 17, 0];
+    for ((drive, r, table, block, home, spare), expected) in cases.iter().zip(expected) {
+        let judged = reading::judge(*drive, *r, table, *block, home, spare);
+        assert_eq!(number(judged), expected, "reading::judge");
+        let part = reading::data(*drive, *r, table, *block, home, spare);
+        assert_eq!(number(part), expected, "reading::data");
+        let read = Read { shape: paper(*drive), r: *r, table, block: *block, home, spare };
+        assert_eq!(paper_number(model::image::spot(read)), expected, "the model's read");
+    }
+    assert_eq!(cases.len(), expected.len());
+}

@@ -1,0 +1,102 @@
+//! Reads of revectored blocks against the model.
+
+use tautberry::reading::{self, Track};
+
+use crate::draw::Draw;
+use crate::drawn_shapes::paper;
+use crate::drawn_tables::Tabled;
+use crate::model;
+use crate::model::image::Read;
+use crate::tally::Tally;
+
+const SEEDS: u64 = 30_000;
+
+/// A drive with its table, a block, and two track images.
+struct Drawn {
+    tabled: Tabled,
+    block: u32,
+    home: Vec<u8>,
+    spare: Vec<u8>,
+}
+
+impl Drawn {
+    fn paper(&self) -> Read<'_> {
+        Read {
+            shape: paper(self.tabled.shape),
+            r: self.tabled.r,
+            table: &self.tabled.table,
+            block: self.block,
+            home: &self.home,
+            spare: &self.spare,
+        }
+    }
+}
+
+/// Both images hold an image of the block where it would lie, good or damaged; all else is noise.
+fn any_read(draw: &mut Draw) -> Drawn {
+    let tabled = draw.any_tabled();
+    let drive = tabled.drive;
+    let block = draw.near(drive.blocks());
+    let place = drive.place_of(&tabled.table, block).unwrap_or(0);
+    let track = drive.shape.s as usize * 530;
+    let (mut home, mut spare) = (draw.bytes(track), draw.bytes(track));
+    let on_home = if draw.one_in(12) { draw.below(drive.shape.s) } else { block % drive.l };
+    let on_spare =
+        if draw.one_in(12) { draw.below(drive.shape.s) } else { drive.l + place % drive.r };
+    for (image, sector) in [(&mut home, on_home), (&mut spare, on_spare)] {
+        let start = sector as usize * 530;
+        image[start..start + 530].copy_from_slice(&draw.any_image(block));
+    }
+    if draw.one_in(12) {
+        std::mem::swap(&mut home, &mut spare);
+    }
+    draw.any_length(&mut home, 20);
+    draw.any_length(&mut spare, 20);
+    Drawn { tabled, block, home, spare }
+}
+
+#[test]
+fn reading_judge() {
+    let mut tally = Tally::of("reading::judge");
+    for seed in tally.seeds(SEEDS) {
+        let read = any_read(&mut Draw::of(seed));
+        let Drawn { tabled, block, home, spare } = &read;
+        let library = reading::judge(tabled.shape, tabled.r, &tabled.table, *block, home, spare);
+        tally.same(seed, library, model::image::judge_read(read.paper()));
+    }
+    tally.saw(&[0, 1, 5, 11, 14, 15, 16, 17, 18]);
+}
+
+#[test]
+fn reading_spot_and_data() {
+    let mut tally = Tally::of("reading::spot");
+    let mut parts = Tally::of("reading::data");
+    let (mut at_home, mut on_spare) = (0, 0);
+    for seed in tally.seeds(SEEDS) {
+        let read = any_read(&mut Draw::of(seed));
+        let Drawn { tabled, block, home, spare } = &read;
+        let (shape, r, table) = (tabled.shape, tabled.r, &tabled.table);
+        let library = reading::spot(shape, r, table, *block, home, spare).map(|spot| {
+            let image = match spot.track {
+                Track::Home => 0,
+                Track::Spare => 1,
+            };
+            (image, spot.offset)
+        });
+        at_home += u32::from(matches!(library, Ok((0, _))));
+        on_spare += u32::from(matches!(library, Ok((1, _))));
+        tally.same(seed, library, model::image::spot(read.paper()));
+
+        let library = reading::data(shape, r, table, *block, home, spare);
+        let model = model::image::read_data(read.paper());
+        let same_place = match (library, model) {
+            (Ok(ours), Ok(theirs)) => ours.as_ptr() == theirs.as_ptr(),
+            _ => true,
+        };
+        assert!(same_place, "reading::data lies elsewhere at seed {seed}");
+        parts.same(seed, library, model);
+    }
+    tally.saw(&[0, 1, 5, 11, 14, 15, 16, 17, 18]);
+    parts.saw(&[0, 1, 5, 11, 14, 15, 16, 17, 18]);
+    assert!(at_home > 1_000 && on_spare > 1_000, "{at_home} at home, {on_spare} on spares");
+}

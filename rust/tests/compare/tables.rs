@@ -1,0 +1,188 @@
+//! Revectored drives against the model.
+
+use tautberry::spares;
+
+use crate::draw::Draw;
+use crate::drawn_shapes::paper;
+use crate::model;
+use crate::model::spares::empty_table;
+use crate::skipping::numbers;
+use crate::tally::Tally;
+
+const SEEDS: u64 = 20_000;
+
+#[test]
+fn spares_sector_of() {
+    let mut tally = Tally::of("spares::sector_of");
+    for seed in tally.seeds(SEEDS) {
+        let mut draw = Draw::of(seed);
+        let tabled = draw.any_tabled();
+        let block = draw.near(tabled.drive.blocks());
+        let (shape, r, table) = (tabled.shape, tabled.r, &tabled.table);
+        let library = spares::sector_of(shape, r, table, block);
+        tally.same(seed, library, model::spares::sector_of(paper(shape), r, table, block));
+    }
+    tally.saw(&[0, 1, 5, 11]);
+}
+
+#[test]
+fn spares_address_of() {
+    let mut tally = Tally::of("spares::address_of");
+    for seed in tally.seeds(SEEDS) {
+        let mut draw = Draw::of(seed);
+        let tabled = draw.any_tabled();
+        let block = draw.near(tabled.drive.blocks());
+        let (shape, r, table) = (tabled.shape, tabled.r, &tabled.table);
+        let library = spares::address_of(shape, r, table, block).map(numbers);
+        tally.same(seed, library, model::spares::address_of(paper(shape), r, table, block));
+    }
+    tally.saw(&[0, 1, 5, 11]);
+}
+
+#[test]
+fn spares_shift() {
+    let mut tally = Tally::of("spares::shift");
+    let (mut toward, mut away) = (0, 0);
+    for seed in tally.seeds(SEEDS) {
+        let mut draw = Draw::of(seed);
+        let tabled = draw.any_tabled();
+        let block = draw.near(tabled.drive.blocks());
+        let (shape, r, table) = (tabled.shape, tabled.r, &tabled.table);
+        let library = spares::shift(shape, r, table, block);
+        toward += u32::from(library.is_ok_and(|shift| shift < 0));
+        away += u32::from(library.is_ok_and(|shift| shift > 0));
+        tally.same(seed, library, model::spares::shift(paper(shape), r, table, block));
+    }
+    tally.saw(&[0, 1, 5, 11]);
+    assert!(toward > 200 && away > 200, "{toward} negative, {away} positive");
+}
+
+#[test]
+fn spares_block_on() {
+    let mut tally = Tally::of("spares::block_on");
+    let (mut blocks, mut none) = (0, 0);
+    for seed in tally.seeds(SEEDS) {
+        let mut draw = Draw::of(seed);
+        let tabled = draw.any_tabled();
+        let sector = draw.near(tabled.drive.blocks() + tabled.drive.spares());
+        let (shape, r, table) = (tabled.shape, tabled.r, &tabled.table);
+        let library = spares::block_on(shape, r, table, sector);
+        blocks += u32::from(matches!(library, Ok(Some(_))));
+        none += u32::from(library == Ok(None));
+        tally.same(seed, library, model::spares::block_on(paper(shape), r, table, sector));
+    }
+    tally.saw(&[0, 1, 6, 11]);
+    assert!(blocks > 1_000 && none > 1_000, "{blocks} blocks, {none} times none");
+}
+
+#[test]
+fn spares_block_at() {
+    let mut tally = Tally::of("spares::block_at");
+    let (mut blocks, mut none) = (0, 0);
+    for seed in tally.seeds(SEEDS) {
+        let mut draw = Draw::of(seed);
+        let tabled = draw.any_tabled();
+        let address = draw.any_address(tabled.shape);
+        let (shape, r, table) = (tabled.shape, tabled.r, &tabled.table);
+        let (cylinder, head, sector) = address;
+        let library = spares::block_at(shape, r, table, cylinder, head, sector);
+        blocks += u32::from(matches!(library, Ok(Some(_))));
+        none += u32::from(library == Ok(None));
+        tally.same(seed, library, model::spares::block_at(paper(shape), r, table, address));
+    }
+    tally.saw(&[0, 1, 6, 11]);
+    assert!(blocks > 1_000 && none > 1_000, "{blocks} blocks, {none} times none");
+}
+
+#[test]
+fn spares_replace() {
+    let mut tally = Tally::of("spares::replace");
+    for seed in tally.seeds(SEEDS) {
+        let mut draw = Draw::of(seed);
+        let tabled = draw.any_tabled();
+        let block = draw.near(tabled.drive.blocks());
+        let (shape, r) = (tabled.shape, tabled.r);
+        let (mut ours, mut theirs) = (tabled.table.clone(), tabled.table.clone());
+        let library = spares::replace(shape, r, &mut ours, block);
+        let model = model::spares::replace(paper(shape), r, &mut theirs, block);
+        tally.same(seed, library, model);
+        assert_eq!(ours, theirs, "spares::replace: another table at seed {seed}");
+        let altered = (0..ours.len()).filter(|place| ours[*place] != tabled.table[*place]);
+        let expected = library.ok().map(|place| place as usize);
+        assert!(altered.eq(expected), "spares::replace: another place altered at seed {seed}");
+    }
+    tally.saw(&[0, 1, 5, 11, 12, 13]);
+}
+
+#[test]
+fn spares_census() {
+    let mut tally = Tally::of("spares::census");
+    for seed in tally.seeds(SEEDS) {
+        let mut draw = Draw::of(seed);
+        let tabled = draw.any_tabled();
+        let (shape, r, table) = (tabled.shape, tabled.r, &tabled.table);
+        let library = spares::census(shape, r, table)
+            .map(|count| [count.free, count.primary, count.elsewhere, count.unusable, count.null]);
+        tally.same(seed, library, model::spares::census(paper(shape), r, table));
+    }
+    tally.saw(&[0, 1, 11]);
+}
+
+#[test]
+fn spares_first_table() {
+    let mut tally = Tally::of("spares::first_table");
+    for seed in tally.seeds(SEEDS) {
+        let mut draw = Draw::of(seed);
+        let (shape, r) = draw.drive();
+        let drive = model::spares::drive(paper(shape), r).expect("a drive in its range");
+        let n = drive.blocks() + drive.spares();
+        let mut list = draw.any_list(n);
+        if draw.one_in(2) {
+            // Few bad sectors, so that the spares are enough.
+            list.truncate(draw.below(drive.spares() + 2) as usize);
+        }
+        let (shape, r) = draw.any_drive(shape, r);
+        let length = draw.room_length(drive.table_length());
+        let before = draw.word_room(length);
+        let (mut ours, mut theirs) = (before.clone(), before.clone());
+        let library = spares::first_table(shape, r, &list, ours.lent());
+        let model = model::spares::first_table(paper(shape), r, &list, theirs.lent());
+        let written = model.unwrap_or(0) as usize;
+        tally.same(seed, library, model);
+        tally.same_room(seed, &before, &ours, &theirs, written);
+    }
+    tally.saw(&[0, 1, 2, 3, 4, 7, 13]);
+}
+
+/// From a first table through every block of the drive, until no spare is left: the table stays the
+/// model's, and the census keeps its law.
+#[test]
+fn replacing_until_no_spare_is_left() {
+    let mut tally = Tally::of("spares::replace, whole lives");
+    for seed in tally.seeds(300) {
+        let mut draw = Draw::of(seed);
+        let (shape, r) = draw.drive();
+        let drive = model::spares::drive(paper(shape), r).expect("a drive in its range");
+        let mut list = draw.list(drive.blocks() + drive.spares());
+        list.truncate(drive.spares() as usize / 3);
+        let mut ours = vec![0; drive.table_length()];
+        let mut theirs = empty_table(drive);
+        spares::first_table(shape, r, &list, &mut ours).expect("few bad sectors");
+        model::spares::first_table(paper(shape), r, &list, &mut theirs).expect("few bad sectors");
+        assert_eq!(ours, theirs, "spares::first_table at seed {seed}");
+
+        let mut free = drive.spares() - list.len() as u32;
+        let tries = drive.spares() + 10;
+        for _ in 0..tries {
+            let block = draw.below(drive.blocks());
+            let library = spares::replace(shape, r, &mut ours, block);
+            let model = model::spares::replace(paper(shape), r, &mut theirs, block);
+            free -= u32::from(library.is_ok());
+            tally.same(seed, library, model);
+            assert_eq!(ours, theirs, "spares::replace at seed {seed}");
+        }
+        let counted = spares::census(shape, r, &ours).expect("a table of its own");
+        assert_eq!(counted.free, free, "spares::census at seed {seed}");
+    }
+    tally.saw(&[0, 12, 13]);
+}

@@ -1,0 +1,425 @@
+//! The C face itself, without the wrappers: the numbers beside a refusal, and null slices.
+
+use std::ptr::{null, null_mut};
+
+use tautberry::{Address, Cursor, Shape};
+
+// The answers are read as one row of numbers, not by their fields.
+#[allow(dead_code)]
+#[path = "../src/ffi.rs"]
+mod ffi;
+
+use ffi::*;
+
+/// C 2, H 2, S 5, r 2: 12 blocks, 20 sectors, 8 spares.
+const SHAPE: Shape = Shape { cylinders: 2, heads: 2, sectors: 5 };
+const R: u32 = 2;
+/// No list has it.
+const STRAY: Cursor = Cursor { block: 5, skipped: 4_000 };
+
+/// An answer's numbers in their order; every field of every answer is 32 bits wide.
+fn numbers<T>(answer: T) -> Vec<u32> {
+    let count = size_of::<T>() / size_of::<u32>();
+    let first = std::ptr::from_ref(&answer).cast::<u32>();
+    // SAFETY: an answer is `#[repr(C)]` and has nothing but 32-bit numbers.
+    unsafe { std::slice::from_raw_parts(first, count) }.to_vec()
+}
+
+/// The refusal's number, and 0 in every other place.
+fn refused<T>(call: &str, number: u32, answer: T) {
+    let mut expected = vec![0; size_of::<T>() / size_of::<u32>()];
+    expected[0] = number;
+    assert_eq!(numbers(answer), expected, "{call}");
+}
+
+/// An N and a list for each of the refusals 1 to 4.
+fn bad_spaces() -> [(u32, u32, Vec<u32>); 4] {
+    [(1, 0, vec![3]), (2, 20, (0..4_097).collect()), (3, 20, vec![3, 3]), (4, 20, vec![3, 20])]
+}
+
+/// The drive of 20 sectors, or one out of range where N is 0.
+fn shape_of(n: u32) -> Shape {
+    Shape { heads: if n == 0 { 0 } else { 2 }, ..SHAPE }
+}
+
+#[test]
+fn refused_skipping_answers_zeros() {
+    for (number, n, list) in bad_spaces() {
+        let (at, len, shape) = (list.as_ptr(), list.len(), shape_of(n));
+        // SAFETY: the pointer and length are those of a live slice.
+        unsafe {
+            refused("tb_skip_sector", number, tb_skip_sector(n, at, len, 3));
+            refused("tb_skip_block", number, tb_skip_block(n, at, len, 3));
+            refused("tb_job_start", number, tb_job_start(n, at, len, 3));
+            refused("tb_job_check", number, tb_job_check(STRAY, n, at, len));
+            refused("tb_skipped_address", number, tb_skipped_address(shape, at, len, 3));
+            refused("tb_skipped_block", number, tb_skipped_block(shape, at, len, 1, 1, 3));
+        }
+    }
+    let list = [3];
+    let (at, len) = (list.as_ptr(), list.len());
+    // SAFETY: the pointer and length are those of a live slice.
+    unsafe {
+        refused("tb_skip_sector", 5, tb_skip_sector(20, at, len, 19));
+        refused("tb_skip_block", 6, tb_skip_block(20, at, len, 20));
+        refused("tb_job_start", 5, tb_job_start(20, at, len, 19));
+        refused("tb_job_check", 9, tb_job_check(STRAY, 20, at, len));
+        refused("tb_skipped_address", 5, tb_skipped_address(SHAPE, at, len, 19));
+        refused("tb_skipped_block", 6, tb_skipped_block(SHAPE, at, len, 1, 2, 3));
+        refused("tb_shape_sector", 1, tb_shape_sector(shape_of(0), 1, 1, 1));
+        refused("tb_shape_sector", 6, tb_shape_sector(SHAPE, 1, 1, 5));
+        refused("tb_shape_address", 1, tb_shape_address(shape_of(0), 1));
+        refused("tb_shape_address", 6, tb_shape_address(SHAPE, 20));
+    }
+}
+
+#[test]
+fn a_refused_step_hands_back_the_cursor() {
+    let step = |number: u32, cursor: Cursor, n: u32, list: &[u32]| {
+        // SAFETY: the pointer and length are those of a live slice.
+        let answer = unsafe { tb_job_step(cursor, n, list.as_ptr(), list.len()) };
+        let expected = [number, 0, cursor.block, cursor.skipped];
+        assert_eq!(numbers(answer), expected, "tb_job_step");
+    };
+    for (number, n, list) in bad_spaces() {
+        step(number, STRAY, n, &list);
+    }
+    step(9, STRAY, 20, &[3]);
+    step(5, Cursor { block: 19, skipped: 1 }, 20, &[3]);
+}
+
+/// A start and a check answer sector 0 beside the cursor.
+#[test]
+fn no_sector_beside_a_cursor_that_does_not_step() {
+    let list = [3];
+    let cursor = Cursor { block: 5, skipped: 1 };
+    // SAFETY: the pointer and length are those of a live slice.
+    unsafe {
+        let started = tb_job_start(20, list.as_ptr(), list.len(), 5);
+        assert_eq!(numbers(started), [0, 0, 5, 1], "tb_job_start");
+        let checked = tb_job_check(cursor, 20, list.as_ptr(), list.len());
+        assert_eq!(numbers(checked), [0, 0, 5, 1], "tb_job_check");
+    }
+}
+
+/// "No block" is accepted, and its block is 0.
+#[test]
+fn no_block_answers_zeros() {
+    let (list, table) = ([3], table());
+    // SAFETY: the pointers and lengths are those of live slices.
+    unsafe {
+        let on = tb_skip_block(20, list.as_ptr(), list.len(), 3);
+        assert_eq!(numbers(on), [0, 0, 0], "tb_skip_block");
+        let on = tb_skipped_block(SHAPE, list.as_ptr(), list.len(), 0, 0, 3);
+        assert_eq!(numbers(on), [0, 0, 0], "tb_skipped_block");
+        // The home of block 7.
+        let on = tb_spare_block(SHAPE, R, table.as_ptr(), table.len(), 11);
+        assert_eq!(numbers(on), [0, 0, 0], "tb_spare_block");
+        let on = tb_spare_block_at(SHAPE, R, table.as_ptr(), table.len(), 1, 0, 1);
+        assert_eq!(numbers(on), [0, 0, 0], "tb_spare_block_at");
+    }
+}
+
+#[test]
+fn refused_pages_answer_zeros() {
+    let read = |number: u32, page: &[u8], room: &mut [u32]| {
+        // SAFETY: pointers and lengths are those of live slices.
+        let answer =
+            unsafe { tb_page_read(page.as_ptr(), page.len(), room.as_mut_ptr(), room.len()) };
+        refused("tb_page_read", number, answer);
+    };
+    let page = |first: u8, second: u8| {
+        [0, 0, 0, 22, 1, 1, 0, 0, 0, 20, 0, 0, 0, first, 0, 0, 0, second, 255, 255, 255, 255]
+    };
+    read(8, &page(3, 7)[1..], &mut [0; 2]);
+    read(3, &page(3, 3), &mut [0; 2]);
+    read(4, &page(3, 20), &mut [0; 2]);
+    read(7, &page(3, 7), &mut [0; 1]);
+
+    let write = |number: u32, n: u32, kind: u32, list: &[u32], length: usize| {
+        let mut room = vec![0; length];
+        // SAFETY: pointers and lengths are those of live slices.
+        let answer = unsafe {
+            tb_page_write(n, kind, list.as_ptr(), list.len(), room.as_mut_ptr(), room.len())
+        };
+        refused("tb_page_write", number, answer);
+    };
+    for (number, n, list) in bad_spaces() {
+        write(number, n, 1, &list, 20_000);
+    }
+    write(8, 20, 256, &[3], 20_000);
+    write(7, 20, 1, &[3], 17);
+}
+
+#[test]
+fn refused_nights_answer_zeros() {
+    let night = |number: u32, n: u32, p: &[u32], option: u32, d: &[u32], length: usize| {
+        let (mut grown, mut list) = (vec![0; length], vec![0; length]);
+        // SAFETY: pointers and lengths are those of live slices.
+        let answer = unsafe {
+            tb_format(
+                n,
+                p.as_ptr(),
+                p.len(),
+                null(),
+                0,
+                1,
+                option,
+                d.as_ptr(),
+                d.len(),
+                grown.as_mut_ptr(),
+                grown.len(),
+                list.as_mut_ptr(),
+                list.len(),
+            )
+        };
+        refused("tb_format", number, answer);
+    };
+    for (number, n, list) in bad_spaces() {
+        night(number, n, &list, 5, &[3], 9);
+        night(number, n, &[3], 5, &list, 9);
+    }
+    night(10, 20, &[3], 4, &[3], 9);
+    night(7, 20, &[3], 5, &[3, 5], 1);
+}
+
+/// The drive's table with block 7 at place 4 and no other.
+fn table() -> Vec<u32> {
+    let mut table = vec![0; 128];
+    table[4] = 0x2000_0007;
+    table[8..].fill(0x8000_0000);
+    table
+}
+
+/// The drive's table with every place taken or unusable.
+fn full_table() -> Vec<u32> {
+    let mut table = table();
+    for word in &mut table[..8] {
+        if *word == 0 {
+            *word = 0x4000_0000;
+        }
+    }
+    table
+}
+
+#[test]
+fn refused_spares_answer_zeros() {
+    let mut bad = table();
+    bad[0] = 0x1000_0000;
+    // The number by block, the number by sector, r, the table, and what is asked for.
+    let cases = [(1, 1, 5, table(), 3), (11, 11, R, bad, 3), (5, 6, R, table(), 900)];
+    for (by_block, by_sector, r, mut table, asked) in cases {
+        let (at, len) = (table.as_ptr(), table.len());
+        // SAFETY: the pointer and length are those of a live slice.
+        unsafe {
+            refused("tb_spare_sector", by_block, tb_spare_sector(SHAPE, r, at, len, asked));
+            refused("tb_spare_address", by_block, tb_spare_address(SHAPE, r, at, len, asked));
+            refused("tb_spare_shift", by_block, tb_spare_shift(SHAPE, r, at, len, asked));
+            refused("tb_spare_block", by_sector, tb_spare_block(SHAPE, r, at, len, asked));
+            let on = tb_spare_block_at(SHAPE, r, at, len, 1, 1, asked);
+            refused("tb_spare_block_at", by_sector, on);
+            if by_block != 5 {
+                refused("tb_spare_census", by_block, tb_spare_census(SHAPE, r, at, len));
+            }
+            let replaced = tb_spare_replace(SHAPE, r, table.as_mut_ptr(), len, asked);
+            refused("tb_spare_replace", by_block, replaced);
+        }
+    }
+    for (number, block) in [(12, 7), (13, 0)] {
+        let mut table = full_table();
+        // SAFETY: the pointer and length are those of a live slice.
+        let answer = unsafe { tb_spare_replace(SHAPE, R, table.as_mut_ptr(), table.len(), block) };
+        refused("tb_spare_replace", number, answer);
+    }
+
+    let first = |number: u32, r: u32, list: &[u32], length: usize| {
+        let mut room = vec![0; length];
+        // SAFETY: pointers and lengths are those of live slices.
+        let answer = unsafe {
+            tb_spare_first(SHAPE, r, list.as_ptr(), list.len(), room.as_mut_ptr(), room.len())
+        };
+        refused("tb_spare_first", number, answer);
+    };
+    for (number, n, list) in bad_spaces() {
+        first(number, if n == 0 { 0 } else { R }, &list, 128);
+    }
+    first(7, R, &[3], 127);
+    first(13, R, &[0, 1, 2, 5, 6, 7, 10, 11, 12], 128);
+}
+
+/// The image of block 7 with zeros for data, good or forced.
+fn image(forced: bool) -> Vec<u8> {
+    let mut image = [0, 0, 0, 7].repeat(4);
+    image.extend([0; 512]);
+    image.extend(if forced { [0xA5, 0xC3] } else { [0x5A, 0x3C] });
+    image
+}
+
+/// Images of block 7 that are refused so.
+fn bad_images() -> [(u32, Vec<u8>); 5] {
+    let mut no_address = image(false);
+    (no_address[0], no_address[4]) = (1, 2);
+    let mut other = image(false);
+    other[3..16].iter_mut().step_by(4).for_each(|byte| *byte = 8);
+    let mut bad_code = image(false);
+    bad_code[20] ^= 1;
+    [
+        (14, image(false)[1..].to_vec()),
+        (15, no_address),
+        (16, other),
+        (17, image(true)),
+        (18, bad_code),
+    ]
+}
+
+#[test]
+fn refused_images_answer_zeros() {
+    for (number, image) in bad_images() {
+        // SAFETY: the pointer and length are those of a live slice.
+        unsafe {
+            let (at, len) = (image.as_ptr(), image.len());
+            refused("tb_image_judge", number, tb_image_judge(at, len, 7));
+            if number <= 15 {
+                refused("tb_image_header", number, tb_image_header(at, len));
+            }
+        }
+    }
+    for (number, length, room_length) in [(14, 511, 530), (7, 512, 529)] {
+        let (data, mut room) = (vec![0; length], vec![0; room_length]);
+        // SAFETY: pointers and lengths are those of live slices.
+        let answer = unsafe {
+            tb_image_write(7, data.as_ptr(), data.len(), true, room.as_mut_ptr(), room.len())
+        };
+        refused("tb_image_write", number, answer);
+    }
+}
+
+#[test]
+fn refused_reads_answer_zeros() {
+    let read = |number: u32, r: u32, table: &[u32], block: u32, spare: &[u8]| {
+        let home = vec![0; 5 * 530];
+        let (table_at, table_len) = (table.as_ptr(), table.len());
+        let (home_at, home_len) = (home.as_ptr(), home.len());
+        let (spare_at, spare_len) = (spare.as_ptr(), spare.len());
+        // SAFETY: pointers and lengths are those of live slices.
+        unsafe {
+            let judged = tb_read_judge(
+                SHAPE, r, table_at, table_len, block, home_at, home_len, spare_at, spare_len,
+            );
+            refused("tb_read_judge", number, judged);
+            let part = tb_read_data(
+                SHAPE, r, table_at, table_len, block, home_at, home_len, spare_at, spare_len,
+            );
+            refused("tb_read_data", number, part);
+        }
+    };
+    let table = table();
+    // Block 7 is on place 4, sector 3 of its track.
+    let mut spare = vec![0; 5 * 530];
+    spare[3 * 530..4 * 530].copy_from_slice(&image(false));
+    read(1, 5, &table, 7, &spare);
+    read(11, R, &table[1..], 7, &spare);
+    read(5, R, &table, 12, &spare);
+    read(14, R, &table, 7, &spare[1..]);
+    for (number, image) in bad_images().into_iter().skip(1) {
+        spare[3 * 530..4 * 530].copy_from_slice(&image);
+        read(number, R, &table, 7, &spare);
+    }
+}
+
+/// A null pointer with length 0 is an empty slice, in every place where a slice is taken.
+#[test]
+fn null_with_length_0_is_an_empty_slice() {
+    let start = Cursor::default();
+    // SAFETY: the C face takes null where the length is 0.
+    unsafe {
+        assert_eq!(numbers(tb_skip_sector(20, null(), 0, 3)), [0, 3]);
+        assert_eq!(numbers(tb_skip_block(20, null(), 0, 3)), [0, 1, 3]);
+        assert_eq!(numbers(tb_job_start(20, null(), 0, 3)), [0, 0, 3, 0]);
+        assert_eq!(numbers(tb_job_check(start, 20, null(), 0)), [0, 0, 0, 0]);
+        assert_eq!(numbers(tb_job_step(start, 20, null(), 0)), [0, 0, 1, 0]);
+        assert_eq!(numbers(tb_skipped_address(SHAPE, null(), 0, 13)), [0, 1, 0, 3]);
+        assert_eq!(numbers(tb_skipped_block(SHAPE, null(), 0, 1, 0, 3)), [0, 1, 13]);
+    }
+}
+
+#[test]
+fn null_pages_and_nights() {
+    let mut page = [0; 14];
+    // SAFETY: the C face takes null where the length is 0; other pointers are of live slices.
+    unsafe {
+        refused("tb_page_read", 8, tb_page_read(null(), 0, null_mut(), 0));
+        refused("tb_page_write", 7, tb_page_write(20, 1, null(), 0, null_mut(), 0));
+        let written = tb_page_write(20, 1, null(), 0, page.as_mut_ptr(), page.len());
+        assert_eq!(numbers(written), [0, 14]);
+        let read = tb_page_read(page.as_ptr(), page.len(), null_mut(), 0);
+        assert_eq!(numbers(read), [0, 1, 20, 0]);
+
+        // An empty result needs no room.
+        for option in 0..8 {
+            let night = tb_format(
+                20,
+                null(),
+                0,
+                null(),
+                0,
+                0,
+                option,
+                null(),
+                0,
+                null_mut(),
+                0,
+                null_mut(),
+                0,
+            );
+            let space = [0, 3, 2, 2, 1, 3, 0, 2][option as usize];
+            assert_eq!(numbers(night), [0, 0, 0, space], "option {option}");
+        }
+        let d = [3];
+        let night =
+            tb_format(20, null(), 0, null(), 0, 0, 7, d.as_ptr(), 1, null_mut(), 0, null_mut(), 0);
+        refused("tb_format", 7, night);
+    }
+}
+
+#[test]
+fn null_tables_and_lists() {
+    let mut room = [7; 128];
+    // SAFETY: the C face takes null where the length is 0; other pointers are of live slices.
+    unsafe {
+        refused("tb_spare_sector", 11, tb_spare_sector(SHAPE, R, null(), 0, 3));
+        refused("tb_spare_address", 11, tb_spare_address(SHAPE, R, null(), 0, 3));
+        refused("tb_spare_shift", 11, tb_spare_shift(SHAPE, R, null(), 0, 3));
+        refused("tb_spare_block", 11, tb_spare_block(SHAPE, R, null(), 0, 3));
+        refused("tb_spare_block_at", 11, tb_spare_block_at(SHAPE, R, null(), 0, 1, 0, 3));
+        refused("tb_spare_replace", 11, tb_spare_replace(SHAPE, R, null_mut(), 0, 3));
+        refused("tb_spare_census", 11, tb_spare_census(SHAPE, R, null(), 0));
+        refused("tb_spare_first", 7, tb_spare_first(SHAPE, R, null(), 0, null_mut(), 0));
+        let made = tb_spare_first(SHAPE, R, null(), 0, room.as_mut_ptr(), room.len());
+        assert_eq!(numbers(made), [0, 128]);
+    }
+    assert_eq!(room[..8], [0; 8]);
+    assert_eq!(room[8..], [0x8000_0000; 120]);
+}
+
+#[test]
+fn null_images() {
+    let (data, table) = ([0; 512], table());
+    let (at, len) = (table.as_ptr(), table.len());
+    // SAFETY: the C face takes null where the length is 0; other pointers are of live slices.
+    unsafe {
+        refused("tb_image_write", 14, tb_image_write(7, null(), 0, false, null_mut(), 0));
+        let written = tb_image_write(7, data.as_ptr(), data.len(), false, null_mut(), 0);
+        refused("tb_image_write", 7, written);
+        refused("tb_image_header", 14, tb_image_header(null(), 0));
+        refused("tb_image_judge", 14, tb_image_judge(null(), 0, 7));
+        let judged = tb_read_judge(SHAPE, R, null(), 0, 7, null(), 0, null(), 0);
+        refused("tb_read_judge", 11, judged);
+        let judged = tb_read_judge(SHAPE, R, at, len, 7, null(), 0, null(), 0);
+        refused("tb_read_judge", 14, judged);
+        let part = tb_read_data(SHAPE, R, null(), 0, 7, null(), 0, null(), 0);
+        refused("tb_read_data", 11, part);
+        let part = tb_read_data(SHAPE, R, at, len, 7, null(), 0, null(), 0);
+        refused("tb_read_data", 14, part);
+    }
+}
