@@ -1,0 +1,66 @@
+// The limit of spares: 1,024 and one more in several shapes, with the table's length and the census of the first table, and lengths that are no table's.
+use shape::Shape;
+
+// Writes a drive, and its first table with no bad sector: the length, how many places of the room it changed, and its census.
+fn try_drive(cylinders: u32, heads: u32, sectors: u32, r: u32) {
+    telling::number(b"shape ", cylinders);
+    telling::number(b", ", heads);
+    telling::number(b", ", sectors);
+    telling::number(b", spares of a track ", r);
+    telling::end();
+    let shape = Shape {
+        cylinders,
+        heads,
+        sectors,
+    };
+    let mut room = [7u32; 1_152];
+    let answer = spares::first_table(shape, r, &[], &mut room);
+    telling::text(b"  first table: ");
+    telling::answers::written(answer);
+    telling::count_line(
+        b"  places changed: ",
+        comparing::differing(&room, &[7u32; 1_152]),
+    );
+    let table = comparing::first(&room, telling::answers::long_of(answer));
+    telling::text(b"  census: ");
+    telling::answers::counted(spares::census(shape, r, table));
+}
+
+// A room one place too short, and tables one descriptor too short and too long.
+fn try_lengths() {
+    let shape = Shape {
+        cylinders: 1_024,
+        heads: 1,
+        sectors: 2,
+    };
+    let mut room = [7u32; 1_025];
+    telling::line(b"the first shape again");
+    telling::text(b"  first table in 1023 places: ");
+    telling::answers::written(spares::first_table(shape, 1, &[], &mut room[..1_023]));
+    telling::count_line(
+        b"  places changed: ",
+        comparing::differing(&room, &[7u32; 1_025]),
+    );
+    let free = [0u32; 1_025];
+    telling::text(b"  census of 1023 free: ");
+    telling::answers::counted(spares::census(shape, 1, &free[..1_023]));
+    telling::text(b"  census of 1024 free: ");
+    telling::answers::counted(spares::census(shape, 1, &free[..1_024]));
+    telling::text(b"  census of 1025 free: ");
+    telling::answers::counted(spares::census(shape, 1, &free));
+}
+
+fn main() {
+    try_drive(1_024, 1, 2, 1);
+    try_drive(1_025, 1, 2, 1);
+    try_drive(16, 64, 3, 1);
+    try_drive(8, 4, 64, 32);
+    try_drive(5, 5, 64, 41);
+    try_drive(4_096, 64, 64, 63);
+    try_drive(129, 1, 2, 1);
+    try_drive(128, 1, 2, 1);
+    try_drive(1, 1, 2, 1);
+    try_drive(1, 1, 2, 0);
+    try_drive(1, 1, 2, 2);
+    try_lengths();
+}
