@@ -1,4 +1,5 @@
 // The limit of a list: 4,096 entries and one more, asked of the translation, of a job and of a page.
+ghost use Prim.Native.Nat.{_<_};
 use skip::Cursor;
 
 // The cursor of a block and a skipped count.
@@ -7,7 +8,10 @@ fn cursor(block: u32, skipped: u32) -> Cursor {
 }
 
 // The first and the last block and sector, and one more of each.
-fn try_ends(n: u32, list: &[u32], blocks: u32) {
+fn try_ends(n: u32, list: &[u32], blocks: u32)
+    requires { ⌜ 1 < n ⌝ }
+    requires { ⌜ 0 < blocks ⌝ }
+{
     telling::asking::space(n, list);
     telling::asking::block(n, list, 0);
     telling::asking::block(n, list, blocks - 1);
@@ -19,7 +23,9 @@ fn try_ends(n: u32, list: &[u32], blocks: u32) {
 }
 
 // A job that opens two blocks before the end and steps past it.
-fn try_job(n: u32, list: &[u32], blocks: u32) {
+fn try_job(n: u32, list: &[u32], blocks: u32)
+    requires { ⌜ 1 < blocks ⌝ }
+{
     let first = telling::asking::start(n, list, blocks - 2);
     let second = telling::asking::step(n, list, first);
     let end = telling::asking::step(n, list, second);
@@ -65,76 +71,77 @@ fn try_refused(n: u32, list: &[u32]) {
     telling::asking::step(n, list, cursor(1, 1));
 }
 
-// One entry more, on a drive that has room for it.
-fn try_long() {
-    let mut list = [0u32; 4_097];
-    comparing::spread(&mut list, 0, 2);
-    try_refused(16_777_216, &list);
-}
-
 // The last entry is the one before it again, or one that the drive does not have.
-fn try_last_place() {
-    let mut list = [0u32; 4_096];
-    comparing::spread(&mut list, 0, 2);
-    list[4_095] = 8_188;
+fn try_last_place(list: [u32; 4_096]) {
+    let mut other = list;
+    other[4_095] = 8_188;
     telling::line(b"the last entry falls");
-    try_refused(8_192, &list);
-    list[4_095] = 8_192;
+    try_refused(8_192, &other);
+    other[4_095] = 8_192;
     telling::line(b"the last entry strays");
-    try_refused(8_192, &list);
+    try_refused(8_192, &other);
 }
 
-// A page there and back, its rooms one place too short, and a page of one entry more.
-fn try_page(list: &[u32]) {
-    let mut page = [0u8; 16_398];
-    telling::line(b"page of 4096 entries");
+// A page that is written into a room one byte too short and read into one that is an entry too short.
+fn try_short_rooms(list: &[u32], page: &[u8]) {
+    let mut bytes = [7u8; 16_397];
     telling::text(b"  written into 16397 bytes: ");
-    telling::answers::written(page::write(8_192, 1, list, &mut page[..16_397]));
+    telling::answers::written(page::write(8_192, 1, list, &mut bytes));
     telling::count_line(
         b"    bytes changed: ",
-        comparing::differing_bytes(&page, &[0u8; 16_398]),
+        comparing::differing_bytes(&bytes, &[7u8; 16_397]),
     );
+    let mut entries = [7u32; 4_095];
+    telling::text(b"  read into 4095 places: ");
+    telling::answers::paged(page::read(page, &mut entries));
+    telling::count_line(
+        b"    places changed: ",
+        comparing::differing(&entries, &[7u32; 4_095]),
+    );
+}
+
+// The longest page there and back.
+fn try_page(list: &[u32]) {
+    telling::line(b"page of 4096 entries");
+    let mut page = [7u8; 16_398];
     telling::text(b"  written into 16398 bytes: ");
     telling::answers::written(page::write(8_192, 1, list, &mut page));
     let mut back = [7u32; 4_097];
-    telling::text(b"  read into 4095 places: ");
-    telling::answers::paged(page::read(&page, &mut back[..4_095]));
-    telling::count_line(
-        b"    places changed: ",
-        comparing::differing(&back, &[7u32; 4_097]),
-    );
     telling::text(b"  read into 4097 places: ");
     telling::answers::paged(page::read(&page, &mut back));
     telling::count_line(
         b"    places that differ from the list: ",
-        comparing::differing(&back[..4_096], list),
+        comparing::differing(comparing::first(&back, 4_096), list),
     );
     telling::number(b"    the place after it: ", back[4_096]);
     telling::end();
+    try_short_rooms(list, &page);
 }
 
 // A page of one entry more is neither written nor read.
-fn try_long_page() {
-    let mut list = [0u32; 4_097];
-    comparing::spread(&mut list, 0, 2);
+fn try_long_page(list: &[u32]) {
     let mut page = [255u8; 16_402];
     telling::line(b"page of 4097 entries");
     telling::text(b"  written: ");
-    telling::answers::written(page::write(16_384, 1, &list, &mut page));
+    telling::answers::written(page::write(16_384, 1, list, &mut page));
     telling::count_line(
         b"    bytes changed: ",
         comparing::differing_bytes(&page, &[255u8; 16_402]),
     );
     telling::text(b"  written without the last: ");
-    telling::answers::written(page::write(16_384, 1, &list[..4_096], &mut page));
+    let shorter = comparing::first(list, 4_096);
+    telling::answers::written(page::write(16_384, 1, shorter, &mut page));
     page[2] = 64;
     page[3] = 18;
     page[16_394] = 0;
     page[16_395] = 0;
     page[16_396] = 32;
     page[16_397] = 0;
+    telling::bytes(
+        b"  made by hand, its length:",
+        comparing::first_bytes(&page, 4),
+    );
     let mut back = [0u32; 4_097];
-    telling::bytes(b"  made by hand, its length:", &page[..4]);
     telling::text(b"  read: ");
     telling::answers::paged(page::read(&page, &mut back));
 }
@@ -145,8 +152,10 @@ fn main() {
     try_seconds(&list);
     try_run_before();
     try_run_after();
-    try_long();
-    try_last_place();
+    try_last_place(list);
     try_page(&list);
-    try_long_page();
+    let mut long = [0u32; 4_097];
+    comparing::spread(&mut long, 0, 2);
+    try_refused(16_777_216, &long);
+    try_long_page(&long);
 }

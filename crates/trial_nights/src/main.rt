@@ -35,68 +35,73 @@ fn name_lists(n: u32, p: &[u32], g: &[u32]) {
     telling::count_line(b", G of ", g.len());
 }
 
-// Writes how many places of the rooms have changed.
-fn changed(grown: &[u32], list: &[u32]) {
+// Writes how many places of the rooms have changed, which are lent as long as they are.
+fn changed(grown: &[u32], grown_before: &[u32], list: &[u32], list_before: &[u32]) {
     telling::count(
         b"    places changed: ",
-        comparing::differing(grown, &[UNTOUCHED; 2_050]),
+        comparing::differing(grown, grown_before),
     );
-    telling::count_line(b" and ", comparing::differing(list, &[UNTOUCHED; 4_098]));
+    telling::count_line(b" and ", comparing::differing(list, list_before));
 }
 
-// Every second of the first 4,096 sectors is bad, and the scan finds all between them. Both rooms are one place short in turn, and then just long enough.
+// A full night whose room for the grown list is one place too short.
+fn try_short_grown(p: &[u32], d: &[u32]) {
+    let mut grown = [UNTOUCHED; 2_047];
+    let mut list = [UNTOUCHED; 4_096];
+    night(20_000, p, &[], 3, 1, d, &mut grown, &mut list);
+    changed(&grown, &[UNTOUCHED; 2_047], &list, &[UNTOUCHED; 4_096]);
+}
+
+// A full night whose room for the new list is one place too short.
+fn try_short_list(p: &[u32], d: &[u32]) {
+    let mut grown = [UNTOUCHED; 2_048];
+    let mut list = [UNTOUCHED; 4_095];
+    night(20_000, p, &[], 3, 1, d, &mut grown, &mut list);
+    changed(&grown, &[UNTOUCHED; 2_048], &list, &[UNTOUCHED; 4_095]);
+}
+
+// Every second of the first 4,096 sectors is bad, and the scan finds all between them: the grown list is 1, 3, 5 and so on, and the new list 0, 1, 2 and so on.
 fn try_full() {
     let mut p = [0u32; 2_048];
     comparing::spread(&mut p, 0, 2);
     let mut d = [0u32; 2_048];
     comparing::spread(&mut d, 0, 1);
-    let mut grown = [UNTOUCHED; 2_050];
-    let mut list = [UNTOUCHED; 4_098];
     name_lists(20_000, &p, &[]);
-    night(20_000, &p, &[], 3, 1, &d, &mut grown[..2_047], &mut list);
-    changed(&grown, &list);
-    night(20_000, &p, &[], 3, 1, &d, &mut grown, &mut list[..4_095]);
-    changed(&grown, &list);
-    night(
-        20_000,
-        &p,
-        &[],
-        3,
-        1,
-        &d,
-        &mut grown[..2_048],
-        &mut list[..4_096],
-    );
-    changed(&grown, &list);
-    try_filled(&grown[..2_048], &list[..4_096]);
-    try_next(&p, &grown[..2_048]);
+    try_short_grown(&p, &d);
+    try_short_list(&p, &d);
+    let mut grown = [UNTOUCHED; 2_048];
+    let mut list = [UNTOUCHED; 4_096];
+    night(20_000, &p, &[], 3, 1, &d, &mut grown, &mut list);
+    try_filled(&grown, &list);
+    try_next(&p, &grown);
 }
 
-// Holds a full night against the odd sectors and against all of them.
+// Holds the lists of a full night against the odd sectors and against all sectors.
 fn try_filled(grown: &[u32], list: &[u32]) {
     let mut odd = [0u32; 2_048];
     comparing::spread(&mut odd, 1, 2);
     let mut all = [0u32; 4_096];
     comparing::spread(&mut all, 0, 1);
-    telling::count_line(
-        b"    grown entries that are not 1, 3, 5 ..: ",
+    telling::count(
+        b"    entries that are not 1, 3, 5 ..: ",
         comparing::differing(grown, &odd),
     );
-    telling::count_line(
-        b"    entries that are not 0, 1, 2 ..: ",
-        comparing::differing(list, &all),
-    );
+    telling::count_line(b", and not 0, 1, 2 ..: ", comparing::differing(list, &all));
+}
+
+// A night with rooms for one entry more than a list may have.
+fn try_night(p: &[u32], g: &[u32], space: u32, option: u32, d: &[u32]) {
+    let mut grown = [UNTOUCHED; 2_049];
+    let mut list = [UNTOUCHED; 4_097];
+    night(20_000, p, g, space, option, d, &mut grown, &mut list);
+    changed(&grown, &[UNTOUCHED; 2_049], &list, &[UNTOUCHED; 4_097]);
 }
 
 // The night after a full one, with one block more and with none.
 fn try_next(p: &[u32], g: &[u32]) {
-    let mut grown = [UNTOUCHED; 2_050];
-    let mut list = [UNTOUCHED; 4_098];
     name_lists(20_000, p, g);
-    night(20_000, p, g, 3, 1, &[0], &mut grown, &mut list);
-    changed(&grown, &list);
-    night(20_000, p, g, 3, 1, &[], &mut grown, &mut list);
-    changed(&grown, &list);
+    try_night(p, g, 3, 1, &[0]);
+    try_night(p, g, 3, 1, &[]);
 }
 
 // P and G have one entry too many together: refused where they are in use, whatever the option, and where they would be.
@@ -104,17 +109,12 @@ fn try_in_use() {
     let mut p = [0u32; 4_096];
     comparing::spread(&mut p, 0, 1);
     let g = [5_000];
-    let mut grown = [UNTOUCHED; 2_050];
-    let mut list = [UNTOUCHED; 4_098];
     name_lists(20_000, &p, &g);
-    night(20_000, &p, &g, 3, 0, &[], &mut grown, &mut list);
-    night(20_000, &p, &g, 3, 6, &[], &mut grown, &mut list);
-    night(20_000, &p, &g, 1, 1, &[], &mut grown, &mut list);
-    changed(&grown, &list);
-    night(20_000, &p, &g, 1, 6, &[], &mut grown, &mut list);
-    changed(&grown, &list);
-    night(20_000, &p, &g, 2, 3, &[0], &mut grown, &mut list);
-    changed(&grown, &list);
+    try_night(&p, &g, 3, 0, &[]);
+    try_night(&p, &g, 3, 6, &[]);
+    try_night(&p, &g, 1, 1, &[]);
+    try_night(&p, &g, 1, 6, &[]);
+    try_night(&p, &g, 2, 3, &[0]);
 }
 
 // The length of the grown list that a night answers.
@@ -147,15 +147,15 @@ fn in_old_numbers(n: u32, old: &[u32], new: &[u32], block: u32) -> u32 {
 
 // Two nights one after the other, and the same as one night: at how many places the lists differ.
 fn try_both(n: u32, p: &[u32], first: &[u32], second: &[u32], joined: &[u32]) {
-    let mut between = [UNTOUCHED; 2_050];
-    let mut grown = [UNTOUCHED; 2_050];
-    let mut list = [UNTOUCHED; 4_098];
+    let mut between = [UNTOUCHED; 2_049];
+    let mut grown = [UNTOUCHED; 2_049];
+    let mut list = [UNTOUCHED; 4_097];
     name_lists(n, p, &[]);
     let one = night(n, p, &[], 3, 1, first, &mut between, &mut list);
     let g = comparing::first(&between, grown_of(one));
     night(n, p, g, 3, 1, second, &mut grown, &mut list);
-    let mut grown_at_once = [UNTOUCHED; 2_050];
-    let mut list_at_once = [UNTOUCHED; 4_098];
+    let mut grown_at_once = [UNTOUCHED; 2_049];
+    let mut list_at_once = [UNTOUCHED; 4_097];
     night(
         n,
         p,
