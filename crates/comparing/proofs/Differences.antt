@@ -4,7 +4,7 @@ use Prim.Native.Nat.{ℕ, _+_, _-_, _<_, _≤_}
 use mathlib.Core.Path.{_≡_, refl, _∙_, ap}
 use mathlib.Core.List.{List, [], _∷_}
 use native.Mathlib.Omega.{arith}
-use lib.ListN.{length, getD, drop, length-drop}
+use lib.ListN.{length, getD, drop, replicate, length-drop, length-replicate, getD-replicate}
 use lib.Dec.{eqb}
 use borrow.Author.Tests.{eq-eqb, ne-eqb}
 use Rattle.paper.proofs.Cases.{byEq}
@@ -60,3 +60,15 @@ module _ {a b : List ℕ} {i count : ℕ} (counted : Counted a b i count) where
   -- the right row has ended
   pub counted-right : length b ≤ i → differing a b ≡ count + (length a - i)
   counted-right ended = counted .goes-on ∙ rw (drop-past b i ended, differing-right (drop i a), length-drop i a)
+
+-- the same of a room that was full of one number
+module _ {room : List ℕ} (before : ℕ) {i count : ℕ} (counted : Counted room (replicate (length room) before) i count) where
+  pub changed-more :
+      {one : ℕ} → i < length room → one ≤ 1 → one ≡ unlike (getD room i 0) before →
+      Counted room (replicate (length room) before) (i + 1) (count + one)
+  changed-more more small is =
+      counted-more counted more (rw (length-replicate (length room) before) more) small
+      (rw (getD-replicate (length room) i before 0 more) is)
+
+  pub changed-all : length room ≤ i → count ≡ differing room (replicate (length room) before)
+  changed-all all = omega (arith, counted-left counted all, length-replicate (length room) before)

@@ -1,7 +1,7 @@
 // Rows of numbers to try: filled, cut and compared.
 ghost use mathlib.Core.Path.{_≡_};
 ghost use Prim.Native.Nat.{_+_, _*_, _^_, _<_, _≤_};
-ghost use lib.ListN.{length, take};
+ghost use lib.ListN.{length, take, replicate};
 ghost use Rattle.comparing.specs.Spread.{spread};
 ghost use Rattle.comparing.specs.Differing.{unlike, differing};
 
@@ -46,26 +46,36 @@ pub fn differing(a: &[u32], b: &[u32]) -> usize
     count + (b.len() - i)
 }
 
+// How many places of a room that was full of one number hold another. Only other crates call this.
+pub fn changed(room: &[u32], before: u32) -> usize
+    ensures { λ r. ⌜ r ≡ differing (now (room .entry)) (replicate (length (now (room .entry))) before) ⌝ }
+{
+    let mut count = 0;
+    let mut i = 0;
+    while i < room.len() {
+        count += unlike(room[i], before);
+        i += 1;
+    }
+    count
+}
+
 fn wide(x: u8) -> u32
     ensures { λ r. ⌜ r ≡ x ⌝ }
 {
     x as u32
 }
 
-// The same of two rows of bytes. Only other crates call this.
-pub fn differing_bytes(a: &[u8], b: &[u8]) -> usize
-    ensures { λ r. ⌜ r ≡ differing (now (a .entry)) (now (b .entry)) ⌝ }
+// The same of a room of bytes. Only other crates call this.
+pub fn changed_bytes(room: &[u8], before: u8) -> usize
+    ensures { λ r. ⌜ r ≡ differing (now (room .entry)) (replicate (length (now (room .entry))) before) ⌝ }
 {
     let mut count = 0;
     let mut i = 0;
-    while i < a.len() {
-        if b.len() <= i {
-            return count + (a.len() - i);
-        }
-        count += unlike(wide(a[i]), wide(b[i]));
+    while i < room.len() {
+        count += unlike(wide(room[i]), wide(before));
         i += 1;
     }
-    count + (b.len() - i)
+    count
 }
 
 // The first so many of a row, or all where it has fewer. Only other crates call this.

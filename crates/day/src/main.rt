@@ -63,8 +63,7 @@ fn tell_place(words: &[u8], table: &[u32], block: u32) {
         Placed::At(sector) => telling::number(b"sector ", sector),
         Placed::Refused(fault) => refused(fault),
     }
-    telling::text(b": ");
-    telling::answers::located(spares::address_of(drive(), 2, table, block));
+    telling::answers::located(b": ", spares::address_of(drive(), 2, table, block));
 }
 
 // The image of a track, one sector of which holds a reading of the gauge.

@@ -1,4 +1,4 @@
-// The answer of each public call in words, to the end of the line.
+// The answer of each public call in words, after some words and to the end of the line.
 ghost use mathlib.Core.Path.{_≡_};
 ghost use Rattle.paper.specs.Answers.{saidWritten};
 use crate::end;
@@ -51,7 +51,8 @@ pub fn meaning(fault: u32) {
 }
 
 // Writes the sector of a block. Only other crates call this.
-pub fn placed(answer: Placed) {
+pub fn placed(words: &[u8], answer: Placed) {
+    text(words);
     match answer {
         Placed::At(sector) => number(b"sector ", sector),
         Placed::Refused(fault) => refused(fault),
@@ -60,7 +61,8 @@ pub fn placed(answer: Placed) {
 }
 
 // Writes the block of a sector. Only other crates call this.
-pub fn named(answer: Named) {
+pub fn named(words: &[u8], answer: Named) {
+    text(words);
     match answer {
         Named::Block(block) => number(b"block ", block),
         Named::NoBlock => text(b"no block"),
@@ -70,47 +72,50 @@ pub fn named(answer: Named) {
 }
 
 // Writes a cylinder, a head and a sector. Only other crates call this.
-pub fn address(cylinder: u32, head: u32, sector: u32) {
+pub fn address(words: &[u8], cylinder: u32, head: u32, sector: u32) {
+    text(words);
     number(b"cylinder ", cylinder);
     number(b", head ", head);
     number(b", sector ", sector);
 }
 
 // Writes an address. Only other crates call this.
-pub fn located(answer: Located) {
+pub fn located(words: &[u8], answer: Located) {
+    text(words);
     match answer {
-        Located::At(at) => address(at.cylinder, at.head, at.sector),
+        Located::At(at) => address(b"", at.cylinder, at.head, at.sector),
         Located::Refused(fault) => refused(fault),
     }
     end();
 }
 
 // Writes a cursor: the next block and the skipped count. Only other crates call this.
-pub fn cursor(at: Cursor) {
+pub fn cursor(words: &[u8], at: Cursor) {
+    text(words);
     number(b"cursor ", at.block);
     number(b", ", at.skipped);
 }
 
 // Writes how a job stands, with the cursor that is handed back. Only other crates call this.
-pub fn job(answer: Job) {
+pub fn job(words: &[u8], answer: Job) {
+    text(words);
     match answer {
-        Job::Ready(next) => cursor(next),
+        Job::Ready(next) => cursor(b"", next),
         Job::At(sector, next) => {
             number(b"sector ", sector);
-            text(b", ");
-            cursor(next);
+            cursor(b", ", next);
         }
         Job::Refused(fault, next) => {
             refused(fault);
-            text(b", ");
-            cursor(next);
+            cursor(b", ", next);
         }
     }
     end();
 }
 
 // Writes how long a result is. Only other crates call this.
-pub fn written(answer: Written) {
+pub fn written(words: &[u8], answer: Written) {
+    text(words);
     match answer {
         Written::Length(long) => number(b"length ", long),
         Written::Refused(fault) => refused(fault),
@@ -129,7 +134,8 @@ pub fn long_of(answer: Written) -> u32
 }
 
 // Writes what a page says before its entries, and how many it has. Only other crates call this.
-pub fn paged(answer: Paged) {
+pub fn paged(words: &[u8], answer: Paged) {
+    text(words);
     match answer {
         Paged::Page(kind, n, entries) => {
             number(b"kind ", kind);
@@ -142,7 +148,8 @@ pub fn paged(answer: Paged) {
 }
 
 // Writes what Format made: both lengths and the space. Only other crates call this.
-pub fn formatted(answer: Formatted) {
+pub fn formatted(words: &[u8], answer: Formatted) {
+    text(words);
     match answer {
         Formatted::Done(grown, listed, space) => {
             number(b"grown list of ", grown);
@@ -155,7 +162,8 @@ pub fn formatted(answer: Formatted) {
 }
 
 // Writes how many cylinders a block is moved, with the sign. Only other crates call this.
-pub fn shifted(answer: Shifted) {
+pub fn shifted(words: &[u8], answer: Shifted) {
+    text(words);
     match answer {
         Shifted::By(shift) => signed(b"shift ", shift),
         Shifted::Refused(fault) => refused(fault),
@@ -164,7 +172,8 @@ pub fn shifted(answer: Shifted) {
 }
 
 // Writes the place that a replacement wrote. Only other crates call this.
-pub fn replaced(answer: Replaced) {
+pub fn replaced(words: &[u8], answer: Replaced) {
+    text(words);
     match answer {
         Replaced::Place(place) => number(b"place ", place),
         Replaced::Refused(fault) => refused(fault),
@@ -173,7 +182,8 @@ pub fn replaced(answer: Replaced) {
 }
 
 // Writes a census. Only other crates call this.
-pub fn counted(answer: Counted) {
+pub fn counted(words: &[u8], answer: Counted) {
+    text(words);
     match answer {
         Counted::Counts(census) => {
             number(b"free ", census.free);
@@ -188,7 +198,8 @@ pub fn counted(answer: Counted) {
 }
 
 // Writes the number of a header. Only other crates call this.
-pub fn headed(answer: Head) {
+pub fn headed(words: &[u8], answer: Head) {
+    text(words);
     match answer {
         Head::Number(block) => number(b"block ", block),
         Head::Refused(fault) => refused(fault),
@@ -197,7 +208,8 @@ pub fn headed(answer: Head) {
 }
 
 // Writes a verdict. Only other crates call this.
-pub fn judged(answer: Verdict) {
+pub fn judged(words: &[u8], answer: Verdict) {
+    text(words);
     match answer {
         Verdict::Good => text(b"good"),
         Verdict::Refused(fault) => refused(fault),
@@ -206,7 +218,8 @@ pub fn judged(answer: Verdict) {
 }
 
 // Writes in which image, and how far inside it, the data of a block begins. Only other crates call this.
-pub fn spotted(answer: Spot) {
+pub fn spotted(words: &[u8], answer: Spot) {
+    text(words);
     match answer {
         Spot::InHome(offset) => number(b"home image, byte ", offset),
         Spot::InSpare(offset) => number(b"second image, byte ", offset),

@@ -5,7 +5,6 @@ ghost use Rattle.telling.specs.Jobs.{handedBack};
 use crate::answers;
 use crate::count_line;
 use crate::number;
-use crate::text;
 use skip::Cursor;
 use skip::Job;
 
@@ -18,15 +17,13 @@ pub fn space(n: u32, list: &[u32]) {
 // Asks for the sector of a block. Only other crates call this.
 pub fn block(n: u32, list: &[u32], block: u32) {
     number(b"  block ", block);
-    text(b": ");
-    answers::placed(skip::sector_of(n, list, block));
+    answers::placed(b": ", skip::sector_of(n, list, block));
 }
 
 // Asks for the block on a sector. Only other crates call this.
 pub fn sector(n: u32, list: &[u32], sector: u32) {
     number(b"  sector ", sector);
-    text(b": ");
-    answers::named(skip::block_on(n, list, sector));
+    answers::named(b": ", skip::block_on(n, list, sector));
 }
 
 // The cursor that a job hands back. Only other crates call this.
@@ -45,28 +42,23 @@ pub fn start(n: u32, list: &[u32], block: u32) -> Cursor
     ensures { λ r. ⌜ r ≡ handedBack (started n (now (list .entry)) block) ⌝ }
 {
     number(b"  start at ", block);
-    text(b": ");
     let job = Cursor::start(n, list, block);
-    answers::job(job);
+    answers::job(b": ", job);
     handed_back(job)
 }
 
 // Checks a cursor. Only other crates call this.
 pub fn check(n: u32, list: &[u32], cursor: Cursor) {
-    text(b"  check of ");
-    answers::cursor(cursor);
-    text(b": ");
-    answers::job(cursor.check(n, list));
+    answers::cursor(b"  check of ", cursor);
+    answers::job(b": ", cursor.check(n, list));
 }
 
 // Steps a cursor, and hands back the one after it. Only other crates call this.
 pub fn step(n: u32, list: &[u32], cursor: Cursor) -> Cursor
     ensures { λ r. ⌜ r ≡ handedBack (stepped n (now (list .entry)) cursor) ⌝ }
 {
-    text(b"  step of ");
-    answers::cursor(cursor);
-    text(b": ");
+    answers::cursor(b"  step of ", cursor);
     let job = cursor.step(n, list);
-    answers::job(job);
+    answers::job(b": ", job);
     handed_back(job)
 }

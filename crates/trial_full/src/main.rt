@@ -12,23 +12,20 @@ fn drive() -> Shape {
 
 // Writes the census of a table.
 fn try_census(table: &[u32]) {
-    telling::text(b"  census: ");
-    telling::answers::counted(spares::census(drive(), 1, table));
+    telling::answers::counted(b"  census: ", spares::census(drive(), 1, table));
 }
 
 // Asks for the block on a sector.
 fn try_sector(table: &[u32], sector: u32) {
     telling::number(b"  sector ", sector);
-    telling::text(b": ");
-    telling::answers::named(spares::block_on(drive(), 1, table, sector));
+    telling::answers::named(b": ", spares::block_on(drive(), 1, table, sector));
 }
 
 // Replaces a block, and says how many descriptors differ after it; hands back the table.
 fn try_replace(table: [u32; 1_024], block: u32) -> [u32; 1_024] {
     let mut after = table;
     telling::number(b"  replace block ", block);
-    telling::text(b": ");
-    telling::answers::replaced(spares::replace(drive(), 1, &mut after, block));
+    telling::answers::replaced(b": ", spares::replace(drive(), 1, &mut after, block));
     telling::count_line(
         b"    descriptors that differ: ",
         comparing::differing(&after, &table),
@@ -39,18 +36,18 @@ fn try_replace(table: [u32; 1_024], block: u32) -> [u32; 1_024] {
 // Asks where a block lies and how far it was moved.
 fn try_block(table: &[u32], block: u32) {
     telling::number(b"  block ", block);
-    telling::text(b": ");
-    telling::answers::placed(spares::sector_of(drive(), 1, table, block));
+    telling::answers::placed(b": ", spares::sector_of(drive(), 1, table, block));
     telling::number(b"  block ", block);
-    telling::text(b": ");
-    telling::answers::shifted(spares::shift(drive(), 1, table, block));
+    telling::answers::shifted(b": ", spares::shift(drive(), 1, table, block));
 }
 
 // The first table of a list.
 fn try_first(list: &[u32], table: &mut [u32]) {
     telling::count(b"first table of ", list.len());
-    telling::text(b" bad sectors: ");
-    telling::answers::written(spares::first_table(drive(), 1, list, table));
+    telling::answers::written(
+        b" bad sectors: ",
+        spares::first_table(drive(), 1, list, table),
+    );
 }
 
 // The first sector of each of 1,022 tracks is bad and has its primary; the spare of the next track is bad. The one spare left lies in the last table block, and block 1 starts its search in the first.
@@ -99,10 +96,7 @@ fn try_short() {
     list[1_024] = 3_071;
     let mut room = [7u32; 1_024];
     try_first(&list, &mut room);
-    telling::count_line(
-        b"  places changed: ",
-        comparing::differing(&room, &[7u32; 1_024]),
-    );
+    telling::count_line(b"  places changed: ", comparing::changed(&room, 7));
     try_first(comparing::first(&list, 1_024), &mut room);
     try_census(&room);
 }

@@ -32,11 +32,9 @@ fn image_of(byte: u8, forced: bool) -> [u8; 530] {
 
 // Asks an image for its header, and for its verdict and its data as the image of a block.
 fn try_image(image: &[u8], block: u32) {
-    telling::text(b"  header: ");
-    telling::answers::headed(image::header(image));
+    telling::answers::headed(b"  header: ", image::header(image));
     telling::number(b"  judged as block ", block);
-    telling::text(b": ");
-    telling::answers::judged(image::judge(image, block));
+    telling::answers::judged(b": ", image::judge(image, block));
     telling::count_line(b"  data bytes: ", image::data(image, block).len());
 }
 
@@ -89,19 +87,17 @@ fn try_complement() {
     image[529] = image[529] ^ 255;
     telling::line(b"both code bytes turned by 255");
     try_image(&image, BLOCK);
-    let forced = image_of(82, true);
-    telling::count_line(
-        b"the same written as forced, bytes that differ: ",
-        comparing::differing_bytes(&image, &forced),
-    );
-    try_image(&forced, BLOCK);
+    telling::line(b"written as forced");
+    try_image(&image_of(82, true), BLOCK);
 }
 
 // An image one byte too short and one byte too long.
 fn try_lengths() {
     let mut room = [0u8; 531];
-    telling::text(b"written into 531 bytes: ");
-    telling::answers::written(image::write(BLOCK, &[82u8; 512], false, &mut room));
+    telling::answers::written(
+        b"written into 531 bytes: ",
+        image::write(BLOCK, &[82u8; 512], false, &mut room),
+    );
     try_image(comparing::first_bytes(&room, 530), BLOCK);
     telling::line(b"529 bytes of it");
     try_image(comparing::first_bytes(&room, 529), BLOCK);
@@ -110,28 +106,20 @@ fn try_lengths() {
 }
 
 // Writes data into a room, and says how many of its bytes changed.
-fn try_write(data: &[u8], room: &mut [u8], before: &[u8]) {
+fn try_write(data: &[u8], room: &mut [u8]) {
     telling::count(b"data of ", data.len());
     telling::count(b" written into ", room.len());
-    telling::text(b": ");
-    telling::answers::written(image::write(BLOCK, data, false, room));
-    telling::count_line(
-        b"  bytes changed: ",
-        comparing::differing_bytes(room, before),
-    );
+    telling::answers::written(b": ", image::write(BLOCK, data, false, room));
+    telling::count_line(b"  bytes changed: ", comparing::changed_bytes(room, 170));
 }
 
 // Writes that are refused, of which the data's length goes before the room's, and one that is not.
 fn try_writes() {
-    let before = [170u8; 530];
-    let mut room = before;
-    try_write(&[82u8; 511], &mut room, &before);
-    try_write(&[82u8; 513], &mut room, &before);
-    let before_short = [170u8; 529];
-    let mut short = before_short;
-    try_write(&[82u8; 511], &mut short, &before_short);
-    try_write(&[82u8; 512], &mut short, &before_short);
-    try_write(&[82u8; 512], &mut room, &before);
+    try_write(&[82u8; 511], &mut [170u8; 530]);
+    try_write(&[82u8; 513], &mut [170u8; 530]);
+    try_write(&[82u8; 511], &mut [170u8; 529]);
+    try_write(&[82u8; 512], &mut [170u8; 529]);
+    try_write(&[82u8; 512], &mut [170u8; 530]);
 }
 
 fn main() {

@@ -82,55 +82,41 @@ fn try_last_place(list: [u32; 4_096]) {
     try_refused(8_192, &other);
 }
 
-// A page that is written into a room one byte too short and read into one that is an entry too short.
-fn try_short_rooms(list: &[u32], page: &[u8]) {
-    let mut bytes = [7u8; 16_397];
-    telling::text(b"  written into 16397 bytes: ");
-    telling::answers::written(page::write(8_192, 1, list, &mut bytes));
-    telling::count_line(
-        b"    bytes changed: ",
-        comparing::differing_bytes(&bytes, &[7u8; 16_397]),
-    );
-    let mut entries = [7u32; 4_095];
-    telling::text(b"  read into 4095 places: ");
-    telling::answers::paged(page::read(page, &mut entries));
-    telling::count_line(
-        b"    places changed: ",
-        comparing::differing(&entries, &[7u32; 4_095]),
-    );
+// Writes a page of a list, and says how many bytes of the room, which was full of ones, changed.
+fn try_write(n: u32, list: &[u32], room: &mut [u8]) {
+    telling::count(b"page of ", list.len());
+    telling::count(b" entries written into ", room.len());
+    telling::answers::written(b" bytes: ", page::write(n, 1, list, room));
+    telling::count_line(b"  bytes changed: ", comparing::changed_bytes(room, 255));
 }
 
-// The longest page there and back.
+// Reads a page, and says how many places of the room, which held no entry, changed.
+fn try_read(page: &[u8], room: &mut [u32]) {
+    telling::count(b"page of ", page.len());
+    telling::count(b" bytes read into ", room.len());
+    telling::answers::paged(b" places: ", page::read(page, room));
+    telling::count_line(b"  places changed: ", comparing::changed(room, 9_999));
+}
+
+// The longest page there and back, and rooms for it that are one byte and one entry too short.
 fn try_page(list: &[u32]) {
-    telling::line(b"page of 4096 entries");
-    let mut page = [7u8; 16_398];
-    telling::text(b"  written into 16398 bytes: ");
-    telling::answers::written(page::write(8_192, 1, list, &mut page));
-    let mut back = [7u32; 4_097];
-    telling::text(b"  read into 4097 places: ");
-    telling::answers::paged(page::read(&page, &mut back));
+    let mut page = [255u8; 16_398];
+    try_write(8_192, list, &mut [255u8; 16_397]);
+    try_write(8_192, list, &mut page);
+    let mut back = [9_999u32; 4_097];
+    try_read(&page, &mut [9_999u32; 4_095]);
+    try_read(&page, &mut back);
     telling::count_line(
-        b"    places that differ from the list: ",
+        b"  entries that differ from the list: ",
         comparing::differing(comparing::first(&back, 4_096), list),
     );
-    telling::number(b"    the place after it: ", back[4_096]);
-    telling::end();
-    try_short_rooms(list, &page);
 }
 
-// A page of one entry more is neither written nor read.
+// A page of one entry more is not written; made by hand with the last entry 8192, it is not read.
 fn try_long_page(list: &[u32]) {
     let mut page = [255u8; 16_402];
-    telling::line(b"page of 4097 entries");
-    telling::text(b"  written: ");
-    telling::answers::written(page::write(16_384, 1, list, &mut page));
-    telling::count_line(
-        b"    bytes changed: ",
-        comparing::differing_bytes(&page, &[255u8; 16_402]),
-    );
-    telling::text(b"  written without the last: ");
-    let shorter = comparing::first(list, 4_096);
-    telling::answers::written(page::write(16_384, 1, shorter, &mut page));
+    try_write(16_384, list, &mut page);
+    try_write(16_384, comparing::first(list, 4_096), &mut page);
     page[2] = 64;
     page[3] = 18;
     page[16_394] = 0;
@@ -138,12 +124,10 @@ fn try_long_page(list: &[u32]) {
     page[16_396] = 32;
     page[16_397] = 0;
     telling::bytes(
-        b"  made by hand, its length:",
+        b"made longer by hand, its length:",
         comparing::first_bytes(&page, 4),
     );
-    let mut back = [0u32; 4_097];
-    telling::text(b"  read: ");
-    telling::answers::paged(page::read(&page, &mut back));
+    try_read(&page, &mut [9_999u32; 4_097]);
 }
 
 fn main() {

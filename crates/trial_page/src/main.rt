@@ -5,12 +5,16 @@ ghost use Prim.Native.Nat.{_<_};
 fn try_smallest() {
     let mut short = [170u8; 13];
     telling::line(b"page of 0 entries");
-    telling::text(b"  written into 13 bytes: ");
-    telling::answers::written(page::write(1, 1, &[], &mut short));
+    telling::answers::written(
+        b"  written into 13 bytes: ",
+        page::write(1, 1, &[], &mut short),
+    );
     telling::bytes(b"  the room:", &short);
     let mut page = [170u8; 15];
-    telling::text(b"  written into 15 bytes: ");
-    telling::answers::written(page::write(1, 1, &[], &mut page));
+    telling::answers::written(
+        b"  written into 15 bytes: ",
+        page::write(1, 1, &[], &mut page),
+    );
     telling::bytes(b"  the room:", &page);
     try_read(comparing::first_bytes(&page, 14));
     try_read(comparing::first_bytes(&page, 13));
@@ -22,12 +26,8 @@ fn try_smallest() {
 fn try_read(page: &[u8]) {
     let mut room = [99u32; 4];
     telling::count(b"  read of ", page.len());
-    telling::text(b" bytes: ");
-    telling::answers::paged(page::read(page, &mut room));
-    telling::count_line(
-        b"    places changed: ",
-        comparing::differing(&room, &[99u32; 4]),
-    );
+    telling::answers::paged(b" bytes: ", page::read(page, &mut room));
+    telling::count_line(b"    places changed: ", comparing::changed(&room, 99));
 }
 
 // The page of the paper.
@@ -42,17 +42,15 @@ fn try_paper() {
     let page = paper_page();
     telling::bytes(b"the paper's page:", &page);
     let mut short = [9u32; 1];
-    telling::text(b"  read into 1 place: ");
-    telling::answers::paged(page::read(&page, &mut short));
+    telling::answers::paged(b"  read into 1 place: ", page::read(&page, &mut short));
     telling::list(b"    the room: ", &short);
     let mut room = [9u32; 3];
-    telling::text(b"  read into 3 places: ");
-    telling::answers::paged(page::read(&page, &mut room));
+    telling::answers::paged(b"  read into 3 places: ", page::read(&page, &mut room));
     telling::list(b"    the room: ", &room);
 }
 
-// The page of the paper with one byte of a field changed.
-fn try_changed(field: &[u8], place: usize, byte: u8)
+// The page of the paper with one byte of a field damaged.
+fn try_damaged(field: &[u8], place: usize, byte: u8)
     requires { ⌜ place < 22 ⌝ }
 {
     let mut page = paper_page();
@@ -73,38 +71,34 @@ fn try_uneven() {
     try_read(&page);
 }
 
-// Writes a page that is refused into a room of 32 bytes.
+// Writes a page into a room of 32 bytes, and says how many of them changed.
 fn try_write(n: u32, kind: u32, list: &[u32]) {
     let mut room = [170u8; 32];
     telling::number(b"write N ", n);
     telling::number(b", kind ", kind);
     telling::list(b", list ", list);
-    telling::text(b"  ");
-    telling::answers::written(page::write(n, kind, list, &mut room));
-    telling::count_line(
-        b"    bytes changed: ",
-        comparing::differing_bytes(&room, &[170u8; 32]),
-    );
+    telling::answers::written(b"  ", page::write(n, kind, list, &mut room));
+    telling::count_line(b"    bytes changed: ", comparing::changed_bytes(&room, 170));
 }
 
 fn main() {
     try_smallest();
     try_paper();
-    try_changed(b"length", 3, 23);
-    try_changed(b"length", 0, 1);
-    try_changed(b"version", 4, 0);
-    try_changed(b"version", 4, 2);
-    try_changed(b"kind", 5, 1);
-    try_changed(b"kind", 5, 2);
-    try_changed(b"N", 9, 0);
-    try_changed(b"N", 9, 7);
-    try_changed(b"N", 9, 8);
-    try_changed(b"N", 6, 1);
-    try_changed(b"first entry", 13, 20);
-    try_changed(b"last entry", 17, 3);
-    try_changed(b"last entry", 17, 20);
-    try_changed(b"last word", 18, 0);
-    try_changed(b"last word", 21, 254);
+    try_damaged(b"length", 3, 23);
+    try_damaged(b"length", 0, 1);
+    try_damaged(b"version", 4, 0);
+    try_damaged(b"version", 4, 2);
+    try_damaged(b"kind", 5, 1);
+    try_damaged(b"kind", 5, 2);
+    try_damaged(b"N", 9, 0);
+    try_damaged(b"N", 9, 7);
+    try_damaged(b"N", 9, 8);
+    try_damaged(b"N", 6, 1);
+    try_damaged(b"first entry", 13, 20);
+    try_damaged(b"last entry", 17, 3);
+    try_damaged(b"last entry", 17, 20);
+    try_damaged(b"last word", 18, 0);
+    try_damaged(b"last word", 21, 254);
     try_uneven();
     try_write(0, 2, &[3, 7]);
     try_write(16_777_217, 0, &[3, 7]);

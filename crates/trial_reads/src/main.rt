@@ -17,15 +17,16 @@ fn drive() -> Shape {
 // Replaces a block of the paper's drive.
 fn try_replace(table: &mut [u32], block: u32) {
     telling::number(b"replace block ", block);
-    telling::text(b": ");
-    telling::answers::replaced(spares::replace(drive(), 2, table, block));
+    telling::answers::replaced(b": ", spares::replace(drive(), 2, table, block));
 }
 
 // The paper's table: blocks 7, 8 and 6 are replaced.
 fn paper_table() -> [u32; 128] {
     let mut table = [0u32; 128];
-    telling::text(b"first table: ");
-    telling::answers::written(spares::first_table(drive(), 2, &[], &mut table));
+    telling::answers::written(
+        b"first table: ",
+        spares::first_table(drive(), 2, &[], &mut table),
+    );
     try_replace(&mut table, 7);
     try_replace(&mut table, 8);
     try_replace(&mut table, BLOCK);
@@ -33,8 +34,7 @@ fn paper_table() -> [u32; 128] {
     telling::descriptor(b" ", table[4]);
     telling::descriptor(b" ", table[5]);
     telling::end();
-    telling::text(b"block 6: ");
-    telling::answers::shifted(spares::shift(drive(), 2, &table, BLOCK));
+    telling::answers::shifted(b"block 6: ", spares::shift(drive(), 2, &table, BLOCK));
     table
 }
 
@@ -62,10 +62,11 @@ fn spare_track(block: u32, forced: bool) -> [u8; 2_650] {
 // Reads a block from two track images: the verdict, where its data begins, and how the data begins.
 fn try_read<'a>(table: &[u32], block: u32, home: &'a [u8], spare: &'a [u8]) {
     telling::number(b"  block ", block);
-    telling::text(b": ");
-    telling::answers::judged(reading::judge(drive(), 2, table, block, home, spare));
-    telling::text(b"    ");
-    telling::answers::spotted(reading::spot(drive(), 2, table, block, home, spare));
+    telling::answers::judged(b": ", reading::judge(drive(), 2, table, block, home, spare));
+    telling::answers::spotted(
+        b"    ",
+        reading::spot(drive(), 2, table, block, home, spare),
+    );
     let part = reading::data(drive(), 2, table, block, home, spare);
     telling::count(b"    data bytes: ", part.len());
     telling::bytes(b", the first:", comparing::first_bytes(part, 2));
@@ -77,13 +78,17 @@ fn try_home(table: &[u32]) {
     let spare = spare_track(BLOCK, false);
     telling::line(b"both images whole");
     try_read(table, BLOCK, &home, &spare);
-    telling::text(b"  the home's sector by itself: ");
-    telling::answers::judged(image::judge(comparing::first_bytes(&home, 530), BLOCK));
+    telling::answers::judged(
+        b"  the home's sector by itself: ",
+        image::judge(comparing::first_bytes(&home, 530), BLOCK),
+    );
     home[16] = home[16] ^ 1;
     telling::line(b"a bit of the home's data turned");
     try_read(table, BLOCK, &home, &spare);
-    telling::text(b"  the home's sector by itself: ");
-    telling::answers::judged(image::judge(comparing::first_bytes(&home, 530), BLOCK));
+    telling::answers::judged(
+        b"  the home's sector by itself: ",
+        image::judge(comparing::first_bytes(&home, 530), BLOCK),
+    );
 }
 
 // Each part of the spare's sector damaged: the home is never read instead.

@@ -15,15 +15,16 @@ fn try_drive(cylinders: u32, heads: u32, sectors: u32, r: u32) {
     };
     let mut room = [7u32; 1_152];
     let answer = spares::first_table(shape, r, &[], &mut room);
-    telling::text(b"  first table: ");
-    telling::answers::written(answer);
-    telling::count_line(
-        b"  places changed: ",
-        comparing::differing(&room, &[7u32; 1_152]),
-    );
+    telling::answers::written(b"  first table: ", answer);
+    telling::count_line(b"  places changed: ", comparing::changed(&room, 7));
     let table = comparing::first(&room, telling::answers::long_of(answer));
-    telling::text(b"  census: ");
-    telling::answers::counted(spares::census(shape, r, table));
+    telling::answers::counted(b"  census: ", spares::census(shape, r, table));
+}
+
+// Writes the census of so many free descriptors, for 1,024 spares.
+fn try_free(shape: Shape, table: &[u32]) {
+    telling::count(b"  census of ", table.len());
+    telling::answers::counted(b" free: ", spares::census(shape, 1, table));
 }
 
 // A room one place too short, and tables one descriptor too short and too long.
@@ -35,18 +36,14 @@ fn try_lengths() {
     };
     let mut room = [7u32; 1_023];
     telling::line(b"the first shape again");
-    telling::text(b"  first table in 1023 places: ");
-    telling::answers::written(spares::first_table(shape, 1, &[], &mut room));
-    telling::count_line(
-        b"  places changed: ",
-        comparing::differing(&room, &[7u32; 1_023]),
+    telling::answers::written(
+        b"  first table in 1023 places: ",
+        spares::first_table(shape, 1, &[], &mut room),
     );
-    telling::text(b"  census of 1023 free: ");
-    telling::answers::counted(spares::census(shape, 1, &[0u32; 1_023]));
-    telling::text(b"  census of 1024 free: ");
-    telling::answers::counted(spares::census(shape, 1, &[0u32; 1_024]));
-    telling::text(b"  census of 1025 free: ");
-    telling::answers::counted(spares::census(shape, 1, &[0u32; 1_025]));
+    telling::count_line(b"  places changed: ", comparing::changed(&room, 7));
+    try_free(shape, &[0u32; 1_023]);
+    try_free(shape, &[0u32; 1_024]);
+    try_free(shape, &[0u32; 1_025]);
 }
 
 fn main() {

@@ -35,37 +35,31 @@ fn name_shape(shape: Shape) {
     telling::end();
 }
 
-// Writes an address that is asked for.
-fn name_address(words: &[u8], cylinder: u32, head: u32, sector: u32) {
-    telling::text(words);
-    telling::answers::address(cylinder, head, sector);
-    telling::text(b": ");
-}
-
 // Asks for the sector of an address.
 fn try_address(shape: Shape, cylinder: u32, head: u32, sector: u32) {
-    name_address(b"  ", cylinder, head, sector);
-    telling::answers::placed(shape::sector_of(shape, cylinder, head, sector));
+    telling::answers::address(b"  ", cylinder, head, sector);
+    telling::answers::placed(b": ", shape::sector_of(shape, cylinder, head, sector));
 }
 
 // Asks for the address of a sector.
 fn try_sector(shape: Shape, sector: u32) {
     telling::number(b"  sector ", sector);
-    telling::text(b": ");
-    telling::answers::located(shape::address_of(shape, sector));
+    telling::answers::located(b": ", shape::address_of(shape, sector));
 }
 
 // Asks for the address of a block where sector 0 is bad.
 fn try_block(shape: Shape, block: u32) {
     telling::number(b"  sector 0 bad, block ", block);
-    telling::text(b": ");
-    telling::answers::located(skipped::address_of(shape, &[0], block));
+    telling::answers::located(b": ", skipped::address_of(shape, &[0], block));
 }
 
 // Asks for the block at an address where sector 0 is bad.
 fn try_block_at(shape: Shape, cylinder: u32, head: u32, sector: u32) {
-    name_address(b"  sector 0 bad, ", cylinder, head, sector);
-    telling::answers::named(skipped::block_at(shape, &[0], cylinder, head, sector));
+    telling::answers::address(b"  sector 0 bad, ", cylinder, head, sector);
+    telling::answers::named(
+        b": ",
+        skipped::block_at(shape, &[0], cylinder, head, sector),
+    );
 }
 
 // The last sector and the last block of the largest shape, both ways, and one more of each number.
