@@ -190,8 +190,8 @@ fn put_header(room: &mut [u8], number: u32)
     words::put32(room, 12, number);
 }
 
-// Writes bytes at a place.
-fn put_bytes(room: &mut [u8], at: usize, bytes: &[u8])
+// Writes bytes at a place. Only other crates call this.
+pub fn put_bytes(room: &mut [u8], at: usize, bytes: &[u8])
     requires { ⌜ at + length (now bytes) ≤ length (now room) ⌝ }
     ensures { λ r. ⌜ now (room .exit) ≡ sets (now (room .entry)) at (now (bytes .entry)) ⌝ }
 {

@@ -1,0 +1,241 @@
+// The day of a block on a small drive: the gauge log of a vacuum turntable is written, moved to a spare, read back and refused, and at night a scan changes the map of a drive that skips.
+ghost use Prim.Native.Nat.{_+_, _≤_};
+use format::Formatted;
+use paper::Placed;
+use reading::Spot;
+use shape::Shape;
+use skip::Cursor;
+use skip::Job;
+use spares::Counted;
+use spares::Replaced;
+use spares::Shifted;
+
+// The block of the gauge log.
+const GAUGE: u32 = 6;
+
+// Spares at the end of each track.
+const SPARES: u32 = 2;
+
+// How many bytes a reading of the gauge has.
+const READING: u32 = 13;
+
+// Sectors of the drive that skips.
+const UNITS: u32 = 20;
+
+// The drive of the gauge log.
+fn drive() -> Shape {
+    Shape {
+        cylinders: 2,
+        heads: 2,
+        sectors: 5,
+    }
+}
+
+// Writes the number of a refusal and what it means, and ends the line.
+fn refused(words: &[u8], fault: u32) {
+    telling::number(words, fault);
+    telling::text(b": ");
+    telling::answers::meaning(fault);
+    telling::end();
+}
+
+// Writes how the spares stand.
+fn tell_spares(table: &[u32]) {
+    match spares::census(drive(), SPARES, table) {
+        Counted::Counts(census) => {
+            telling::number(b"Spares free: ", census.free);
+            telling::number(b", in use as a primary: ", census.primary);
+            telling::number(b", in use elsewhere: ", census.elsewhere);
+            telling::number(b", unusable: ", census.unusable);
+            telling::end();
+        }
+        Counted::Refused(fault) => refused(b"Refused ", fault),
+    }
+}
+
+// Writes where the gauge log lies.
+fn tell_place(words: &[u8], table: &[u32]) {
+    telling::text(words);
+    match spares::sector_of(drive(), SPARES, table, GAUGE) {
+        Placed::At(sector) => telling::number(b" lies on sector ", sector),
+        Placed::Refused(fault) => telling::number(b" is refused ", fault),
+    }
+    telling::answers::located(b": ", spares::address_of(drive(), SPARES, table, GAUGE));
+}
+
+// The image of a track, with a reading of the gauge in the sector that starts at a byte.
+fn track_with(reading: &[u8; 13], start: usize) -> [u8; 2_650]
+    requires { ⌜ start + 530 ≤ 2650 ⌝ }
+{
+    let mut data = [0u8; 512];
+    image::put_bytes(&mut data, 0, reading);
+    let mut image = [0u8; 530];
+    image::write(GAUGE, &data, false, &mut image);
+    let mut track = [0u8; 2_650];
+    image::put_bytes(&mut track, start, &image);
+    telling::text(b"The gauge is written: ");
+    telling::line(reading);
+    track
+}
+
+// Writes where the bytes of the gauge begin and what they say.
+fn tell_part(words: &[u8], offset: u32, part: &[u8]) {
+    telling::number(words, offset);
+    telling::text(b": ");
+    telling::line(comparing::first_bytes(part, READING));
+}
+
+// Reads the gauge.
+fn tell_read<'a>(table: &[u32], home: &'a [u8], second: &'a [u8]) {
+    let part = reading::data(drive(), SPARES, table, GAUGE, home, second);
+    match reading::spot(drive(), SPARES, table, GAUGE, home, second) {
+        Spot::InHome(offset) => tell_part(b"Read from its home track, byte ", offset, part),
+        Spot::InSpare(offset) => tell_part(b"Read from its spare's track, byte ", offset, part),
+        Spot::Refused(fault) => {
+            refused(b"The read is refused, ", fault);
+            telling::count_line(b"Bytes handed back: ", part.len());
+        }
+    }
+}
+
+// Writes how far a block was moved.
+fn tell_shift(table: &[u32], block: u32) {
+    match spares::shift(drive(), SPARES, table, block) {
+        Shifted::By(shift) => {
+            telling::signed(b", shift ", shift);
+            if shift == 0 {
+                telling::line(b": on its own cylinder.");
+                return;
+            }
+            if shift == -1 {
+                telling::line(b": one cylinder toward cylinder 0.");
+                return;
+            }
+            telling::line(b": on another cylinder.");
+        }
+        Shifted::Refused(fault) => refused(b", refused ", fault),
+    }
+}
+
+// Sends a block to a spare.
+fn tell_replacement(block: u32, words: &[u8], table: &mut [u32]) {
+    telling::number(b"Block ", block);
+    telling::text(words);
+    match spares::replace(drive(), SPARES, table, block) {
+        Replaced::Place(place) => telling::number(b" goes to spare ", place),
+        Replaced::Refused(fault) => telling::number(b" is refused ", fault),
+    }
+    tell_shift(table, block);
+}
+
+// Writes the shape of the drive.
+fn tell_drive(shape: Shape) {
+    telling::number(b"The drive: ", shape.cylinders);
+    telling::number(b" cylinders, ", shape.heads);
+    telling::number(b" heads, ", shape.sectors);
+    telling::number(b" sectors to a track, the last ", SPARES);
+    telling::line(b" of them spares");
+}
+
+// The gauge log at home.
+fn morning(table: &[u32]) -> [u8; 2_650] {
+    telling::line(b"Morning: the pump runs");
+    telling::number(b"The gauge log is block ", GAUGE);
+    tell_place(b". It", table);
+    let home = track_with(b"vacuum 82 kPa", 0);
+    tell_read(table, &home, &home);
+    telling::end();
+    home
+}
+
+// The track of the gauge log goes bad, and its blocks are replaced.
+fn noon(table: &mut [u32]) {
+    telling::line(b"Noon: the track goes bad");
+    tell_replacement(7, b", sound,", table);
+    tell_replacement(8, b", sound,", table);
+    tell_replacement(GAUGE, b", the gauge log,", table);
+    tell_place(b"The gauge log now", table);
+    telling::line(
+        b"A board that lost the sign sent the arm to the far end and gave out an old block.",
+    );
+    telling::end();
+}
+
+// The gauge log on its spare, while its home still holds the morning's reading; then the spare is damaged.
+fn afternoon(table: &[u32], home: &[u8; 2_650]) {
+    telling::line(b"Afternoon: the pump slows down");
+    let mut second = track_with(b"vacuum 79 kPa", 2_120);
+    tell_read(table, home, &second);
+    let old = image::data(comparing::first_bytes(home, 530), GAUGE);
+    telling::text(b"Its old sector is still good, and still says: ");
+    telling::line(comparing::first_bytes(old, READING));
+    second[2_136] = second[2_136] ^ 1;
+    telling::line(b"One bit on the spare turns over.");
+    tell_read(table, home, &second);
+    telling::end();
+}
+
+// Steps a job, and writes the sector of its block.
+fn tell_step(list: &[u32], cursor: Cursor) -> Cursor {
+    let job = cursor.step(UNITS, list);
+    match job {
+        Job::Ready(_) => {}
+        Job::At(sector, _) => {
+            telling::number(b"  block ", cursor.block);
+            telling::number(b": sector ", sector);
+            telling::end();
+        }
+        Job::Refused(fault, _) => refused(b"  then refused, ", fault),
+    }
+    telling::asking::handed_back(job)
+}
+
+// The new map, and a job on it.
+fn tell_map(grown: &[u32], list: &[u32]) {
+    telling::list(b"The new grown list: ", grown);
+    telling::list(b"The new list: ", list);
+    telling::line(b"A job goes on at block 13 of the new map:");
+    let first = telling::asking::handed_back(Cursor::start(UNITS, list, 13));
+    let second = tell_step(list, first);
+    let third = tell_step(list, second);
+    let end = tell_step(list, third);
+    tell_step(list, end);
+}
+
+// The night's scan of the drive that skips.
+fn night() {
+    let bad = [3, 7];
+    let found = [3, 16];
+    telling::line(b"Night: a scan of the drive that skips its bad sectors");
+    telling::number(b"Its sectors: ", UNITS);
+    telling::list(b", the bad ones: ", &bad);
+    telling::list(b"The scan finds these blocks bad: ", &found);
+    telling::asking::block(UNITS, &bad, 3);
+    telling::asking::block(UNITS, &bad, 16);
+    let mut grown = [0u32; 20];
+    let mut list = [0u32; 20];
+    match format::format(UNITS, &bad, &[], 3, 1, &found, &mut grown, &mut list) {
+        Formatted::Done(taken, listed, _) => tell_map(
+            comparing::first(&grown, taken),
+            comparing::first(&list, listed),
+        ),
+        Formatted::Refused(fault) => refused(b"Format is refused, ", fault),
+    }
+}
+
+fn main() {
+    let mut table = [0u32; 128];
+    spares::first_table(drive(), SPARES, &[], &mut table);
+    telling::line(b"A day of the gauge log");
+    telling::end();
+    tell_drive(drive());
+    tell_spares(&table);
+    telling::end();
+    let home = morning(&table);
+    noon(&mut table);
+    afternoon(&table, &home);
+    telling::line(b"Evening: the spares are counted");
+    tell_spares(&table);
+    telling::end();
+    night();
+}

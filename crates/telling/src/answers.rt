@@ -1,0 +1,229 @@
+// The answer of each public call in words, after some words and to the end of the line.
+ghost use mathlib.Core.Path.{_≡_};
+ghost use Rattle.paper.specs.Answers.{saidWritten};
+use crate::end;
+use crate::number;
+use crate::signed;
+use crate::text;
+use format::Formatted;
+use image::Head;
+use image::Verdict;
+use page::Paged;
+use paper::Named;
+use paper::Placed;
+use paper::Written;
+use reading::Spot;
+use shape::Located;
+use skip::Cursor;
+use skip::Job;
+use spares::Counted;
+use spares::Replaced;
+use spares::Shifted;
+
+// Writes the number of a refusal. Only other crates call this.
+pub fn refused(fault: u32) {
+    number(b"refused ", fault);
+}
+
+// Writes what a refusal number means. Only other crates call this.
+pub fn meaning(fault: u32) {
+    match fault {
+        1 => text(b"a number of the drive is out of range"),
+        2 => text(b"the list is too long"),
+        3 => text(b"the list does not rise"),
+        4 => text(b"the list leaves its space"),
+        5 => text(b"there is no such block"),
+        6 => text(b"there is no such sector"),
+        7 => text(b"the room is too short"),
+        8 => text(b"the page is broken"),
+        9 => text(b"the cursor is of another list"),
+        10 => text(b"the option and its list do not fit"),
+        11 => text(b"the table breaks its rules"),
+        12 => text(b"the block has a spare already"),
+        13 => text(b"no spare is free"),
+        14 => text(b"the length is wrong"),
+        15 => text(b"no three copies of the header agree"),
+        16 => text(b"the header names another block"),
+        17 => text(b"the data was bad when it was written"),
+        18 => text(b"the code does not fit the data"),
+        _ => text(b"no refusal"),
+    }
+}
+
+// Writes the sector of a block. Only other crates call this.
+pub fn placed(words: &[u8], answer: Placed) {
+    text(words);
+    match answer {
+        Placed::At(sector) => number(b"sector ", sector),
+        Placed::Refused(fault) => refused(fault),
+    }
+    end();
+}
+
+// Writes the block of a sector. Only other crates call this.
+pub fn named(words: &[u8], answer: Named) {
+    text(words);
+    match answer {
+        Named::Block(block) => number(b"block ", block),
+        Named::NoBlock => text(b"no block"),
+        Named::Refused(fault) => refused(fault),
+    }
+    end();
+}
+
+// Writes a cylinder, a head and a sector. Only other crates call this.
+pub fn address(words: &[u8], cylinder: u32, head: u32, sector: u32) {
+    text(words);
+    number(b"cylinder ", cylinder);
+    number(b", head ", head);
+    number(b", sector ", sector);
+}
+
+// Writes an address. Only other crates call this.
+pub fn located(words: &[u8], answer: Located) {
+    text(words);
+    match answer {
+        Located::At(at) => address(b"", at.cylinder, at.head, at.sector),
+        Located::Refused(fault) => refused(fault),
+    }
+    end();
+}
+
+// Writes a cursor: the next block and the skipped count. Only other crates call this.
+pub fn cursor(words: &[u8], at: Cursor) {
+    text(words);
+    number(b"cursor ", at.block);
+    number(b", ", at.skipped);
+}
+
+// Writes how a job stands, with the cursor that is handed back. Only other crates call this.
+pub fn job(words: &[u8], answer: Job) {
+    text(words);
+    match answer {
+        Job::Ready(next) => cursor(b"", next),
+        Job::At(sector, next) => {
+            number(b"sector ", sector);
+            cursor(b", ", next);
+        }
+        Job::Refused(fault, next) => {
+            refused(fault);
+            cursor(b", ", next);
+        }
+    }
+    end();
+}
+
+// Writes how long a result is. Only other crates call this.
+pub fn written(words: &[u8], answer: Written) {
+    text(words);
+    match answer {
+        Written::Length(long) => number(b"length ", long),
+        Written::Refused(fault) => refused(fault),
+    }
+    end();
+}
+
+// The length that an answer says. Only other crates call this.
+pub fn long_of(answer: Written) -> u32
+    ensures { λ r. ⌜ r ≡ saidWritten answer .1 ⌝ }
+{
+    match answer {
+        Written::Length(long) => long,
+        Written::Refused(_) => 0,
+    }
+}
+
+// Writes what a page says before its entries, and how many it has. Only other crates call this.
+pub fn paged(words: &[u8], answer: Paged) {
+    text(words);
+    match answer {
+        Paged::Page(kind, n, entries) => {
+            number(b"kind ", kind);
+            number(b", N ", n);
+            number(b", entries ", entries);
+        }
+        Paged::Refused(fault) => refused(fault),
+    }
+    end();
+}
+
+// Writes what Format made: both lengths and the space. Only other crates call this.
+pub fn formatted(words: &[u8], answer: Formatted) {
+    text(words);
+    match answer {
+        Formatted::Done(grown, listed, space) => {
+            number(b"grown list of ", grown);
+            number(b", list of ", listed);
+            number(b", space ", space);
+        }
+        Formatted::Refused(fault) => refused(fault),
+    }
+    end();
+}
+
+// Writes how many cylinders a block is moved, with the sign. Only other crates call this.
+pub fn shifted(words: &[u8], answer: Shifted) {
+    text(words);
+    match answer {
+        Shifted::By(shift) => signed(b"shift ", shift),
+        Shifted::Refused(fault) => refused(fault),
+    }
+    end();
+}
+
+// Writes the place that a replacement wrote. Only other crates call this.
+pub fn replaced(words: &[u8], answer: Replaced) {
+    text(words);
+    match answer {
+        Replaced::Place(place) => number(b"place ", place),
+        Replaced::Refused(fault) => refused(fault),
+    }
+    end();
+}
+
+// Writes a census. Only other crates call this.
+pub fn counted(words: &[u8], answer: Counted) {
+    text(words);
+    match answer {
+        Counted::Counts(census) => {
+            number(b"free ", census.free);
+            number(b", primary ", census.primary);
+            number(b", elsewhere ", census.elsewhere);
+            number(b", unusable ", census.unusable);
+            number(b", null ", census.null);
+        }
+        Counted::Refused(fault) => refused(fault),
+    }
+    end();
+}
+
+// Writes the number of a header. Only other crates call this.
+pub fn headed(words: &[u8], answer: Head) {
+    text(words);
+    match answer {
+        Head::Number(block) => number(b"block ", block),
+        Head::Refused(fault) => refused(fault),
+    }
+    end();
+}
+
+// Writes a verdict. Only other crates call this.
+pub fn judged(words: &[u8], answer: Verdict) {
+    text(words);
+    match answer {
+        Verdict::Good => text(b"good"),
+        Verdict::Refused(fault) => refused(fault),
+    }
+    end();
+}
+
+// Writes in which image, and how far inside it, the data of a block begins. Only other crates call this.
+pub fn spotted(words: &[u8], answer: Spot) {
+    text(words);
+    match answer {
+        Spot::InHome(offset) => number(b"home image, byte ", offset),
+        Spot::InSpare(offset) => number(b"second image, byte ", offset),
+        Spot::Refused(fault) => refused(fault),
+    }
+    end();
+}

@@ -1,0 +1,141 @@
+// Reads of a replaced block through two track images of which the home's is out of date, and each of them damaged in turn.
+ghost use Prim.Native.Nat.{_+_, _≤_};
+use shape::Shape;
+
+// The block that is replaced and read.
+const BLOCK: u32 = 6;
+
+// The paper's drive, with two spares to a track.
+fn drive() -> Shape {
+    Shape {
+        cylinders: 2,
+        heads: 2,
+        sectors: 5,
+    }
+}
+
+// Replaces a block of the paper's drive.
+fn try_replace(table: &mut [u32], block: u32) {
+    telling::number(b"replace block ", block);
+    telling::answers::replaced(b": ", spares::replace(drive(), 2, table, block));
+}
+
+// The paper's table: blocks 7, 8 and 6 are replaced.
+fn paper_table() -> [u32; 128] {
+    let mut table = [0u32; 128];
+    telling::answers::written(
+        b"first table: ",
+        spares::first_table(drive(), 2, &[], &mut table),
+    );
+    try_replace(&mut table, 7);
+    try_replace(&mut table, 8);
+    try_replace(&mut table, BLOCK);
+    telling::descriptor(b"descriptors 3, 4 and 5: ", table[3]);
+    telling::descriptor(b" ", table[4]);
+    telling::descriptor(b" ", table[5]);
+    telling::end();
+    telling::answers::shifted(b"block 6: ", spares::shift(drive(), 2, &table, BLOCK));
+    table
+}
+
+// The image of a track of five sectors, one of which holds the image of a block whose data is one byte over and over.
+fn track_with(start: usize, block: u32, byte: u8, forced: bool) -> [u8; 2_650]
+    requires { ⌜ start + 530 ≤ 2650 ⌝ }
+{
+    let mut image = [0u8; 530];
+    image::write(block, &[byte; 512], forced, &mut image);
+    let mut track = [0u8; 2_650];
+    image::put_bytes(&mut track, start, &image);
+    track
+}
+
+// The home track of the block, whose first sector holds old data.
+fn home_track(block: u32) -> [u8; 2_650] {
+    track_with(0, block, 82, false)
+}
+
+// The track of the spare, whose last sector holds new data.
+fn spare_track(block: u32, forced: bool) -> [u8; 2_650] {
+    track_with(2_120, block, 79, forced)
+}
+
+// Reads a block from two track images: the verdict, where its data begins, and how the data begins.
+fn try_read<'a>(table: &[u32], block: u32, home: &'a [u8], spare: &'a [u8]) {
+    telling::number(b"  block ", block);
+    telling::answers::judged(b": ", reading::judge(drive(), 2, table, block, home, spare));
+    telling::answers::spotted(
+        b"    ",
+        reading::spot(drive(), 2, table, block, home, spare),
+    );
+    let part = reading::data(drive(), 2, table, block, home, spare);
+    telling::count(b"    data bytes: ", part.len());
+    telling::bytes(b", the first:", comparing::first_bytes(part, 2));
+}
+
+// The spare is read whatever the home holds.
+fn try_home(table: &[u32]) {
+    let mut home = home_track(BLOCK);
+    let spare = spare_track(BLOCK, false);
+    telling::line(b"both images whole");
+    try_read(table, BLOCK, &home, &spare);
+    telling::answers::judged(
+        b"  the home's sector by itself: ",
+        image::judge(comparing::first_bytes(&home, 530), BLOCK),
+    );
+    home[16] = home[16] ^ 1;
+    telling::line(b"a bit of the home's data turned");
+    try_read(table, BLOCK, &home, &spare);
+    telling::answers::judged(
+        b"  the home's sector by itself: ",
+        image::judge(comparing::first_bytes(&home, 530), BLOCK),
+    );
+}
+
+// Each part of the spare's sector damaged: the home is never read instead.
+fn try_spare(table: &[u32]) {
+    let home = home_track(BLOCK);
+    let mut spare = spare_track(BLOCK, false);
+    spare[2_136] = spare[2_136] ^ 1;
+    telling::line(b"a bit of the spare's data turned");
+    try_read(table, BLOCK, &home, &spare);
+    spare[2_123] = 7;
+    spare[2_127] = 7;
+    telling::line(b"two copies of the spare's header name block 7");
+    try_read(table, BLOCK, &home, &spare);
+    telling::line(b"the spare's header names block 7");
+    try_read(table, BLOCK, &home, &spare_track(7, false));
+    telling::line(b"the spare was written as forced");
+    try_read(table, BLOCK, &home, &spare_track(BLOCK, true));
+}
+
+// Lengths, blocks and tables that are refused before any sector is looked into.
+fn try_lent<'a>(table: [u32; 128], home: &'a [u8], spare: &'a [u8]) {
+    let short_home = comparing::first_bytes(home, 2_649);
+    let short_spare = comparing::first_bytes(spare, 2_649);
+    telling::line(b"the home's image a byte too short");
+    try_read(&table, BLOCK, short_home, spare);
+    telling::line(b"the spare's image a byte too short");
+    try_read(&table, BLOCK, home, short_spare);
+    telling::line(b"a block that the drive does not have");
+    try_read(&table, 12, short_home, spare);
+    let mut broken = table;
+    broken[0] = 1;
+    telling::line(b"descriptor 0 broken");
+    try_read(&broken, 12, short_home, spare);
+}
+
+// A block at home is read from its home track, whatever the second image holds.
+fn try_at_home(table: &[u32]) {
+    telling::line(b"block 9 is at home, the second image is empty");
+    try_read(table, 9, &home_track(9), &[0u8; 2_650]);
+    telling::line(b"its home names block 6");
+    try_read(table, 9, &home_track(BLOCK), &[0u8; 2_650]);
+}
+
+fn main() {
+    let table = paper_table();
+    try_home(&table);
+    try_spare(&table);
+    try_lent(table, &home_track(BLOCK), &spare_track(BLOCK, false));
+    try_at_home(&table);
+}
