@@ -4,25 +4,6 @@ ghost use Prim.Native.Nat.{_<_};
 // The block that is written.
 const BLOCK: u32 = 6;
 
-// Writes the code that an image of data carries.
-fn try_code(words: &[u8], data: &[u8], forced: bool) {
-    let mut room = [0u8; 530];
-    image::write(BLOCK, data, forced, &mut room);
-    telling::bytes(words, &room[528..530]);
-}
-
-// The paper's codes.
-fn try_codes() {
-    let mut data = [0u8; 512];
-    try_code(b"code of zeros:", &data, false);
-    try_code(b"code of zeros, forced:", &data, true);
-    data[1] = 1;
-    try_code(b"code with first word 0001:", &data, false);
-    data[1] = 0;
-    data[511] = 1;
-    try_code(b"code with last word 0001:", &data, false);
-}
-
 // The image of the block whose data is one byte over and over.
 fn image_of(byte: u8, forced: bool) -> [u8; 530] {
     let mut room = [0u8; 530];
@@ -123,7 +104,6 @@ fn try_writes() {
 }
 
 fn main() {
-    try_codes();
     telling::line(b"whole");
     try_image(&image_of(82, false), BLOCK);
     try_parts();

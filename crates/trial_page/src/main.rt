@@ -49,14 +49,13 @@ fn try_paper() {
     telling::list(b"    the room: ", &room);
 }
 
-// The page of the paper with one byte of a field damaged.
-fn try_damaged(field: &[u8], place: usize, byte: u8)
+// The page of the paper with one byte damaged.
+fn try_damaged(place: usize, byte: u8)
     requires { ⌜ place < 22 ⌝ }
 {
     let mut page = paper_page();
     page[place] = byte;
-    telling::text(field);
-    telling::count(b": byte ", place);
+    telling::count(b" byte ", place);
     telling::number(b" set to ", byte as u32);
     telling::end();
     try_read(&page);
@@ -81,24 +80,35 @@ fn try_write(n: u32, kind: u32, list: &[u32]) {
     telling::count_line(b"    bytes changed: ", comparing::changed_bytes(&room, 170));
 }
 
+// Each field damaged in turn.
+fn try_fields() {
+    telling::line(b"length");
+    try_damaged(3, 23);
+    try_damaged(0, 1);
+    telling::line(b"version");
+    try_damaged(4, 0);
+    try_damaged(4, 2);
+    telling::line(b"kind");
+    try_damaged(5, 1);
+    try_damaged(5, 2);
+    telling::line(b"N");
+    try_damaged(9, 0);
+    try_damaged(9, 7);
+    try_damaged(9, 8);
+    try_damaged(6, 1);
+    telling::line(b"entries");
+    try_damaged(13, 20);
+    try_damaged(17, 3);
+    try_damaged(17, 20);
+    telling::line(b"last word");
+    try_damaged(18, 0);
+    try_damaged(21, 254);
+}
+
 fn main() {
     try_smallest();
     try_paper();
-    try_damaged(b"length", 3, 23);
-    try_damaged(b"length", 0, 1);
-    try_damaged(b"version", 4, 0);
-    try_damaged(b"version", 4, 2);
-    try_damaged(b"kind", 5, 1);
-    try_damaged(b"kind", 5, 2);
-    try_damaged(b"N", 9, 0);
-    try_damaged(b"N", 9, 7);
-    try_damaged(b"N", 9, 8);
-    try_damaged(b"N", 6, 1);
-    try_damaged(b"first entry", 13, 20);
-    try_damaged(b"last entry", 17, 3);
-    try_damaged(b"last entry", 17, 20);
-    try_damaged(b"last word", 18, 0);
-    try_damaged(b"last word", 21, 254);
+    try_fields();
     try_uneven();
     try_write(0, 2, &[3, 7]);
     try_write(16_777_217, 0, &[3, 7]);
