@@ -248,7 +248,7 @@ tb_formatted tb_format(
     uint32_t *grown, size_t grown_length,
     uint32_t *list, size_t list_length);
 
-/* ---- A revectored drive: r spares at the end of each track, and its descriptor table ---- */
+/* ---- A revectored drive: the last r sectors of each track are spares, and a table says what they hold ---- */
 
 /* The table has TB_TABLE_LENGTH(cylinders x heads x r) descriptors. Its rules are checked in every call. */
 
@@ -282,7 +282,7 @@ tb_replaced tb_spare_replace(tb_shape shape, uint32_t r, uint32_t *table, size_t
  * Checks: TB_OUT_OF_RANGE (shape, r), TB_BAD_TABLE. Answers free, primary, elsewhere, unusable and null. Writes nothing. */
 tb_counted tb_spare_census(tb_shape shape, uint32_t r, const uint32_t *table, size_t table_length);
 
-/* The first table of a drive, from the list of its bad sectors: bad spares are marked, then bad home blocks are replaced in rising order.
+/* The first table of a drive, from the list of its bad sectors: the spares among them are marked, then the homes are given spares, the lowest block first.
  * Checks: TB_OUT_OF_RANGE (shape, r), list, TB_NO_ROOM, TB_NO_SPARE. Answers length. Writes the table into the first places of room. */
 tb_written tb_spare_first(tb_shape shape, uint32_t r, const uint32_t *list, size_t list_length, uint32_t *room, size_t room_length);
 
@@ -303,7 +303,7 @@ tb_judged tb_image_judge(const uint8_t *image, size_t image_length, uint32_t blo
 /* ---- A read of a block of a revectored drive, from two track images ---- */
 
 /* home is the image of the block's home track and spare that of its spare's track; for a block at home spare may be any track's.
- * Both are TB_TRACK_LENGTH(sectors) bytes long, and only the one that the block lies on is looked into. */
+ * Both are TB_TRACK_LENGTH(sectors) bytes long. No byte of the one that does not have the block is looked at. */
 
 /* The verdict on a block.
  * Checks: TB_OUT_OF_RANGE (shape, r), TB_BAD_TABLE, TB_NO_SUCH_BLOCK, TB_WRONG_LENGTH (either image), TB_NO_ADDRESS, TB_OTHER_BLOCK,

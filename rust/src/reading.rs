@@ -1,6 +1,6 @@
 //! A read of a revectored block from the image of its home track and that of its spare's track.
 //!
-//! Only the image that the block lies on is looked into. For a block at home the second image may be
+//! No byte of the other image is looked at. For a block at home the second image may be
 //! any of the right length.
 
 use crate::ffi;

@@ -7,41 +7,41 @@ use std::fmt;
 #[derive(Clone, Copy, Debug, PartialEq, Eq, Hash, PartialOrd, Ord)]
 #[repr(u32)]
 pub enum Refusal {
-    /// A shape number, the spares of a track, the number of sectors or of all spares is outside its range.
+    /// A number of the drive is out of its range: of the shape, of its sectors or of its spares.
     OutOfRange = 1,
-    /// A list has, or a resulting list would have, more than 4,096 entries.
+    /// A list is longer than 4,096 entries, or a list to be made would be.
     TooLong = 2,
-    /// An entry is not greater than the one before.
+    /// An entry of a list does not exceed its neighbour before it.
     NotRising = 3,
-    /// An entry is not below the size of its space.
+    /// An entry of a list is no unit of its space.
     Outside = 4,
-    /// The block number is not below the number of blocks.
+    /// The drive has no block of this number.
     NoSuchBlock = 5,
-    /// The sector number, or a cylinder, head or sector, is not below its bound.
+    /// The drive has no sector of this number, or no such cylinder, head or sector of a track.
     NoSuchSector = 6,
-    /// The lent room is too short for the result.
+    /// The result does not fit into the room.
     NoRoom = 7,
-    /// A page breaks its layout, or the kind to write is neither 0 nor 1.
+    /// The bytes are no page, or there is no such kind of page to write.
     BadPage = 8,
-    /// The cursor is not one of this list.
+    /// The cursor does not belong to this N and list.
     StrayCursor = 9,
     /// Format's option is above 7, its space above 3, or a list comes with an option that takes none.
     BadOption = 10,
-    /// The descriptor table breaks its rules.
+    /// The table is not one of this drive, or a descriptor breaks a rule.
     BadTable = 11,
-    /// The block is already replaced.
+    /// The block lies on a spare already.
     AlreadyReplaced = 12,
     /// No spare is free, or a first table would need more good spares than there are.
     NoSpare = 13,
-    /// A sector image, a track image or the data to write has the wrong length.
+    /// Data or an image is not as long as it must be.
     WrongLength = 14,
-    /// No number stands in three of the four header copies.
+    /// Fewer than three copies in the header agree.
     NoAddress = 15,
-    /// The header names another block.
+    /// The header carries another block's number.
     OtherBlock = 16,
     /// The stored code is the complement: the data was bad when it was written.
     ForcedError = 17,
-    /// The stored code matches neither way.
+    /// The stored code is neither the data's nor its complement.
     BadCode = 18,
 }
 

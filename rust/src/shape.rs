@@ -27,7 +27,7 @@ pub struct Address {
 /// The sector number of a place.
 ///
 /// Checks: [`OutOfRange`](Refusal::OutOfRange) for the shape; [`NoSuchSector`](Refusal::NoSuchSector)
-/// where cylinder, head or sector is not below its bound.
+/// where cylinder, head or sector is not on the drive.
 pub fn sector_of(shape: Shape, cylinder: u32, head: u32, sector: u32) -> Result<u32, Refusal> {
     // SAFETY: only numbers are passed.
     let answer = unsafe { ffi::tb_shape_sector(shape, cylinder, head, sector) };

@@ -19,7 +19,7 @@ pub fn address_of(shape: Shape, list: &[u32], block: u32) -> Result<Address, Ref
 ///
 /// Checks: [`OutOfRange`](Refusal::OutOfRange) for the shape; [`TooLong`](Refusal::TooLong), then
 /// [`NotRising`](Refusal::NotRising) or [`Outside`](Refusal::Outside) at the lowest place at fault;
-/// [`NoSuchSector`](Refusal::NoSuchSector) where cylinder, head or sector is not below its bound.
+/// [`NoSuchSector`](Refusal::NoSuchSector) where cylinder, head or sector is not on the drive.
 pub fn block_at(
     shape: Shape,
     list: &[u32],

@@ -1,4 +1,4 @@
-//! A revectored drive: `r` spares at the end of each track, and the descriptor table over them.
+//! A revectored drive: the last `r` sectors of each track are spares, and a table says what they hold.
 
 use crate::ffi;
 use crate::refusal::{answered, named, Refusal};
@@ -34,8 +34,8 @@ pub fn shift(shape: Shape, r: u32, table: &[u32], block: u32) -> Result<i32, Ref
     answered(answer.refusal, answer.shift)
 }
 
-/// The block that lies on `sector`; none for the home of a replaced block and for a spare that is not
-/// allocated.
+/// The block that lies on `sector`; none for a home whose block has moved away, and for a spare that
+/// holds none.
 ///
 /// Checks: [`OutOfRange`](Refusal::OutOfRange) for shape, `r` and the number of spares;
 /// [`BadTable`](Refusal::BadTable); [`NoSuchSector`](Refusal::NoSuchSector).
@@ -45,8 +45,8 @@ pub fn block_on(shape: Shape, r: u32, table: &[u32], sector: u32) -> Result<Opti
     answered(answer.refusal, named(answer.found, answer.block))
 }
 
-/// The block that lies at a place; none for the home of a replaced block and for a spare that is not
-/// allocated.
+/// The block that lies at a place; none for a home whose block has moved away, and for a spare that
+/// holds none.
 ///
 /// Checks: [`OutOfRange`](Refusal::OutOfRange) for shape, `r` and the number of spares;
 /// [`BadTable`](Refusal::BadTable); [`NoSuchSector`](Refusal::NoSuchSector) where cylinder, head or
@@ -111,13 +111,13 @@ pub fn census(shape: Shape, r: u32, table: &[u32]) -> Result<Census, Refusal> {
 }
 
 /// Makes a drive's first table from its list of bad sectors, in the first places of `room`, and
-/// answers the table's length: bad spares are unusable, then bad home blocks are replaced in rising
-/// order.
+/// answers the table's length: the spares among them are unusable, then the homes are given spares,
+/// the lowest block first.
 ///
 /// Checks: [`OutOfRange`](Refusal::OutOfRange) for shape, `r` and the number of spares;
 /// [`TooLong`](Refusal::TooLong), then [`NotRising`](Refusal::NotRising) or
 /// [`Outside`](Refusal::Outside) at the lowest place at fault; [`NoRoom`](Refusal::NoRoom);
-/// [`NoSpare`](Refusal::NoSpare) for more bad home sectors than good spares.
+/// [`NoSpare`](Refusal::NoSpare) where the bad homes outnumber the good spares.
 pub fn first_table(shape: Shape, r: u32, list: &[u32], room: &mut [u32]) -> Result<u32, Refusal> {
     // SAFETY: pointers and lengths are those of live slices, and the room overlaps nothing.
     let answer = unsafe {

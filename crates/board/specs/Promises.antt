@@ -78,7 +78,7 @@ abbrev pub JobCheck : Cursor → ℕ → List ℕ → TbJob → Type 0
 JobCheck cursor n list r =
     Leaves {Rest = ℕ × Cursor} (cursorFault n list cursor) (0, noCursor) (0, cursor) (r .refusal) (r .sector, r .next)
 
--- the sector of the cursor's block and the cursor for the block after it; a refused step hands back the cursor it was given
+-- the sector of the cursor's block and the cursor for the block after it; refused, the cursor as it went in
 abbrev pub JobStep : Cursor → ℕ → List ℕ → TbJob → Type 0
 JobStep cursor n list r =
     Leaves {Rest = ℕ × Cursor} (stepFault n list cursor) (0, cursor)

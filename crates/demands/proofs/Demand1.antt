@@ -1,6 +1,6 @@
--- Demand 1: every call takes any shape, list, table, page or image, ends, and answers or refuses by the paper's numbers; a refusal gives its number and no answer, and lent memory keeps its bytes.
+-- Demand 1: whatever a call is handed, it comes back with an answer or with one of the paper's refusal numbers, by the paper's rules, and nobody has to look at the input first. Refused, it says the number and nothing more, and what was lent is untouched.
 -- That a call takes anything and ends: no public call has a `requires`, and Rattle proves of each function that it is safe and ends. The rest stands here for each public call, over whatever result its promise allows.
--- A call's theorem says three things (`ByTheNumbers`): its number is the one that the paper's table gives, exactly then, and no other; a refusal says 0 for every other number, save that a refused step hands back the cursor it was given; and no call answers a refusal with number 0, so that 0 means accepted. Theorems that end in `-keeps` say that lent memory keeps its bytes.
+-- A call's theorem says three things (`ByTheNumbers`): its number is the one that the paper's table gives, exactly then, and no other; a refusal says 0 for every other number, save that a refused step returns its cursor; and no call answers a refusal with number 0, so that 0 means accepted. Theorems that end in `-keeps` say that lent memory keeps its bytes.
 -- Assumes nothing.
 use Prim.Native.Nat.{ℕ, _+_, _-_, _*_, _/_, _%_}
 use mathlib.Core.Path.{_≡_, _∙_, ap}
@@ -104,14 +104,14 @@ module _ (n : ℕ) (a : List ℕ) where
       (pick-naming (isIn a s) NoBlock (Block (goodsBefore (isIn a) s)) none-naming (block-naming (goodsBefore (isIn a) s)))
       (promise .answers)
 
-  -- a refused start or check hands back block 0, skipped 0
+  -- a refusal of these two comes with an empty cursor
   pub cursor-start : (b : ℕ) (result : Job) → Starts n a b result → JobBy noCursor (StartJudged n a b) result
   cursor-start b result promise = ready-by (blockFault n a b) (start-exactly n a b) noCursor (cursorAt n a b) result (promise .answers)
 
   pub cursor-check : (c : Cursor) (result : Job) → Checks n a c result → JobBy noCursor (CheckJudged n a c) result
   cursor-check c result promise = ready-by (cursorFault n a c) (check-exactly n a c) noCursor c result (promise .answers)
 
-  -- a refused step hands back the cursor it was given
+  -- a refused step returns its cursor
   pub cursor-step : (c : Cursor) (result : Job) → Steps n a c result → JobBy c (StepJudged n a c) result
   cursor-step c result promise =
       stepped-by (stepFault n a c) (step-exactly n a c) c (place (isIn a) n (c .block)) _ result (promise .answers)

@@ -1,4 +1,4 @@
--- A census counts each code, and from a first table, after any calls, free = spares − bad spares − bad home blocks − accepted replacements.
+-- A census counts the places of each code. Whatever calls follow a first table, the spares that it counts as free are those that neither the list of bad sectors nor an accepted replacement has taken.
 -- Assumes nothing.
 use Prim.Native.Nat.{ℕ, _+_, _-_, _≤_}
 use mathlib.Core.Path.{_≡_, sym, _∙_, ap}
@@ -66,7 +66,7 @@ module _ (shape : Shape) (r : ℕ) (list room : List ℕ) (long : ℕ) (after : 
         ap (λ (said : ℕ × ℕ × ℕ × ℕ × ℕ × ℕ). said .0) (promise .says)
         ∙ history-passes shape r (take long after) calls (rw first-is (first-passes shape r list room first-fault))
 
-    -- free = spares − bad spares − bad home blocks − accepted replacements
+    -- of the spares, the bad ones, those of the bad homes and those of the accepted calls are free no more
     pub free-places :
         (census : Census) → CensusOf shape r (afterAll shape r (take long after) calls) (Census-of census) →
         census .free

@@ -1,4 +1,4 @@
--- Demand 2 on a revectored drive: a block lies at home or on the one spare that its descriptor names. Two blocks never share a sector, none lies on a spare marked unusable, a replacement alters one descriptor and is refused for want of a spare only when none is free.
+-- Demand 2 on a revectored drive: every block has one sector, its home or else the spare whose descriptor names it, and no other block has that sector. An unusable spare has no block. A replacement changes a single descriptor, and 13 means that every spare is taken.
 -- Assumes nothing.
 use Prim.Native.Nat.{ℕ, _*_, _/_, _<_}
 use mathlib.Core.Path.{_≡_, refl, sym, _∙_, ap}
@@ -118,7 +118,7 @@ module _ (shape : Shape) (r : ℕ) (t : List ℕ) where
         placed .answers
         ∙ (answer-accepted (blockFault shape r t b) NotPlaced (At (liesOn (layoutOf shape r) t b)) none ∙ ap At (lies .1))
 
-    -- no block is answered for the home of a replaced block and for a spare that is not allocated
+    -- "no block" means a home whose block has moved away, or a spare that holds none
     pub none-is-vacant : BlockOn shape r t s NoBlock → Vacant (layoutOf shape r) t s
     none-is-vacant promise =
         let fault : blockOnFault shape r t s ≡ 0 = asked-passes NoBlock promise refl in
@@ -185,7 +185,7 @@ module _ (shape : Shape) (r : ℕ) (t : List ℕ) where
   none-free-no-spare b none at-home none-free result after promise =
       ap (λ (said : ℕ × ℕ). said .0) (promise .says) ∙ no-spare-told shape r t b none at-home none-free
 
-  -- the shift leads from the cylinder of the home to the cylinder that the block lies on, and lies within 1 − C to C − 1
+  -- the shift leads from the cylinder of the home to the cylinder that the block lies on, and is less than C to either side
   pub shift-leads-there : (b : ℕ) (shift : ℤ) → ShiftOf shape r t b (By shift) → Leads (layoutOf shape r) t b (shape .cylinders) shift
   shift-leads-there b shift promise =
       let none : blockFault shape r t b ≡ 0 = sym (ap (λ (said : ℕ × ℤ). said .0) (promise .says)) in
@@ -200,7 +200,7 @@ module _ (shape : Shape) (r : ℕ) (t : List ℕ) where
           ∙ rw e (rw (spare-track laid (placeOf t b))))
           (λ e. rw e (rw (home-track laid b) (+ℤ-idr (pos (homeCylinder (layoutOf shape r) b)))))
 
-  -- and is 0 for a block at home
+  -- a block that has not moved has shift 0
   pub shift-0-at-home : (b : ℕ) (shift : ℤ) → ShiftOf shape r t b (By shift) → (Replaced t b → ⊥) → shift ≡ pos 0
   shift-0-at-home b shift promise at-home =
       let none : blockFault shape r t b ≡ 0 = sym (ap (λ (said : ℕ × ℤ). said .0) (promise .says)) in

@@ -1,4 +1,4 @@
--- Demand 2 on a skipped drive: block b lies on the good sector that has exactly b good sectors before it, and the sector names that block again. Two blocks never share a sector.
+-- Demand 2 on a skipped drive: counted from 0, a block's number is the number of good sectors before its own; each sector leads back to its block, and no sector has two.
 -- Assumes nothing.
 use Prim.Native.Nat.{ℕ, suc, _-_, _<_}
 use mathlib.Core.Path.{_≡_, sym, _∙_, ap}

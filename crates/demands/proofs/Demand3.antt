@@ -1,4 +1,4 @@
--- Demand 3: suppose Format accepts a scan's list, named in the numbers of that day's map, and builds the new map over the same kinds of list as the map in use. Then each new block lies where you arrive by skipping the named blocks in the old numbering and following the old map. Two such nights, both accepted, equal one night whose list joins the first to the second written in the first night's numbers.
+-- Demand 3: a night's scan names blocks of the map in use, and Format accepts it without a change of the kinds of list that the map is over. Then the new map is the old one with the named blocks left out: to find a new block, count past the named ones among the old blocks, and go where the old map has the block that you come to. And two nights in a row are one night, whose list is the first one's and the second one's together, all in the numbers of the first.
 -- It is said over demand 2's map (`Lies`, `place`), since the identity map would obey the law too.
 -- Assumes nothing.
 use Prim.Native.Nat.{ℕ, zero, suc, _≤_}

@@ -1,4 +1,4 @@
--- Accepted results fill the first places of the lent room and leave the rest, and the length that a call answers is that of the list or of the bytes that it wrote. (That a refused call leaves the whole room stands in `Demand1`.)
+-- What an accepted call writes: the answered length is that of the list or of the bytes, these stand at the front of the room, and what stood behind them stays. (That a refused call leaves the whole room stands in `Demand1`.)
 -- Assumes nothing.
 use Prim.Native.Nat.{ℕ, _+_}
 use mathlib.Core.Path.{_≡_, sym, ap}

@@ -32,14 +32,14 @@ use Rattle.image.proofs.Exact.{sector-one, write-shows}
 use Rattle.image.proofs.ThereAndBack.{image-names, image-good, image-forced, good-gives, forced-gives}
 use Rattle.demands.proofs.Rooms.{image-write-hands}
 
--- reading a written page gives its kind, N and list
+-- what was written to a page is read from it again
 pub written-page-reads :
     (n kind : ℕ) (list room after : List ℕ) (long : ℕ) → Writes n kind list room (Length long) after →
     (other filled : List ℕ) (result : Paged) → length list ≤ length other → Reads (take long after) other result filled →
     (result ≡ Page kind n (length list)) × (filled ≡ written list other)
 written-page-reads = write-then-read
 
--- writing what was read gives the same bytes
+-- what was read from a page makes that page again
 pub read-page-writes :
     (page room after : List ℕ) (kind n entries : ℕ) → Bytes page → Reads page room (Page kind n entries) after →
     (other filled : List ℕ) (result : Written) → length page ≤ length other → Writes n kind (take entries after) other result filled →
@@ -94,6 +94,6 @@ pub changed-data-not-good :
 changed-data-not-good image number k byte are-bytes inside low apart good again =
     changed-byte dataSize image k byte inside number 256 refl are-bytes low apart (sym (good .says)) (sym (again .says))
 
--- good, forced and bad exclude each other
+-- an image has one verdict
 pub one-verdict : (image : List ℕ) (number j k : ℕ) → SectorJudged dataSize image number j → SectorJudged dataSize image number k → j ≡ k
 one-verdict image number j k = sector-one image dataSize number j k

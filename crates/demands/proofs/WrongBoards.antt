@@ -208,7 +208,7 @@ one-too-many counts = omega (arith, ap (λ (c : Census). c .free) (counts-one co
 pub codes-exchanged : Counts afterSix (censusWith 5 2 1 0 120) → ⊥
 codes-exchanged counts = omega (arith, ap (λ (c : Census). c .primary) (counts-one counts used-counts))
 
--- the identity map obeys demand 3's law, as demand 2's map does
+-- a map that moves nothing has demand 3's law too, as demand 2's map does
 pub identity-composes : Composes (λ bad n b. b)
 identity-composes bad more n b = refl
 

@@ -114,7 +114,7 @@ refusesAll k n a b = NotPlaced k
 abbrev pub sameSector : ℕ → ℕ → List ℕ → ℕ → Placed
 sameSector s n a b = answer (blockFault n a b) NotPlaced (At s)
 
--- skip::sector_of: adds the number of entries at or below the block, and does not look again
+-- skip::sector_of: counts the entries up to the block once, and does not look again from where that leads
 abbrev pub addsOnce : ℕ → List ℕ → ℕ → Placed
 addsOnce n a b = answer (blockFault n a b) NotPlaced (At (b + entriesBelow a (suc b)))
 

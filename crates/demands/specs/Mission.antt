@@ -35,7 +35,7 @@ pub record PartBy (Judged : ℕ → Type 0) (size : ℕ) (part : List ℕ) : Typ
   pub refused-empty : (number ≡ 0 → ⊥) → part ≡ []
   pub accepted-whole : number ≡ 0 → length part ≡ size
 
--- an accepted result fills the first places of the lent room and leaves the rest, and its length is the one that is answered
+-- what an accepted call wrote: the answered length is the list's, the list stands at the front of the room, and what stood behind it stays
 pub record Handed (list before : List ℕ) (long : ℕ) (after : List ℕ) : Type 0 where
   pub long-as : long ≡ length list
   pub first : take long after ≡ list
@@ -46,7 +46,7 @@ pub record Onward (n : ℕ) (a : List ℕ) (c next : Cursor) : Type 0 where
   pub follows : next .block ≡ suc (c .block)
   pub belongs : Belongs n a next
 
--- a shift leads from the cylinder of a block's home to the cylinder that it lies on, and lies within 1 − C to C − 1
+-- a shift leads from the cylinder of a block's home to the cylinder that it lies on, and is less than C to either side
 pub record Leads (g : Layout) (t : List ℕ) (b cylinders : ℕ) (shift : ℤ) : Type 0 where
   pub leads : pos (homeCylinder g b) +ℤ shift ≡ pos (liesOn g t b / sectorsOf g / g .heads)
   pub within : natAbs shift < cylinders

@@ -27,7 +27,7 @@ unfoldable pub replacedAll : Layout → List ℕ → List ℕ → List ℕ
 replacedAll g t [] = t
 replacedAll g t (b ∷ blocks) = replacedAll g (replacedIn g t b) blocks
 
--- the first table: bad spares are marked, and then the bad home blocks are replaced in rising order
+-- the first table: once the bad spares are marked, each bad home is given a spare, the lowest block first
 abbrev pub firstTable : Layout → List ℕ → List ℕ
 firstTable g list = replacedAll g (marked g list) (badHomes g list)
 

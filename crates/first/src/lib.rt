@@ -1,4 +1,4 @@
-// The first table of a revectored drive, made from a list of bad sectors: bad spares marked unusable, then bad home blocks replaced in rising order.
+// The first table of a revectored drive: of a list of bad sectors, the spares are marked unusable and then the homes are given spares, the lowest block first.
 ghost use mathlib.Core.Path.{_≡_};
 ghost use mathlib.Core.Bool.{true};
 ghost use Prim.Native.Nat.{_*_, _<_, _≤_};

@@ -19,7 +19,7 @@ Rising a = (i : ℕ) → suc i < length a → getD a i 0 < getD a (suc i) 0
 abbrev pub Inside : ℕ → List ℕ → Type 0
 Inside n a = (i : ℕ) → i < length a → getD a i 0 < n
 
--- a list holds no more entries than a list may, each greater than the one before and below the size of its space
+-- a proper list: not too long, rising, and inside its space
 pub record Proper (n : ℕ) (a : List ℕ) : Type 0 where
   pub short : length a ≤ listMost
   pub rising : Rising a

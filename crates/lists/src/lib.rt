@@ -10,7 +10,7 @@ use paper::NOT_RISING;
 use paper::OUTSIDE;
 use paper::TOO_LONG;
 
-// Refusal 4 for an entry that is not below the size of its space, else 0.
+// Refusal 4 for an entry that is no unit of its space, else 0.
 fn bound_fault(n: u32, entry: u32) -> u32
     ensures { λ r. ⌜ r ≡ boundFault n entry ⌝ }
 {

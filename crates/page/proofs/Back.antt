@@ -1,4 +1,4 @@
--- There and back: reading a written page gives its kind, N and list, and writing what was read gives the same bytes; over the definitions, and over what the calls promise.
+-- There and back: what was written to a page is read from it again, and what was read makes the same page again; over the definitions, and over what the calls promise.
 -- Assumes nothing.
 use Prim.Native.Nat.{ℕ, _+_, _*_, _-_, _≤_}
 use mathlib.Core.Path.{_≡_, refl, sym, _∙_, ap}
@@ -109,7 +109,7 @@ module _ (n kind : ℕ) (list : List ℕ) where
           ends = bytes-end;
         }
 
-    -- reading the bytes of a page gives its kind, N and list
+    -- the bytes of a page say the kind, N and list that they were made of
     pub read-written : Carries (pageBytes n kind list) n kind list
     read-written =
         record {
@@ -124,7 +124,7 @@ module _ (n kind : ℕ) (list : List ℕ) where
         fits : Fits32 list
         fits = proper-fits n list (units .1) proper
 
--- writing what was read gives the same bytes
+-- what was read from a page makes that page again
 module _ (page : List ℕ) (passes : pageFault page ≡ 0) where
   laid : LaidOut page
   laid = page-laid-out page passes

@@ -1,43 +1,43 @@
 -- The paper's refusal numbers, "Refusal numbers", by name. Each name says what its row says.
 use Prim.Native.Nat.{ℕ}
 
--- a shape number, r, the caller's N or T × r is outside its range
+-- N, a number of the shape, r, or the number of all spares is out of its range
 abbrev pub outOfRange : ℕ
 outOfRange = 1
 
--- a list has, or a resulting list would have, too many entries
+-- a list is longer than a list may be, or a list to be made would be
 abbrev pub tooLong : ℕ
 tooLong = 2
 
--- an entry is not greater than the one before
+-- an entry of a list does not exceed its neighbour before it
 abbrev pub notRising : ℕ
 notRising = 3
 
--- an entry is not below the size of its space
+-- an entry of a list is no unit of its space
 abbrev pub outside : ℕ
 outside = 4
 
--- the block number is not below the number of blocks
+-- the drive has no block of this number
 abbrev pub noSuchBlock : ℕ
 noSuchBlock = 5
 
--- the sector number, or a cylinder, head or sector, is not below its bound
+-- the drive has no sector of this number, or no such cylinder, head or sector of a track
 abbrev pub noSuchSector : ℕ
 noSuchSector = 6
 
--- the lent room for the result is too short
+-- the result does not fit into the room
 abbrev pub noRoom : ℕ
 noRoom = 7
 
--- a page breaks its layout, or the kind to write is none of the kinds
+-- the bytes are no page, or there is no such kind of page to write
 abbrev pub badPage : ℕ
 badPage = 8
 
--- the cursor is not one of this list
+-- the cursor does not belong to this N and list
 abbrev pub strayCursor : ℕ
 strayCursor = 9
 
--- Format's option or space number is too high, or a list comes with an option that takes none
+-- there is no such option or space, or a list came with an option that takes none
 abbrev pub badOption : ℕ
 badOption = 10
 
@@ -49,15 +49,15 @@ badTable = 11
 abbrev pub alreadyReplaced : ℕ
 alreadyReplaced = 12
 
--- no spare is free, or a first table has more bad home sectors than good spares
+-- no spare is left, or too few for all bad homes of a first table
 abbrev pub noSpare : ℕ
 noSpare = 13
 
--- an image, or the data to write, has the wrong length
+-- data or an image is not as long as it must be
 abbrev pub wrongLength : ℕ
 wrongLength = 14
 
--- no address stands in three of the four header copies
+-- fewer than three copies in a header agree
 abbrev pub noAddress : ℕ
 noAddress = 15
 

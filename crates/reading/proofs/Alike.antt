@@ -1,4 +1,4 @@
--- Only the sector image that the block lies on is looked into: verdict, spot and part stay the same when the other image, or any other sector of this one, holds other bytes.
+-- A read depends on one sector image, that of the block: verdict, spot and part stay the same when the other image, or any other sector of this one, holds other bytes.
 -- Assumes nothing.
 use Prim.Native.Nat.{ℕ, zero, suc, _+_, _<_, _≤_}
 use mathlib.Core.Path.{_≡_, refl, sym, _∙_}

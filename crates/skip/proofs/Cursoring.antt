@@ -91,7 +91,7 @@ module _ (n : ℕ) (a : List ℕ) where
   pub step-belongs : (c : Cursor) → stepFault n a c ≡ 0 → Belongs n a (cursorAt n a (suc (c .block)))
   step-belongs c none = cursor-belongs (suc (c .block)) (step-block c none)
 
-  -- a refused step hands back the cursor it was given
+  -- a refused step leaves the cursor as it went in
   pub step-refused : (c : Cursor) → (stepFault n a c ≡ 0 → ⊥) → stepped n a c ≡ Refused (stepFault n a c) c
   step-refused c some = answer-refused (stepFault n a c) _ _ some
 

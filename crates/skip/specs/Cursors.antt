@@ -53,7 +53,7 @@ started n a b = answer (blockFault n a b) (λ fault. Refused fault noCursor) (Re
 abbrev pub checked : ℕ → List ℕ → Cursor → Job
 checked n a c = answer (cursorFault n a c) (λ fault. Refused fault noCursor) (Ready c)
 
--- a step answers the sector of the next block and the cursor for the block after it; refused, it hands back the cursor it was given
+-- a step answers where the cursor's block lies, with the cursor of the block after it; a refusal comes with the cursor as it went in
 abbrev pub stepped : ℕ → List ℕ → Cursor → Job
 stepped n a c =
     answer (stepFault n a c) (λ fault. Refused fault c) (At (place (isIn a) n (c .block)) (cursorAt n a (suc (c .block))))

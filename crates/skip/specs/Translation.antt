@@ -14,7 +14,7 @@ use Rattle.lists.specs.Proper.{spaceFault, SpaceJudged}
 use Rattle.lists.specs.Union.{isIn}
 use Rattle.skip.specs.Skipping.{goodsBefore, place}
 
--- with list A over N sectors there are N − |A| blocks
+-- how many blocks are left: each entry of the list takes one sector away
 abbrev pub blocks : ℕ → List ℕ → ℕ
 blocks n a = n - length a
 

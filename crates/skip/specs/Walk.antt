@@ -6,7 +6,7 @@ use lib.Dec.{eqb, leb, ltb}
 use lib.ListN.{length, getD}
 use Rattle.paper.specs.Checks.{pick}
 
--- how many entries an address passes: while an entry is left and is at most the address, the address goes on by one and the entry is passed
+-- how many entries an address passes: an entry that the address has reached is passed, and moves the address one sector further, before the next entry is looked at
 unfoldable pub passes : List ℕ → ℕ → ℕ
 passes [] address = 0
 passes (x ∷ a) address = pick (leb x address) (suc (passes a (suc address))) 0

@@ -44,7 +44,7 @@ module _ (shape : Shape) (r : ℕ) where
     pub first-passes : tableFault shape r (firstTable (layoutOf shape r) list) ≡ 0
     first-passes = table-passes shape r (firstTable (layoutOf shape r) list) (orElse-first (driveFault shape r) _ none) (first-made shape r list room none .obeys)
 
-    -- free = spares − bad spares − bad home blocks − accepted replacements
+    -- of the spares, the bad ones, those that the bad homes took and those that accepted calls took are free no more
     pub census-law :
         (calls : List Call) →
         codeCount (afterAll shape r (firstTable (layoutOf shape r) list) calls) free

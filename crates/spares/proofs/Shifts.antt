@@ -1,4 +1,4 @@
--- The shift: a difference of cylinders is exact in 32 bits, 0 at home, leads from the home's cylinder to the spare's, and lies within 1 − C to C − 1.
+-- The shift: a difference of cylinders is exact in 32 bits, 0 at home, leads from the home's cylinder to the spare's, and is less than C to either side.
 -- Assumes nothing.
 use Prim.Native.Nat.{ℕ, zero, suc, _*_, _/_, _<_}
 use mathlib.Core.Path.{_≡_, refl}
@@ -64,7 +64,7 @@ module _ (g : Layout) (t : List ℕ) (b : ℕ) where
       rw (shift-replaced h, +ℤ-comm (pos (homeCylinder g b)) (pos (spareCylinder g (placeOf t b)) -ℤ pos (homeCylinder g b)))
       (-ℤ-+ℤ-cancel (pos (spareCylinder g (placeOf t b))) (pos (homeCylinder g b)))
 
-  -- and lies within 1 − C to C − 1
+  -- and is less than C to either side
   pub shift-within :
       Laid g → Obeys g t → b < g .blocks → (cylinders : ℕ) → g .tracks ≡ cylinders * g .heads → natAbs (shiftOf g t b) < cylinders
   shift-within laid o below cylinders tracks =
@@ -77,7 +77,7 @@ module _ (g : Layout) (t : List ℕ) (b : ℕ) where
       (home-cylinder-below laid below cylinders tracks)))
       (λ e. rw e (omega (arith, home-cylinder-below laid below cylinders tracks)))
 
--- the same for the call: a shift that is answered lies within 1 − C to C − 1
+-- the same for the call: a shift that is answered is less than C to either side
 pub shift-answered : (shape : Shape) (r : ℕ) (t : List ℕ) (b : ℕ) → blockFault shape r t b ≡ 0 → natAbs (shiftOf (layoutOf shape r) t b) < shape .cylinders
 shift-answered shape r t b none =
     let ready = block-ready shape r t b none in

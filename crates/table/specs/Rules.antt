@@ -30,7 +30,7 @@ pub data Misplaced (g : Layout) (q w : ℕ) : Type 0 where
       (codeOf w ≡ free → ⊥) → (codeOf w ≡ unusable → ⊥) → (codeOf w ≡ null → ⊥) → (Allocated w → ⊥) → Misplaced g q w
   -- free, unusable and null carry number 0
   number-carried : (Allocated w → ⊥) → (numberOf w ≡ 0 → ⊥) → Misplaced g q w
-  -- an allocated number is a home block
+  -- the drive has the block that an allocated place names
   no-home : Allocated w → g .blocks ≤ numberOf w → Misplaced g q w
   -- code 2 stands at the block's primary alone
   not-primary : codeOf w ≡ atPrimary → (q ≡ primary g (numberOf w) → ⊥) → Misplaced g q w
