@@ -1,11 +1,10 @@
 -- The laws of how many places of two rows differ: none exactly where they are the same row, and the count as it goes on from place to place.
 -- Assumes nothing.
 use Prim.Native.Nat.{ℕ, _+_, _-_, _<_, _≤_}
-use mathlib.Core.Path.{_≡_, refl, _∙_, ap}
+use mathlib.Core.Path.{_≡_, refl, _∙_}
 use mathlib.Core.List.{List, [], _∷_}
 use native.Mathlib.Omega.{arith}
 use lib.ListN.{length, getD, drop, replicate, length-drop, length-replicate, getD-replicate}
-use lib.Dec.{eqb}
 use borrow.Author.Tests.{eq-eqb, ne-eqb}
 use Rattle.paper.proofs.Cases.{byEq}
 use Rattle.seek.proofs.Drops.{drop-next, drop-past}

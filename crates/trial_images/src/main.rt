@@ -4,10 +4,12 @@ ghost use Prim.Native.Nat.{_<_};
 // The block that is written.
 const BLOCK: u32 = 6;
 
-// The image of the block whose data is one byte over and over.
-fn image_of(byte: u8, forced: bool) -> [u8; 530] {
+// The image of the block whose data begins with 82 and is zero after it.
+fn image_of(forced: bool) -> [u8; 530] {
+    let mut data = [0u8; 512];
+    data[0] = 82;
     let mut room = [0u8; 530];
-    image::write(BLOCK, &[byte; 512], forced, &mut room);
+    image::write(BLOCK, &data, forced, &mut room);
     room
 }
 
@@ -23,7 +25,7 @@ fn try_image(image: &[u8], block: u32) {
 fn try_turned(part: &[u8], place: usize, bits: u8)
     requires { ⌜ place < 530 ⌝ }
 {
-    let mut image = image_of(82, false);
+    let mut image = image_of(false);
     image[place] = image[place] ^ bits;
     telling::text(part);
     telling::count(b": byte ", place);
@@ -46,7 +48,7 @@ fn try_parts() {
 
 // Two copies name one other block, two copies name two others, and three copies name one other.
 fn try_copies() {
-    let mut image = image_of(82, false);
+    let mut image = image_of(false);
     image[3] = 7;
     image[15] = 7;
     telling::line(b"two copies name block 7");
@@ -63,13 +65,13 @@ fn try_copies() {
 
 // The complement of the code, turned by hand and written as forced.
 fn try_complement() {
-    let mut image = image_of(82, false);
+    let mut image = image_of(false);
     image[528] = image[528] ^ 255;
     image[529] = image[529] ^ 255;
     telling::line(b"both code bytes turned by 255");
     try_image(&image, BLOCK);
     telling::line(b"written as forced");
-    try_image(&image_of(82, true), BLOCK);
+    try_image(&image_of(true), BLOCK);
 }
 
 // An image one byte too short and one byte too long.
@@ -104,8 +106,9 @@ fn try_writes() {
 }
 
 fn main() {
-    telling::line(b"whole");
-    try_image(&image_of(82, false), BLOCK);
+    let image = image_of(false);
+    telling::bytes(b"whole, its code:", &[image[528], image[529]]);
+    try_image(&image, BLOCK);
     try_parts();
     try_copies();
     try_complement();

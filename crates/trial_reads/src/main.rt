@@ -38,12 +38,14 @@ fn paper_table() -> [u32; 128] {
     table
 }
 
-// The image of a track of five sectors, one of which holds the image of a block whose data is one byte over and over.
+// The image of a track of five sectors, one of which holds the image of a block whose data begins with a byte and is zero after it.
 fn track_with(start: usize, block: u32, byte: u8, forced: bool) -> [u8; 2_650]
     requires { ⌜ start + 530 ≤ 2650 ⌝ }
 {
+    let mut data = [0u8; 512];
+    data[0] = byte;
     let mut image = [0u8; 530];
-    image::write(block, &[byte; 512], forced, &mut image);
+    image::write(block, &data, forced, &mut image);
     let mut track = [0u8; 2_650];
     image::put_bytes(&mut track, start, &image);
     track

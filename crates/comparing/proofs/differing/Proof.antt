@@ -1,11 +1,10 @@
 -- `comparing::differing` meets its contract. The loop's invariant: so many of the places passed differ. The measure is what is left of the left row.
 -- Assumes nothing.
 use Prim.Native.Nat.{_-_}
-use mathlib.Core.Path.{_≡_, sym, _∙_}
+use mathlib.Core.Path.{sym}
 use native.Mathlib.Omega.{arith}
 use borrow.Author.Needs.{needs}
 use lib.ListN.{length}
-use denote.Ref.{now}
 use Rattle.comparing.proofs.Differences.{Counted, counted-none, counted-more, counted-left, counted-right}
 use Rattle.comparing.proofs.differing.Statement.{statement}
 use Rattle.comparing.proofs.differing.Tie as tie

@@ -1,4 +1,3 @@
-use borrow.Author.Needs.{needs}
 -- `telling::magnitude` meets its contract: a negative number is turned in 64 bits, which hold its negative.
 -- Assumes nothing.
 use Prim.Native.Nat.{zero, suc, zero-le}
