@@ -11,3 +11,4 @@ pub mod Examples
 pub mod Incident
 pub mod Determined
 pub mod WrongBoards
+pub mod Readings
