@@ -47,19 +47,19 @@ use Rattle.demands.specs.Inputs.{chart, small, noneReplaced, afterSeven,
 use Rattle.demands.specs.Rows.{skip-sector, skip-block, format, spare-first, spare-replace, image-write, Holds, AllHold, done, _also_, zeros, firstOne, lastOne, rows}
 
 module _ {Answer Said : Type 0} {said : Answer → Said} {stated : Answer} {numbers : Said} (says : said stated ≡ numbers) where
-  -- a promise keeps to what holds of every answer that says its numbers
-  pub keeps-where : {Figures : Answer → Type 0} → ((answer : Answer) → Gives said stated numbers answer → Figures answer) → AllowsOnly (Gives said stated numbers) Figures
-  keeps-where every = record { some = stated; allowed = gives says refl; every = every }
+  -- a promise that is kept by the answer it states allows what holds of every answer that it allows, and nothing else
+  pub allows-where : {Figures : Answer → Type 0} → ((answer : Answer) → Gives said stated numbers answer → Figures answer) → AllowsOnly (Gives said stated numbers) Figures
+  allows-where every = record { some = stated; allowed = gives says refl; every = every }
 
-  -- so it keeps to the figures that its numbers are
-  pub keeps : {figures : Said} → numbers ≡ figures → AllowsOnly (Gives said stated numbers) (λ answer. said answer ≡ figures)
-  keeps same = keeps-where (λ answer given. given .says ∙ same)
+  -- so it allows the figures that its numbers are
+  pub allows : {figures : Said} → numbers ≡ figures → AllowsOnly (Gives said stated numbers) (λ answer. said answer ≡ figures)
+  allows same = allows-where (λ answer given. given .says ∙ same)
 
-  -- and, where it fills a room, to what holds of the room that it states
-  keeps-room :
+  -- and, where it fills a room, what holds of the room that it states
+  allows-room :
       {figures : Said} → numbers ≡ figures → {filled : List ℕ} (Held : List ℕ → Type 0) → Held filled →
       AllowsOnly (λ (answer : Answer × List ℕ). Fills said stated numbers filled (answer .0) (answer .1)) (λ answer. (said (answer .0) ≡ figures) × Held (answer .1))
-  keeps-room same {filled} Held held =
+  allows-room same {filled} Held held =
       record {
         some = (stated, filled);
         allowed = fills says refl refl;
@@ -69,15 +69,15 @@ module _ {Answer Said : Type 0} {said : Answer → Said} {stated : Answer} {numb
 -- a block that passes its checks lies where the walk ends
 block-walked : (n : ℕ) (list : List ℕ) (block : ℕ) {sector : ℕ} → blockFault n list block ≡ 0 → walked list block ≡ sector → Holds (skip-sector n list block (0, sector))
 block-walked n list block none ends =
-    keeps (placed-says (blockFault n list block) (place (isIn list) n block)) (rw (none, ← block-walk n list block none, ends))
+    allows (placed-says (blockFault n list block) (place (isIn list) n block)) (rw (none, ← block-walk n list block none, ends))
 
 -- a block that does not pass is refused
 block-refused : (n : ℕ) (list : List ℕ) (block : ℕ) {fault : ℕ} → blockFault n list block ≡ suc fault → Holds (skip-sector n list block (suc fault, 0))
-block-refused n list block some = keeps (placed-says (blockFault n list block) (place (isIn list) n block)) (rw some)
+block-refused n list block some = allows (placed-says (blockFault n list block) (place (isIn list) n block)) (rw some)
 
 -- no block lies on a sector of the list
 sector-listed : (n : ℕ) (list : List ℕ) (sector : ℕ) → sectorFault n list sector ≡ 0 → isIn list sector ≡ true → Holds (skip-block n list sector (0, 0, 0))
-sector-listed n list sector none listed = keeps (named-says (sectorFault n list sector) (isIn list sector) (goodsBefore (isIn list) sector)) (rw (none, listed))
+sector-listed n list sector none listed = allows (named-says (sectorFault n list sector) (isIn list sector) (goodsBefore (isIn list) sector)) (rw (none, listed))
 
 -- a Format that passes its checks, in rooms that are long enough
 plan-formatted :
@@ -104,7 +104,7 @@ module _ (shape : Shape) (r : ℕ) where
       firstTable (layoutOf shape r) list ≡ table → length table ≡ tableLength (layoutOf shape r) → Holds (spare-first shape r list table)
   table-built list {table} drive entries enough built long room fits =
       let none : startFault shape r list room ≡ 0 = spares-judge shape r list room drive entries (rw long at fits) ∙ enough in
-      keeps-room (written-says (startFault shape r list room) (tableLength (layoutOf shape r))) (rw (none, long))
+      allows-room (written-says (startFault shape r list room) (tableLength (layoutOf shape r))) (rw (none, long))
       (λ held. held ≡ written table room)
       (rw (none, built))
 
@@ -113,7 +113,7 @@ module _ (shape : Shape) (r : ℕ) where
       (table : List ℕ) (block : ℕ) {spare : ℕ} {after : List ℕ} → Spares.replaceFault shape r table block ≡ 0 →
       spareFor (layoutOf shape r) table block ≡ spare → tableAfter shape r table block ≡ after → Holds (spare-replace shape r table block spare after)
   spare-taken table block {spare} {after} none found stored =
-      keeps-room (replaced-says (Spares.replaceFault shape r table block) (spareFor (layoutOf shape r) table block)) (rw (none, found)) (λ held. held ≡ after) stored
+      allows-room (replaced-says (Spares.replaceFault shape r table block) (spareFor (layoutOf shape r) table block)) (rw (none, found)) (λ held. held ≡ after) stored
 
 -- an image of data of the right length, in a room that is long enough
 code-carried :
@@ -122,7 +122,7 @@ code-carried :
 unfolding writeFault
 code-carried forced bytes {code} long stored number room fits =
     let none : writeFault dataSize bytes room ≡ 0 = rw (length-passes dataSize bytes long, le-ltb (length room) (dataSize + imageExtra) fits) in
-    keeps-room (written-says (writeFault dataSize bytes room) (dataSize + imageExtra)) (rw none) (λ held. storedIn dataSize held ≡ code)
+    allows-room (written-says (writeFault dataSize bytes room) (dataSize + imageExtra)) (rw none) (λ held. storedIn dataSize held ≡ code)
     (rw none (stored number room))
 
 -- every row of the paper's table
@@ -142,11 +142,11 @@ numbers-to-try =
     also spare-taken small 2 noneReplaced 7 refl refl refl
     also spare-taken small 2 afterSeven 8 refl refl refl
     also spare-taken small 2 afterEight 6 refl refl refl
-    also keeps (shifted-says (Spares.blockFault small 2 afterSix 6) (Spares.shiftOf (layoutOf small 2) afterSix 6)) refl
-    also keeps (placed-says (Spares.blockFault small 2 afterSix 6) (liesOn (layoutOf small 2) afterSix 6)) refl
-    also keeps (lying-says (Spares.blockOnFault small 2 afterSix 9) (layoutOf small 2) afterSix 9) refl
-    also keeps (lying-says (Spares.blockOnFault small 2 afterSix 10) (layoutOf small 2) afterSix 10) refl
-    also keeps (counted-says (tableFault small 2 afterSix) (censusOf afterSix)) refl
+    also allows (shifted-says (Spares.blockFault small 2 afterSix 6) (Spares.shiftOf (layoutOf small 2) afterSix 6)) refl
+    also allows (placed-says (Spares.blockFault small 2 afterSix 6) (liesOn (layoutOf small 2) afterSix 6)) refl
+    also allows (lying-says (Spares.blockOnFault small 2 afterSix 9) (layoutOf small 2) afterSix 9) refl
+    also allows (lying-says (Spares.blockOnFault small 2 afterSix 10) (layoutOf small 2) afterSix 10) refl
+    also allows (counted-says (tableFault small 2 afterSix) (censusOf afterSix)) refl
     also code-carried false zeros refl (λ number room. refl)
     also code-carried false firstOne refl (λ number room. refl)
     also code-carried false lastOne refl (λ number room. refl)

@@ -13,7 +13,7 @@ use Rattle.paper.specs.Answers.{saidWritten}
 use Rattle.paper.specs.Limits.{dataSize, imageExtra}
 use Rattle.paper.specs.declared.Written.{Written}
 use Rattle.paper.proofs.Cases.{byFault}
-use Rattle.paper.proofs.Chain.{orElse-first, orElse-next, answer-refused, answer-accepted}
+use Rattle.paper.proofs.Chain.{orElse-first, orElse-next}
 use Rattle.words.specs.Words.{Bytes}
 use Rattle.seek.specs.Every.{allBelow}
 use Rattle.seek.specs.First.{firstBelow}
@@ -26,12 +26,12 @@ use Rattle.table.specs.Lookup.{placeOf, Replaced, isReplaced}
 use Rattle.table.proofs.Lookups.{tells-replaced, replaced-place}
 use Rattle.order.specs.Order.{outward}
 use Rattle.order.proofs.Signs.{minus-below}
-use Rattle.replacing.specs.Replacing.{spareFor, Altered}
+use Rattle.replacing.specs.Replacing.{Altered}
 use Rattle.spares.specs.declared.Replaced as Answers
-use Rattle.spares.specs.declared.Replaced.the-variants.{Place, Refused as NotReplaced}
+use Rattle.spares.specs.declared.Replaced.the-variants.{Place}
 use Rattle.spares.specs.Spares.{shiftOf, blockFault, replaceFault}
 use Rattle.spares.specs.Promises.{Replacement, replaced}
-use Rattle.spares.proofs.Accepted.{replace-block, replace-alters, after-passes}
+use Rattle.spares.proofs.Accepted.{replace-block, after-passes}
 use Rattle.spares.proofs.Exact.{block-ready}
 use Rattle.spares.proofs.Says.{shifted-says}
 use Rattle.spares.proofs.Shifts.{shift-replaced, shift-leads}
@@ -52,13 +52,14 @@ use Rattle.reading.proofs.Written.{good-read, good-part}
 use Rattle.demands.specs.Mission.{AllowsOnly}
 use Rattle.demands.specs.Inputs.{small, afterEight}
 use Rattle.demands.specs.Incident.{spareStart, spareData, imageFrom, WholeTrack, SamePart, HandsBack, Safe}
-use Rattle.demands.proofs.Examples.{keeps, keeps-where}
+use Rattle.demands.proofs.Demand2Revectored.{replacement-alters}
+use Rattle.demands.proofs.Examples.{allows, allows-where}
 
--- a promise that hands a part back keeps to what holds of every such part
-keeps-part :
+-- a promise that hands a part back allows what holds of every such part, and nothing else
+allows-part :
     {bytes : RefT (List ℕ)} {at : ℕ} {held : List ℕ} {Figures : RefT (List ℕ) → Type 0} →
     ((part : RefT (List ℕ)) → Lends bytes at held part → Figures part) → AllowsOnly (Lends bytes at held) Figures
-keeps-part {bytes} {at} {held} every =
+allows-part {bytes} {at} {held} every =
     record {
       some = record { ptr = (bytes .ptr .0, at + bytes .ptr .1); name = bytes .name; now = held };
       allowed = record { holds = refl; lies = refl };
@@ -162,20 +163,20 @@ module _ (shape : Shape) (r : ℕ) (t : List ℕ) (b q : ℕ) (passed : blockFau
   pub named-safe : Safe shape r t b q (pos (spareCylinder (layoutOf shape r) q) -ℤ pos (homeCylinder (layoutOf shape r) b))
   named-safe =
       record {
-        answers = keeps (shifted-says (blockFault shape r t b) (shiftOf (layoutOf shape r) t b)) (rw (passed, its-shift));
+        answers = allows (shifted-says (blockFault shape r t b) (shiftOf (layoutOf shape r) t b)) (rw (passed, its-shift));
         leads = rw its-shift at shift-goes;
         spots = λ home spare.
-            keeps-where (spot-says (readFault dataSize shape r t b home spare) (isReplaced t b) (dataStart dataSize (layoutOf shape r) t b))
+            allows-where (spot-says (readFault dataSize shape r t b home spare) (isReplaced t b) (dataStart dataSize (layoutOf shape r) t b))
             (λ answer given-spot none.
             let passes : readFault dataSize shape r t b home spare ≡ 0 = sym (ap (λ (numbers : ℕ × ℕ × ℕ). numbers .0) (given-spot .says)) ∙ none in
             given-spot .says ∙ rw (passes, is-replaced, its-sector));
-        lends = λ home spare. keeps-part (part-filled home spare);
+        lends = λ home spare. allows-part (part-filled home spare);
         same-part = part-unread;
         same-verdict = verdict-unread;
         gives-back = λ home spare bytes whole whole′ long h stands.
             record {
-              accepted = keeps (verdict-says (readFault dataSize shape r t b (home .now) (spare .now))) (read-passes home spare bytes whole whole′ long h stands);
-              bytes-lent = keeps-part (data-lent home spare bytes whole whole′ long h stands);
+              accepted = allows (verdict-says (readFault dataSize shape r t b (home .now) (spare .now))) (read-passes home spare bytes whole whole′ long h stands);
+              bytes-lent = allows-part (data-lent home spare bytes whole whole′ long h stands);
             };
       }
 
@@ -187,23 +188,10 @@ one-less a (suc c) one = let none : suc c - suc a ≡ 0 = omega arith in minus-b
 -- an accepted replacement, and the table that it leaves
 module _ (shape : Shape) (r : ℕ) (t : List ℕ) (b q : ℕ) (after : List ℕ) (replacement : Replacement shape r t b (Place q) after) where
   passes : replaceFault shape r t b ≡ 0
-  passes =
-      byFault (replaceFault shape r t b)
-      (λ none. none)
-      (λ some.
-      let clash : Place q ≡ NotReplaced (replaceFault shape r t b) =
-      replacement .answers ∙ answer-refused (replaceFault shape r t b) NotReplaced (Place (spareFor (layoutOf shape r) t b)) some in
-      let z : _≡_ {A = ℕ} 0 1 = cc in
-      absurd (omega arith))
-
-  is-spare : spareFor (layoutOf shape r) t b ≡ q
-  is-spare =
-      let same : Place q ≡ Place (spareFor (layoutOf shape r) t b) =
-      replacement .answers ∙ answer-accepted (replaceFault shape r t b) NotReplaced (Place (spareFor (layoutOf shape r) t b)) passes in
-      cc
+  passes = sym (ap (λ (numbers : ℕ × ℕ). numbers .0) (replacement .says))
 
   altered : Altered (layoutOf shape r) t b q after
-  altered = rw (← is-spare, replacement .holds) (replace-alters shape r t b passes)
+  altered = replacement-alters shape r t b q after replacement
 
   block-passes : blockFault shape r after b ≡ 0
   block-passes =
@@ -242,13 +230,6 @@ module _
         let fits : writeFault dataSize bytes room ≡ 0 = sym (ap (λ (numbers : ℕ × ℕ). numbers .0) (writes .says)) ∙ none in
         safe .gives-back home spare bytes whole whole′ (write-shows dataSize bytes room fits .0) h
         (stands ∙ rw (writes .holds) (room-image dataSize b bytes false room fits))
-
-    -- also where a good image of the block with older data still stands at its home
-    pub stale-home :
-        (old : List ℕ) → imageFrom (bytesIn dataSize (b % layoutOf shape r .home)) (home .now) ≡ imageOf b old false →
-        length bytes ≡ dataSize → imageFrom (spareStart shape r q) (spare .now) ≡ imageOf b bytes false →
-        HandsBack shape r t b q home spare bytes
-    stale-home old stale long stands = safe .gives-back home spare bytes whole whole′ long h stands
 
 -- the paper's own numbers: C 2, H 2, S 5, r 2, and block 6 goes to place 3, from cylinder 1 to cylinder 0
 module _ (answer : Answers.Replaced) (after : List ℕ) (replacement : Replacement small 2 afterEight 6 answer after) where

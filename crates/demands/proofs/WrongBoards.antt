@@ -1,13 +1,13 @@
 -- Each wrong board breaks, at a named input, the demand that the paper sets against it.
 -- Assumes nothing.
-use Prim.Native.Nat.{ℕ, zero, suc, _+_, _<_, _≤_}
+use Prim.Native.Nat.{ℕ, zero, suc, _+_, _<_}
 use mathlib.Core.Path.{_≡_, refl, sym, _∙_, ap}
 use mathlib.Core.Bool.{Bool, true, false, true≢false}
 use mathlib.Core.Logic.{inr, ⊎-elim}
 use mathlib.Core.List.{List, [], _∷_}
 use native.Mathlib.Omega.{arith}
 use lib.IntN.{pos}
-use lib.ListN.{length, take, drop, getD, replicate, length-replicate, getD-replicate, List·getD-eq-default}
+use lib.ListN.{length, take, drop, getD, replicate, length-replicate}
 use lib.Seq.{length-sets}
 use denote.Ref.{RefT}
 use Rattle.paper.specs.Limits.{dataSize, imageExtra}
@@ -15,12 +15,11 @@ use Rattle.paper.specs.Exactly.{Exactly}
 use Rattle.paper.specs.Answers.{saidPlaced}
 use Rattle.paper.specs.Refusals.{outside, noSpare, forcedError, badCode}
 use Rattle.paper.specs.declared.Placed.the-variants.{At}
-use Rattle.paper.proofs.Cases.{byLt}
 use Rattle.seek.specs.Count.{countBelow}
 use Rattle.seek.specs.Every.{allBelow}
 use Rattle.seek.specs.First.{firstBelow, firstFault}
 use Rattle.seek.specs.Search.{firstOr, rising}
-use Rattle.words.specs.Words.{Bytes, bytes32, bytesOf, word16At, word32At, entriesAt}
+use Rattle.words.specs.Words.{bytes32, bytesOf, word16At, word32At, entriesAt}
 use Rattle.words.proofs.Stores.{part-sets}
 use Rattle.lists.specs.Union.{isIn, into, union}
 use Rattle.skip.specs.Skipping.{Lies, goodsBefore, place}
@@ -55,7 +54,7 @@ use Rattle.image.specs.Image.{headerSize, times, alike, copies, headerOf, store
 use Rattle.image.specs.Judged.{ImageJudged}
 use Rattle.image.specs.declared.Verdict.the-variants.{Refused as NotGood}
 use Rattle.image.proofs.Exact.{judge-exactly}
-use Rattle.image.proofs.Images.{length-image, written-data, written-good}
+use Rattle.image.proofs.Images.{replicate-below, length-image, written-data, written-good}
 use Rattle.reading.specs.Tracks.{Seated, on-spare, bytesIn, imageAt, sectorIn, headerFor}
 use Rattle.reading.specs.Faults.{lentFault}
 use Rattle.reading.specs.Promises.{AtSpot, in-spare, spotted}
@@ -299,15 +298,6 @@ older-long = length-replicate {A = ℕ} 512 0
 newer-long : length newer ≡ dataSize
 newer-long = length-replicate {A = ℕ} 512 1
 
--- data of one byte throughout
-alike-bytes : (n : ℕ) → n < 256 → Bytes (replicate 512 n)
-alike-bytes n fits k =
-    byLt k 512
-    (λ less. rw (getD-replicate 512 k n 0 less) fits)
-    (λ past.
-    let beyond : length (replicate 512 n) ≤ k = omega (arith, length-replicate 512 n) in
-    rw (List·getD-eq-default (replicate 512 n) 0 beyond) (omega arith))
-
 -- block 6 lies on sector 4 of the second track
 six-on-spare : {Track : Type 0} (home spare : Track) → Seated (layoutOf small 2) afterSix 6 home spare spare 4
 six-on-spare home spare = on-spare 3 (omega arith) (inr refl, refl)
@@ -328,7 +318,7 @@ module _ (home spare : RefT (List ℕ)) (home-is : home .now ≡ trackWith 0 old
   spare-holds = rw spare-is (track-holds 4 newer (omega arith) newer-long)
 
   home-good : sectorFault dataSize (homeImage small 2 6 (home .now)) 6 ≡ 0
-  home-good = rw home-holds (rw older-long at (written-good 6 older (omega arith) (alike-bytes 0 (omega arith))))
+  home-good = rw home-holds (rw older-long at (written-good 6 older (omega arith) (replicate-below 512 0 (omega arith) (omega arith))))
 
   home-handed : readsHome small 2 afterSix 6 home spare .now ≡ older
   home-handed = rw (lent-passes, home-good, home-holds) (rw older-long at (written-data 6 older false))
@@ -336,7 +326,7 @@ module _ (home spare : RefT (List ℕ)) (home-is : home .now ≡ trackWith 0 old
   spare-spot : spotted dataSize small 2 afterSix 6 (home .now) (spare .now) ≡ InSpare (bytesIn dataSize 4 + headerSize)
   unfolding headerFor placeOf firstBelow sectorIn
   spare-spot =
-      rw (good-read dataSize small 2 afterSix 6 newer newer-long (alike-bytes 1 (omega arith)) lent-passes (six-on-spare (home .now) (spare .now)) spare-holds)
+      rw (good-read dataSize small 2 afterSix 6 newer newer-long (replicate-below 512 1 (omega arith) (omega arith)) lent-passes (six-on-spare (home .now) (spare .now)) spare-holds)
 
   spare-data : take dataSize (drop (bytesIn dataSize 4 + headerSize) (spare .now)) ≡ newer
   spare-data =

@@ -21,10 +21,10 @@ use Rattle.skip.specs.Skipping.{goodsBefore, place, after}
 use Rattle.skip.specs.Walk.{entriesBelow}
 use Rattle.skip.specs.Translation.{blocks, blockFault}
 use Rattle.skip.specs.Cursors.{cursorAt, stepFault}
-use Rattle.skip.specs.Promises.{saidJob}
+use Rattle.skip.specs.Promises.{saidJob, handedBack}
 use Rattle.skip.specs.declared.Cursor.{Cursor}
 use Rattle.skip.specs.declared.Job.{Job}
-use Rattle.skip.specs.declared.Job.the-variants.{Ready, At as SteppedTo, Refused as NotStepped}
+use Rattle.skip.specs.declared.Job.the-variants.{At as SteppedTo, Refused as NotStepped}
 use Rattle.page.specs.Layout.{kindOf, unitsOf, entriesOf}
 use Rattle.page.specs.Pages.{readFault}
 use Rattle.page.specs.Promises.{paged}
@@ -128,20 +128,14 @@ runsAhead n a c =
     answer (stepFault n a c) (λ fault. NotStepped fault c)
     (SteppedTo (place (isIn a) n (c .block)) (cursorAt n a (pick (eqb (c .block) 0) 2 (c .block))))
 
--- the cursor that a step hands back
-abbrev pub nextOf : Job → Cursor
-nextOf (Ready next) = next
-nextOf (SteppedTo sector next) = next
-nextOf (NotStepped fault next) = next
-
 -- the cursor after so many steps, and the sectors that they answer
 unfoldable pub cursorAfter : (Cursor → Job) → ℕ → Cursor → Cursor
 cursorAfter step zero c = c
-cursorAfter step (suc steps) c = cursorAfter step steps (nextOf (step c))
+cursorAfter step (suc steps) c = cursorAfter step steps (handedBack (step c))
 
 unfoldable pub sectorsAfter : (Cursor → Job) → ℕ → Cursor → List ℕ
 sectorsAfter step zero c = []
-sectorsAfter step (suc steps) c = saidJob (step c) .1 ∷ sectorsAfter step steps (nextOf (step c))
+sectorsAfter step (suc steps) c = saidJob (step c) .1 ∷ sectorsAfter step steps (handedBack (step c))
 
 -- page::read: any number of entries
 abbrev pub madeUpEntries : ℕ → List ℕ → List ℕ → Paged × List ℕ

@@ -67,7 +67,7 @@ pub record Safe (shape : Shape) (r : ℕ) (t : List ℕ) (b q : ℕ) (shift : �
   pub same-verdict :
       (home other spare : List ℕ) (verdict again : Verdict) → length home ≡ length other →
       Judge shape r t b home spare verdict → Judge shape r t b other spare again → verdict ≡ again
-  -- where a good image of the block stands on the spare, exactly its data comes back
+  -- where a good image of the block stands on the spare, exactly its data comes back, also where the home still has a good image with older data
   pub gives-back :
       (home spare : RefT (List ℕ)) (bytes : List ℕ) → WholeTrack shape (home .now) → WholeTrack shape (spare .now) →
       length bytes ≡ dataSize → Bytes bytes → imageFrom (spareStart shape r q) (spare .now) ≡ imageOf b bytes false →

@@ -1,5 +1,5 @@
 -- Document 01, "Format": the eight rows as one table, read by option number.
-use Prim.Native.Nat.{ℕ, _+_, _*_}
+use Prim.Native.Nat.{ℕ, _+_}
 use mathlib.Core.Bool.{Bool}
 use mathlib.Core.List.{List, [], _∷_}
 use lib.ListN.{getD}
@@ -32,9 +32,6 @@ replace = 3
 abbrev pub asBefore : ℕ
 asBefore = 4
 
-abbrev pub bit : Bool → ℕ
-bit set = pick set 1 0
-
 -- the highest option and the highest space
 abbrev pub optionMost : ℕ
 optionMost = 7
@@ -42,9 +39,9 @@ optionMost = 7
 abbrev pub spaceMost : ℕ
 spaceMost = 3
 
--- option number = 4 × CMPLST + 2 × DPRY + DFCT
+-- the option number of its three bits: CMPLST counts 4, DPRY 2 and DFCT 1
 abbrev pub optionOf : Bool → Bool → Bool → ℕ
-optionOf cmplst dpry dfct = 4 * bit cmplst + 2 * bit dpry + bit dfct
+optionOf cmplst dpry dfct = pick cmplst 4 0 + pick dpry 2 0 + pick dfct 1 0
 
 -- option by option: what the list is in, the new grown list, the new space
 abbrev pub rows : List (List ℕ)

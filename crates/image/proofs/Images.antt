@@ -23,7 +23,7 @@ use Rattle.image.proofs.Coding.{codeOf-below}
 use Rattle.image.proofs.Copies.{times-all, stands-header}
 use Rattle.image.proofs.Exact.{sector-exactly}
 
-replicate-below : {bound : ℕ} (count n : ℕ) → 0 < bound → n < bound → Below bound (replicate count n)
+pub replicate-below : {bound : ℕ} (count n : ℕ) → 0 < bound → n < bound → Below bound (replicate count n)
 replicate-below zero n some h k = some
 replicate-below (suc count) n some h zero = h
 replicate-below (suc count) n some h (suc k) = replicate-below count n some h k

@@ -20,6 +20,12 @@ saidJob (Ready next) = (0, 0, next .block, next .skipped)
 saidJob (At sector next) = (0, sector, next .block, next .skipped)
 saidJob (Refused fault next) = (fault, 0, next .block, next .skipped)
 
+-- the cursor that a job hands back, however it stands
+abbrev pub handedBack : Job → Cursor
+handedBack (Ready next) = next
+handedBack (At sector next) = next
+handedBack (Refused fault next) = next
+
 abbrev pub SectorOf : ℕ → List ℕ → ℕ → Placed → Type 0
 SectorOf n a b = Gives saidPlaced (translated n a b) (blockFault n a b, given (blockFault n a b) (place (isIn a) n b))
 

@@ -1,7 +1,7 @@
 // Calls of skipping, a line each: what is asked and what is answered.
 ghost use mathlib.Core.Path.{_≡_};
 ghost use Rattle.skip.specs.Cursors.{started, stepped};
-ghost use Rattle.telling.specs.Jobs.{handedBack};
+ghost use Rattle.skip.specs.Promises.{handedBack};
 use crate::answers;
 use crate::count_line;
 use crate::number;

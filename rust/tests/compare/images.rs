@@ -42,23 +42,45 @@ fn image_header() {
     tally.saw(&[0, 14, 15]);
 }
 
-#[test]
-fn image_judge_and_data() {
-    let mut tally = Tally::of("image::judge");
-    let mut parts = Tally::of("image::data");
-    for seed in tally.seeds(SEEDS) {
-        let mut draw = Draw::of(seed);
-        let block = draw.any_block();
-        let mut image = draw.any_image(block);
-        draw.any_length(&mut image, 10);
-        let asked = if draw.one_in(8) { draw.any_block() } else { block };
-        let library = image::judge(&image, asked);
-        tally.same(seed, library, model::image::judge(&image, asked));
-        let part = image::data(&image, asked);
-        parts.same(seed, part, model::image::data(&image, asked));
+/// Holds a verdict on an image to the model, over so many seeds.
+pub fn judges_like_the_model(
+    call: &'static str,
+    seeds: u64,
+    judge: impl Fn(&[u8], u32) -> Result<(), u32>,
+) {
+    let mut tally = Tally::of(call);
+    for seed in tally.seeds(seeds) {
+        let (image, asked) = image_and_number(seed);
+        tally.same_numbers(seed, judge(&image, asked), model::image::judge(&image, asked));
     }
     tally.saw(&[0, 14, 15, 16, 17, 18]);
-    parts.saw(&[0, 14, 15, 16, 17, 18]);
+}
+
+/// An image of any damage, and the number that it is asked for.
+fn image_and_number(seed: u64) -> (Vec<u8>, u32) {
+    let mut draw = Draw::of(seed);
+    let block = draw.any_block();
+    let mut image = draw.any_image(block);
+    draw.any_length(&mut image, 10);
+    let asked = if draw.one_in(8) { draw.any_block() } else { block };
+    (image, asked)
+}
+
+#[test]
+fn image_judge() {
+    judges_like_the_model("image::judge", SEEDS, |image, asked| {
+        image::judge(image, asked).map_err(Refusal::number)
+    });
+}
+
+#[test]
+fn image_data() {
+    let mut tally = Tally::of("image::data");
+    for seed in tally.seeds(SEEDS) {
+        let (image, asked) = image_and_number(seed);
+        tally.same(seed, image::data(&image, asked), model::image::data(&image, asked));
+    }
+    tally.saw(&[0, 14, 15, 16, 17, 18]);
 }
 
 /// A written image is good or forced as it was written, and one changed bit makes it neither.

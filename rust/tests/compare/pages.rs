@@ -1,6 +1,6 @@
 //! Pages against the model.
 
-use tautberry::page;
+use tautberry::{page, Refusal};
 
 use crate::draw::Draw;
 use crate::model;
@@ -8,28 +8,36 @@ use crate::tally::Tally;
 
 const SEEDS: u64 = 30_000;
 
-#[test]
-fn page_read() {
-    let mut tally = Tally::of("page::read");
-    for seed in tally.seeds(SEEDS) {
+/// Holds a reader of pages to the model, over so many seeds.
+pub fn reads_like_the_model(
+    call: &'static str,
+    seeds: u64,
+    read: impl Fn(&[u8], &mut [u32]) -> Result<(u32, u32, u32), u32>,
+) {
+    let mut tally = Tally::of(call);
+    for seed in tally.seeds(seeds) {
         let mut draw = Draw::of(seed);
         let page = draw.any_page();
         let length = draw.room_length(page.len().saturating_sub(14) / 4);
         let before = draw.word_room(length);
         let (mut ours, mut theirs) = (before.clone(), before.clone());
-        let library = page::read(&page, ours.lent()).map(|read| (read.kind, read.n, read.entries));
+        let answer = read(&page, ours.lent());
         let model = model::page::read(&page, theirs.lent());
         let written = model.map_or(0, |(_, _, entries)| entries as usize);
-        tally.same(seed, library, model);
+        tally.same_numbers(seed, answer, model);
         tally.same_room(seed, &before, &ours, &theirs, written);
     }
     tally.saw(&[0, 3, 4, 7, 8]);
 }
 
-#[test]
-fn page_write() {
-    let mut tally = Tally::of("page::write");
-    for seed in tally.seeds(SEEDS) {
+/// Holds a writer of pages to the model, over so many seeds.
+pub fn writes_like_the_model(
+    call: &'static str,
+    seeds: u64,
+    write: impl Fn(u32, u32, &[u32], &mut [u8]) -> Result<u32, u32>,
+) {
+    let mut tally = Tally::of(call);
+    for seed in tally.seeds(seeds) {
         let mut draw = Draw::of(seed);
         let (n, list) = draw.space();
         let kind =
@@ -37,13 +45,28 @@ fn page_write() {
         let length = draw.room_length(14 + 4 * list.len());
         let before = draw.byte_room(length);
         let (mut ours, mut theirs) = (before.clone(), before.clone());
-        let library = page::write(n, kind, &list, ours.lent());
+        let answer = write(n, kind, &list, ours.lent());
         let model = model::page::write(n, kind, &list, theirs.lent());
         let written = model.unwrap_or(0) as usize;
-        tally.same(seed, library, model);
+        tally.same_numbers(seed, answer, model);
         tally.same_room(seed, &before, &ours, &theirs, written);
     }
     tally.saw(&[0, 1, 2, 3, 4, 7, 8]);
+}
+
+#[test]
+fn page_read() {
+    reads_like_the_model("page::read", SEEDS, |bytes, room| {
+        let read = page::read(bytes, room).map_err(Refusal::number)?;
+        Ok((read.kind, read.n, read.entries))
+    });
+}
+
+#[test]
+fn page_write() {
+    writes_like_the_model("page::write", SEEDS, |n, kind, list, room| {
+        page::write(n, kind, list, room).map_err(Refusal::number)
+    });
 }
 
 /// What is written reads back, and what was read is written as the same bytes.

@@ -2,7 +2,7 @@
 -- Assumes nothing.
 use mathlib.Core.Path.{_∙_, ap}
 use borrow.Author.Needs.{needs}
-use Rattle.telling.specs.Jobs.{handedBack}
+use Rattle.skip.specs.Promises.{handedBack}
 use Rattle.telling.proofs.asking.start.Statement.{statement}
 use Rattle.telling.proofs.asking.start.Tie as tie
 
