@@ -9,29 +9,30 @@ use Rattle.paper.specs.Checks.{answer}
 use Rattle.paper.specs.Limits.{dataSize, imageExtra}
 use Rattle.paper.specs.Answers.{saidNamed}
 use Rattle.paper.specs.declared.Named.{Named}
-use Rattle.lists.specs.Union.{isIn, written}
+use Rattle.lists.specs.Union.{isIn}
+use Rattle.paper.specs.Promise.{written}
 use Rattle.shape.specs.declared.Shape.{Shape}
 use Rattle.shape.specs.declared.Address.{Address}
 use Rattle.shape.specs.Shapes.{sizeOf}
-use Rattle.shape.specs.Addresses.{sectorAt, addressAt, addressFault, sectorFault as shapeSectorFault}
+use Rattle.shape.specs.Addresses.{sectorAt, addressAt, sectorOfFault, addressOfFault as shapeSectorFault}
 use Rattle.skip.specs.declared.Cursor.{Cursor}
 use Rattle.skip.specs.Skipping.{place}
-use Rattle.skip.specs.Translation.{blockFault, sectorFault, blockOn}
-use Rattle.skip.specs.Cursors.{cursorAt, noCursor, cursorFault, stepFault}
-use Rattle.skipped.specs.Drive.{blockFault as skippedBlockFault, placeFault}
+use Rattle.skip.specs.Translation.{sectorOfFault, blockOnFault, blockOn}
+use Rattle.skip.specs.Cursors.{cursorAt, noCursor, checkFault, stepFault}
+use Rattle.skipped.specs.Drive.{addressOfFault as skippedBlockFault, blockAtFault}
 use Rattle.page.specs.Layout.{kindOf, unitsOf, entriesOf}
 use Rattle.page.specs.Pages.{readFault as pageFault, writeFault as pageWriteFault, pageLength, pageBytes}
 use Rattle.format.specs.Spaces.{formatFault, newGrown, newList, newSpace}
-use Rattle.layout.specs.Layouts.{layoutOf}
+use Rattle.layout.specs.Layouts.{driveOf}
 use Rattle.table.specs.Rules.{tableFault, tableLength}
 use Rattle.table.specs.Lookup.{liesOn, lyingOn}
 use Rattle.replacing.specs.Replacing.{spareFor, replacedIn}
 use Rattle.replacing.specs.Counting.{censusOf}
-use Rattle.first.specs.First.{firstTable, firstFault}
+use Rattle.first.specs.First.{firstTable, firstTableFault}
 use Rattle.spares.specs.Spares.{shiftOf, blockFault as spareBlockFault, blockOnFault, blockAtFault, replaceFault}
 use Rattle.image.specs.Image.{headerOf, imageIn, headerFault, imageFault, writeFault}
 use Rattle.reading.specs.Tracks.{trackOf, dataStart}
-use Rattle.reading.specs.Faults.{readFault}
+use Rattle.reading.specs.Faults.{blockReadFault}
 use Rattle.board.specs.declared.answers.TbPlaced.{TbPlaced}
 use Rattle.board.specs.declared.answers.TbNamed.{TbNamed}
 use Rattle.board.specs.declared.answers.TbWritten.{TbWritten}
@@ -61,22 +62,22 @@ foundAs named = (saidNamed named .1, saidNamed named .2)
 
 -- the sector that a block lies on
 abbrev pub SkipSector : ℕ → List ℕ → ℕ → TbPlaced → Type 0
-SkipSector n list block r = Leaves (blockFault n list block) 0 (place (isIn list) n block) (r .refusal) (r .sector)
+SkipSector n list block r = Leaves (sectorOfFault n list block) 0 (place (isIn list) n block) (r .refusal) (r .sector)
 
 -- the block that lies on a sector, or none
 abbrev pub SkipBlock : ℕ → List ℕ → ℕ → TbNamed → Type 0
 SkipBlock n list sector r =
-    Leaves {Rest = ℕ × ℕ} (sectorFault n list sector) (0, 0) (foundAs (blockOn list sector)) (r .refusal) (r .found, r .block)
+    Leaves {Rest = ℕ × ℕ} (blockOnFault n list sector) (0, 0) (foundAs (blockOn list sector)) (r .refusal) (r .found, r .block)
 
 -- a job that opens at a block: the cursor whose next block it is
 abbrev pub JobStart : ℕ → List ℕ → ℕ → TbJob → Type 0
 JobStart n list block r =
-    Leaves {Rest = ℕ × Cursor} (blockFault n list block) (0, noCursor) (0, cursorAt n list block) (r .refusal) (r .sector, r .next)
+    Leaves {Rest = ℕ × Cursor} (sectorOfFault n list block) (0, noCursor) (0, cursorAt n list block) (r .refusal) (r .sector, r .next)
 
 -- a cursor of this list, handed back as it is
 abbrev pub JobCheck : Cursor → ℕ → List ℕ → TbJob → Type 0
 JobCheck cursor n list r =
-    Leaves {Rest = ℕ × Cursor} (cursorFault n list cursor) (0, noCursor) (0, cursor) (r .refusal) (r .sector, r .next)
+    Leaves {Rest = ℕ × Cursor} (checkFault n list cursor) (0, noCursor) (0, cursor) (r .refusal) (r .sector, r .next)
 
 -- the sector of the cursor's block and the cursor for the block after it; refused, the cursor as it went in
 abbrev pub JobStep : Cursor → ℕ → List ℕ → TbJob → Type 0
@@ -88,7 +89,7 @@ JobStep cursor n list r =
 -- the sector number of cylinder, head and sector
 abbrev pub ShapeSector : Shape → ℕ → ℕ → ℕ → TbPlaced → Type 0
 ShapeSector shape cylinder head sector r =
-    Leaves (addressFault shape cylinder head sector) 0 (sectorAt shape cylinder head sector) (r .refusal) (r .sector)
+    Leaves (sectorOfFault shape cylinder head sector) 0 (sectorAt shape cylinder head sector) (r .refusal) (r .sector)
 
 -- cylinder, head and sector of a sector number
 abbrev pub ShapeAddress : Shape → ℕ → TbLocated → Type 0
@@ -102,7 +103,7 @@ SkippedAddress shape list block r =
 -- the block that lies at an address of a skipped drive, or none
 abbrev pub SkippedBlock : Shape → List ℕ → ℕ → ℕ → ℕ → TbNamed → Type 0
 SkippedBlock shape list cylinder head sector r =
-    Leaves {Rest = ℕ × ℕ} (placeFault shape list cylinder head sector) (0, 0)
+    Leaves {Rest = ℕ × ℕ} (blockAtFault shape list cylinder head sector) (0, 0)
     (foundAs (blockOn list (sectorAt shape cylinder head sector)))
     (r .refusal) (r .found, r .block)
 
@@ -130,35 +131,35 @@ Format n p g space option d grown list r grownAfter listAfter =
 -- the sector that a block of a revectored drive lies on
 abbrev pub SpareSector : Shape → ℕ → List ℕ → ℕ → TbPlaced → Type 0
 SpareSector shape r table block p =
-    Leaves (spareBlockFault shape r table block) 0 (liesOn (layoutOf shape r) table block) (p .refusal) (p .sector)
+    Leaves (spareBlockFault shape r table block) 0 (liesOn (driveOf shape r) table block) (p .refusal) (p .sector)
 
 -- the address that it lies at
 abbrev pub SpareAddress : Shape → ℕ → List ℕ → ℕ → TbLocated → Type 0
 SpareAddress shape r table block p =
-    Leaves (spareBlockFault shape r table block) nowhere (addressAt shape (liesOn (layoutOf shape r) table block)) (p .refusal) (p .address)
+    Leaves (spareBlockFault shape r table block) nowhere (addressAt shape (liesOn (driveOf shape r) table block)) (p .refusal) (p .address)
 
 -- the signed number of cylinders from its home to its spare
 abbrev pub SpareShift : Shape → ℕ → List ℕ → ℕ → TbShifted → Type 0
 SpareShift shape r table block p =
-    Leaves (spareBlockFault shape r table block) (pos 0) (shiftOf (layoutOf shape r) table block) (p .refusal) (p .shift)
+    Leaves (spareBlockFault shape r table block) (pos 0) (shiftOf (driveOf shape r) table block) (p .refusal) (p .shift)
 
 -- the block that lies on a sector of a revectored drive, or none
 abbrev pub SpareBlock : Shape → ℕ → List ℕ → ℕ → TbNamed → Type 0
 SpareBlock shape r table sector p =
-    Leaves {Rest = ℕ × ℕ} (blockOnFault shape r table sector) (0, 0) (foundAs (lyingOn (layoutOf shape r) table sector)) (p .refusal) (p .found, p .block)
+    Leaves {Rest = ℕ × ℕ} (blockOnFault shape r table sector) (0, 0) (foundAs (lyingOn (driveOf shape r) table sector)) (p .refusal) (p .found, p .block)
 
 -- the block that lies at an address of it, or none
 abbrev pub SpareBlockAt : Shape → ℕ → List ℕ → ℕ → ℕ → ℕ → TbNamed → Type 0
 SpareBlockAt shape r table cylinder head sector p =
     Leaves {Rest = ℕ × ℕ} (blockAtFault shape r table cylinder head sector) (0, 0)
-    (foundAs (lyingOn (layoutOf shape r) table (sectorAt shape cylinder head sector)))
+    (foundAs (lyingOn (driveOf shape r) table (sectorAt shape cylinder head sector)))
     (p .refusal) (p .found, p .block)
 
 -- the place that a replacement takes, and the table with the block's descriptor there
 abbrev pub SpareReplace : Shape → ℕ → List ℕ → ℕ → TbReplaced → List ℕ → Type 0
 SpareReplace shape r table block p after =
     Leaves {Rest = ℕ × List ℕ} (replaceFault shape r table block) (0, table)
-    (spareFor (layoutOf shape r) table block, replacedIn (layoutOf shape r) table block)
+    (spareFor (driveOf shape r) table block, replacedIn (driveOf shape r) table block)
     (p .refusal) (p .place, after)
 
 -- how many places of a table have each code
@@ -171,8 +172,8 @@ SpareCensus shape r table p =
 -- the length of a first table, and the room with the table in its first places
 abbrev pub SpareFirst : Shape → ℕ → List ℕ → List ℕ → TbWritten → List ℕ → Type 0
 SpareFirst shape r list room w after =
-    Leaves {Rest = ℕ × List ℕ} (firstFault shape r list room) (0, room)
-    (tableLength (layoutOf shape r), written (firstTable (layoutOf shape r) list) room)
+    Leaves {Rest = ℕ × List ℕ} (firstTableFault shape r list room) (0, room)
+    (tableLength (driveOf shape r), written (firstTable (driveOf shape r) list) room)
     (w .refusal) (w .length, after)
 
 -- the length of an image, and the room with the image in its first places
@@ -192,11 +193,11 @@ ImageJudge image block r = r .refusal ≡ imageFault dataSize image block
 
 -- the verdict on a block of a revectored drive, from two track images
 abbrev pub ReadJudge : Shape → ℕ → List ℕ → ℕ → List ℕ → List ℕ → TbJudged → Type 0
-ReadJudge shape r table block home spare v = v .refusal ≡ readFault dataSize shape r table block home spare
+ReadJudge shape r table block home spare v = v .refusal ≡ blockReadFault dataSize shape r table block home spare
 
 -- where its data begins: in image 0, that of the home track, or in image 1, the second one, and how far inside it
 abbrev pub ReadData : Shape → ℕ → List ℕ → ℕ → List ℕ → List ℕ → TbSpotted → Type 0
 ReadData shape r table block home spare s =
-    Leaves {Rest = ℕ × ℕ} (readFault dataSize shape r table block home spare) (0, 0)
-    (trackOf table block 0 1, dataStart dataSize (layoutOf shape r) table block)
+    Leaves {Rest = ℕ × ℕ} (blockReadFault dataSize shape r table block home spare) (0, 0)
+    (trackOf table block 0 1, dataStart dataSize (driveOf shape r) table block)
     (s .refusal) (s .image, s .offset)

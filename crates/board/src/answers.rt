@@ -126,8 +126,8 @@ pub struct TbSpotted {
 }
 
 pub fn placed(answer: Placed) -> TbPlaced
-    ensures { λ r. ⌜ r .refusal ≡ saidPlaced answer .0 ⌝ }
-    ensures { λ r. ⌜ r .sector ≡ saidPlaced answer .1 ⌝ }
+    ensures { λ result. ⌜ result .refusal ≡ saidPlaced answer .0 ⌝ }
+    ensures { λ result. ⌜ result .sector ≡ saidPlaced answer .1 ⌝ }
 {
     match answer {
         Placed::At(sector) => TbPlaced { refusal: 0, sector },
@@ -136,9 +136,9 @@ pub fn placed(answer: Placed) -> TbPlaced
 }
 
 pub fn named(answer: Named) -> TbNamed
-    ensures { λ r. ⌜ r .refusal ≡ saidNamed answer .0 ⌝ }
-    ensures { λ r. ⌜ r .found ≡ saidNamed answer .1 ⌝ }
-    ensures { λ r. ⌜ r .block ≡ saidNamed answer .2 ⌝ }
+    ensures { λ result. ⌜ result .refusal ≡ saidNamed answer .0 ⌝ }
+    ensures { λ result. ⌜ result .found ≡ saidNamed answer .1 ⌝ }
+    ensures { λ result. ⌜ result .block ≡ saidNamed answer .2 ⌝ }
 {
     match answer {
         Named::Block(block) => TbNamed {
@@ -160,8 +160,8 @@ pub fn named(answer: Named) -> TbNamed
 }
 
 pub fn written(answer: Written) -> TbWritten
-    ensures { λ r. ⌜ r .refusal ≡ saidWritten answer .0 ⌝ }
-    ensures { λ r. ⌜ r .length ≡ saidWritten answer .1 ⌝ }
+    ensures { λ result. ⌜ result .refusal ≡ saidWritten answer .0 ⌝ }
+    ensures { λ result. ⌜ result .length ≡ saidWritten answer .1 ⌝ }
 {
     match answer {
         Written::Length(length) => TbWritten { refusal: 0, length },
@@ -170,10 +170,10 @@ pub fn written(answer: Written) -> TbWritten
 }
 
 pub fn located(answer: Located) -> TbLocated
-    ensures { λ r. ⌜ r .refusal ≡ saidLocated answer .0 ⌝ }
-    ensures { λ r. ⌜ r .address .cylinder ≡ saidLocated answer .1 ⌝ }
-    ensures { λ r. ⌜ r .address .head ≡ saidLocated answer .2 ⌝ }
-    ensures { λ r. ⌜ r .address .sector ≡ saidLocated answer .3 ⌝ }
+    ensures { λ result. ⌜ result .refusal ≡ saidLocated answer .0 ⌝ }
+    ensures { λ result. ⌜ result .address .cylinder ≡ saidLocated answer .1 ⌝ }
+    ensures { λ result. ⌜ result .address .head ≡ saidLocated answer .2 ⌝ }
+    ensures { λ result. ⌜ result .address .sector ≡ saidLocated answer .3 ⌝ }
 {
     match answer {
         Located::At(address) => TbLocated {
@@ -192,10 +192,10 @@ pub fn located(answer: Located) -> TbLocated
 }
 
 pub fn job(answer: Job) -> TbJob
-    ensures { λ r. ⌜ r .refusal ≡ saidJob answer .0 ⌝ }
-    ensures { λ r. ⌜ r .sector ≡ saidJob answer .1 ⌝ }
-    ensures { λ r. ⌜ r .next .block ≡ saidJob answer .2 ⌝ }
-    ensures { λ r. ⌜ r .next .skipped ≡ saidJob answer .3 ⌝ }
+    ensures { λ result. ⌜ result .refusal ≡ saidJob answer .0 ⌝ }
+    ensures { λ result. ⌜ result .sector ≡ saidJob answer .1 ⌝ }
+    ensures { λ result. ⌜ result .next .block ≡ saidJob answer .2 ⌝ }
+    ensures { λ result. ⌜ result .next .skipped ≡ saidJob answer .3 ⌝ }
 {
     match answer {
         Job::Ready(next) => TbJob {
@@ -217,10 +217,10 @@ pub fn job(answer: Job) -> TbJob
 }
 
 pub fn paged(answer: Paged) -> TbPaged
-    ensures { λ r. ⌜ r .refusal ≡ saidPaged answer .0 ⌝ }
-    ensures { λ r. ⌜ r .kind ≡ saidPaged answer .1 ⌝ }
-    ensures { λ r. ⌜ r .n ≡ saidPaged answer .2 ⌝ }
-    ensures { λ r. ⌜ r .entries ≡ saidPaged answer .3 ⌝ }
+    ensures { λ result. ⌜ result .refusal ≡ saidPaged answer .0 ⌝ }
+    ensures { λ result. ⌜ result .kind ≡ saidPaged answer .1 ⌝ }
+    ensures { λ result. ⌜ result .n ≡ saidPaged answer .2 ⌝ }
+    ensures { λ result. ⌜ result .entries ≡ saidPaged answer .3 ⌝ }
 {
     match answer {
         Paged::Page(kind, n, entries) => TbPaged {
@@ -239,10 +239,10 @@ pub fn paged(answer: Paged) -> TbPaged
 }
 
 pub fn formatted(answer: Formatted) -> TbFormatted
-    ensures { λ r. ⌜ r .refusal ≡ saidFormatted answer .0 ⌝ }
-    ensures { λ r. ⌜ r .grown ≡ saidFormatted answer .1 ⌝ }
-    ensures { λ r. ⌜ r .list ≡ saidFormatted answer .2 ⌝ }
-    ensures { λ r. ⌜ r .space ≡ saidFormatted answer .3 ⌝ }
+    ensures { λ result. ⌜ result .refusal ≡ saidFormatted answer .0 ⌝ }
+    ensures { λ result. ⌜ result .grown ≡ saidFormatted answer .1 ⌝ }
+    ensures { λ result. ⌜ result .list ≡ saidFormatted answer .2 ⌝ }
+    ensures { λ result. ⌜ result .space ≡ saidFormatted answer .3 ⌝ }
 {
     match answer {
         Formatted::Done(grown, list, space) => TbFormatted {
@@ -261,8 +261,8 @@ pub fn formatted(answer: Formatted) -> TbFormatted
 }
 
 pub fn shifted(answer: Shifted) -> TbShifted
-    ensures { λ r. ⌜ r .refusal ≡ saidShifted answer .0 ⌝ }
-    ensures { λ r. ⌜ r .shift ≡ saidShifted answer .1 ⌝ }
+    ensures { λ result. ⌜ result .refusal ≡ saidShifted answer .0 ⌝ }
+    ensures { λ result. ⌜ result .shift ≡ saidShifted answer .1 ⌝ }
 {
     match answer {
         Shifted::By(shift) => TbShifted { refusal: 0, shift },
@@ -271,8 +271,8 @@ pub fn shifted(answer: Shifted) -> TbShifted
 }
 
 pub fn replaced(answer: Replaced) -> TbReplaced
-    ensures { λ r. ⌜ r .refusal ≡ saidReplaced answer .0 ⌝ }
-    ensures { λ r. ⌜ r .place ≡ saidReplaced answer .1 ⌝ }
+    ensures { λ result. ⌜ result .refusal ≡ saidReplaced answer .0 ⌝ }
+    ensures { λ result. ⌜ result .place ≡ saidReplaced answer .1 ⌝ }
 {
     match answer {
         Replaced::Place(place) => TbReplaced { refusal: 0, place },
@@ -281,12 +281,12 @@ pub fn replaced(answer: Replaced) -> TbReplaced
 }
 
 pub fn counted(answer: Counted) -> TbCounted
-    ensures { λ r. ⌜ r .refusal ≡ saidCounted answer .0 ⌝ }
-    ensures { λ r. ⌜ r .free ≡ saidCounted answer .1 ⌝ }
-    ensures { λ r. ⌜ r .primary ≡ saidCounted answer .2 ⌝ }
-    ensures { λ r. ⌜ r .elsewhere ≡ saidCounted answer .3 ⌝ }
-    ensures { λ r. ⌜ r .unusable ≡ saidCounted answer .4 ⌝ }
-    ensures { λ r. ⌜ r .null ≡ saidCounted answer .5 ⌝ }
+    ensures { λ result. ⌜ result .refusal ≡ saidCounted answer .0 ⌝ }
+    ensures { λ result. ⌜ result .free ≡ saidCounted answer .1 ⌝ }
+    ensures { λ result. ⌜ result .primary ≡ saidCounted answer .2 ⌝ }
+    ensures { λ result. ⌜ result .elsewhere ≡ saidCounted answer .3 ⌝ }
+    ensures { λ result. ⌜ result .unusable ≡ saidCounted answer .4 ⌝ }
+    ensures { λ result. ⌜ result .null ≡ saidCounted answer .5 ⌝ }
 {
     match answer {
         Counted::Counts(census) => TbCounted {
@@ -309,8 +309,8 @@ pub fn counted(answer: Counted) -> TbCounted
 }
 
 pub fn headed(answer: Head) -> TbHeaded
-    ensures { λ r. ⌜ r .refusal ≡ saidHead answer .0 ⌝ }
-    ensures { λ r. ⌜ r .block ≡ saidHead answer .1 ⌝ }
+    ensures { λ result. ⌜ result .refusal ≡ saidHead answer .0 ⌝ }
+    ensures { λ result. ⌜ result .block ≡ saidHead answer .1 ⌝ }
 {
     match answer {
         Head::Number(block) => TbHeaded { refusal: 0, block },
@@ -319,7 +319,7 @@ pub fn headed(answer: Head) -> TbHeaded
 }
 
 pub fn judged(answer: Verdict) -> TbJudged
-    ensures { λ r. ⌜ r .refusal ≡ saidVerdict answer ⌝ }
+    ensures { λ result. ⌜ result .refusal ≡ saidVerdict answer ⌝ }
 {
     match answer {
         Verdict::Good => TbJudged { refusal: 0 },
@@ -328,9 +328,9 @@ pub fn judged(answer: Verdict) -> TbJudged
 }
 
 pub fn spotted(answer: Spot) -> TbSpotted
-    ensures { λ r. ⌜ r .refusal ≡ saidSpot answer .0 ⌝ }
-    ensures { λ r. ⌜ r .image ≡ saidSpot answer .1 ⌝ }
-    ensures { λ r. ⌜ r .offset ≡ saidSpot answer .2 ⌝ }
+    ensures { λ result. ⌜ result .refusal ≡ saidSpot answer .0 ⌝ }
+    ensures { λ result. ⌜ result .image ≡ saidSpot answer .1 ⌝ }
+    ensures { λ result. ⌜ result .offset ≡ saidSpot answer .2 ⌝ }
 {
     match answer {
         Spot::InHome(offset) => TbSpotted {

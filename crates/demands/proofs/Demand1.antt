@@ -15,22 +15,23 @@ use Rattle.paper.specs.declared.Placed.{Placed}
 use Rattle.paper.specs.declared.Named.{Named}
 use Rattle.paper.specs.declared.Named.the-variants.{Block, NoBlock}
 use Rattle.paper.specs.declared.Written.{Written}
-use Rattle.lists.specs.Union.{isIn, written}
+use Rattle.lists.specs.Union.{isIn}
+use Rattle.paper.specs.Promise.{written}
 use Rattle.shape.specs.declared.Shape.{Shape}
 use Rattle.shape.specs.declared.Located.{Located}
 use Rattle.shape.specs.Shapes.{sizeOf}
-use Rattle.shape.specs.Addresses.{sectorAt, addressAt, addressFault, SectorOfJudged as ShapeSectorOfJudged, AddressOfJudged as ShapeAddressOfJudged}
-use Rattle.shape.specs.Addresses.{sectorFault as shapeSectorFault}
+use Rattle.shape.specs.Addresses.{sectorAt, addressAt, sectorOfFault, SectorOfJudged as ShapeSectorOfJudged, AddressOfJudged as ShapeAddressOfJudged}
+use Rattle.shape.specs.Addresses.{addressOfFault as shapeSectorFault}
 use Rattle.shape.specs.Promises.{SectorOf as ShapeSectorOf, AddressOf as ShapeAddressOf}
 use Rattle.shape.proofs.Exact.{sector-of-exactly as shape-sector-of-exactly, address-of-exactly as shape-address-of-exactly}
 use Rattle.skip.specs.Skipping.{goodsBefore, place}
-use Rattle.skip.specs.Translation.{blockFault, sectorFault, SectorOfJudged, BlockOnJudged}
-use Rattle.skip.specs.Cursors.{noCursor, cursorAt, cursorFault, stepFault, StartJudged, CheckJudged, StepJudged}
+use Rattle.skip.specs.Translation.{sectorOfFault, blockOnFault, SectorOfJudged, BlockOnJudged}
+use Rattle.skip.specs.Cursors.{noCursor, cursorAt, checkFault, stepFault, StartJudged, CheckJudged, StepJudged}
 use Rattle.skip.specs.Promises.{SectorOf, BlockOn, Starts, Checks, Steps}
 use Rattle.skip.specs.declared.Cursor.{Cursor}
 use Rattle.skip.specs.declared.Job.{Job}
 use Rattle.skip.proofs.Exact.{sector-of-exactly, block-on-exactly, start-exactly, check-exactly, step-exactly}
-use Rattle.skipped.specs.Drive.{blockFault as skippedBlockFault, placeFault as skippedPlaceFault, AddressOfJudged as SkippedAddressOfJudged, BlockAtJudged as SkippedBlockAtJudged}
+use Rattle.skipped.specs.Drive.{addressOfFault as skippedBlockFault, blockAtFault as skippedPlaceFault, AddressOfJudged as SkippedAddressOfJudged, BlockAtJudged as SkippedBlockAtJudged}
 use Rattle.skipped.specs.Promises.{AddressOf as SkippedAddressOf, BlockAt as SkippedBlockAt}
 use Rattle.skipped.proofs.Exact.{address-of-exactly as skipped-address-of-exactly, block-at-exactly as skipped-block-at-exactly}
 use Rattle.page.specs.Layout.{kindOf, unitsOf, entriesOf}
@@ -42,15 +43,15 @@ use Rattle.format.specs.Spaces.{formatFault, newGrown, newList, newSpace, Forma
 use Rattle.format.specs.Promises.{saidFormatted, Formats}
 use Rattle.format.specs.declared.Formatted.{Formatted}
 use Rattle.format.proofs.Exact.{format-exactly}
-use Rattle.layout.specs.Layouts.{layoutOf, sectorsOf}
+use Rattle.layout.specs.Layouts.{driveOf, sectorsPerTrack}
 use Rattle.layout.specs.Descriptors.{numberOf, isAllocated}
-use Rattle.layout.specs.declared.Layout.{Layout}
+use Rattle.layout.specs.declared.Drive.{Drive}
 use Rattle.table.specs.Rules.{tableFault, tableLength, TableJudged}
 use Rattle.table.specs.Lookup.{isReplaced, liesOn, blockAtHome, blockOnSpare, lyingOn}
 use Rattle.table.proofs.Exact.{table-exactly}
 use Rattle.replacing.specs.Replacing.{spareFor}
 use Rattle.replacing.specs.Counting.{censusOf}
-use Rattle.first.specs.First.{firstFault, FirstJudged}
+use Rattle.first.specs.First.{firstTableFault, FirstTableJudged}
 use Rattle.first.specs.Promises.{FirstTable}
 use Rattle.first.proofs.Exact.{first-exactly}
 use Rattle.spares.specs.Spares.{shiftOf, blockFault as spareBlockFault, blockOnFault, blockAtFault, replaceFault, BlockJudged, BlockOnJudged as SpareBlockOnJudged, BlockAtJudged as SpareBlockAtJudged, ReplaceJudged}
@@ -68,8 +69,8 @@ use Rattle.image.proofs.Exact.{header-exactly, judge-exactly, write-exactly, im
 use Rattle.image.proofs.Images.{length-data}
 use Rattle.image.proofs.Lent.{refused-empty, accepted-data}
 use Rattle.reading.specs.Tracks.{dataStart}
-use Rattle.reading.specs.Faults.{readFault}
-use Rattle.reading.specs.Judged.{ReadJudged}
+use Rattle.reading.specs.Faults.{blockReadFault}
+use Rattle.reading.specs.Judged.{BlockReadJudged}
 use Rattle.reading.specs.Promises.{Judge as ReadJudge, Data as ReadData, Spots}
 use Rattle.reading.specs.declared.answers.Spot.{Spot}
 use Rattle.reading.proofs.Exact.{read-exactly}
@@ -85,7 +86,7 @@ module _ (shape : Shape) where
       (cylinder head sector : ℕ) (result : Placed) → ShapeSectorOf shape cylinder head sector result →
       PlacedBy (ShapeSectorOfJudged shape cylinder head sector) result
   shape-sector-of cylinder head sector result promise =
-      placed-by (addressFault shape cylinder head sector) (shape-sector-of-exactly shape cylinder head sector)
+      placed-by (sectorOfFault shape cylinder head sector) (shape-sector-of-exactly shape cylinder head sector)
       (sectorAt shape cylinder head sector) result (promise .answers)
 
   pub shape-address-of : (sector : ℕ) (result : Located) → ShapeAddressOf shape sector result → LocatedBy (ShapeAddressOfJudged shape sector) result
@@ -96,20 +97,20 @@ module _ (shape : Shape) where
 module _ (n : ℕ) (a : List ℕ) where
   pub skip-sector-of : (b : ℕ) (result : Placed) → SectorOf n a b result → PlacedBy (SectorOfJudged n a b) result
   skip-sector-of b result promise =
-      placed-by (blockFault n a b) (sector-of-exactly n a b) (place (isIn a) n b) result (promise .answers)
+      placed-by (sectorOfFault n a b) (sector-of-exactly n a b) (place (isIn a) n b) result (promise .answers)
 
   pub skip-block-on : (s : ℕ) (result : Named) → BlockOn n a s result → NamedBy (BlockOnJudged n a s) result
   skip-block-on s result promise =
-      named-by (sectorFault n a s) (block-on-exactly n a s) _ result
+      named-by (blockOnFault n a s) (block-on-exactly n a s) _ result
       (pick-naming (isIn a s) NoBlock (Block (goodsBefore (isIn a) s)) none-naming (block-naming (goodsBefore (isIn a) s)))
       (promise .answers)
 
   -- a refusal of these two comes with an empty cursor
   pub cursor-start : (b : ℕ) (result : Job) → Starts n a b result → JobBy noCursor (StartJudged n a b) result
-  cursor-start b result promise = ready-by (blockFault n a b) (start-exactly n a b) noCursor (cursorAt n a b) result (promise .answers)
+  cursor-start b result promise = ready-by (sectorOfFault n a b) (start-exactly n a b) noCursor (cursorAt n a b) result (promise .answers)
 
   pub cursor-check : (c : Cursor) (result : Job) → Checks n a c result → JobBy noCursor (CheckJudged n a c) result
-  cursor-check c result promise = ready-by (cursorFault n a c) (check-exactly n a c) noCursor c result (promise .answers)
+  cursor-check c result promise = ready-by (checkFault n a c) (check-exactly n a c) noCursor c result (promise .answers)
 
   -- a refused step returns its cursor
   pub cursor-step : (c : Cursor) (result : Job) → Steps n a c result → JobBy c (StepJudged n a c) result
@@ -170,13 +171,13 @@ module _
         )
 
 -- what lies on a sector is a block or no block
-lying-naming : (g : Layout) (t : List ℕ) (s : ℕ) → Naming (lyingOn g t s)
+lying-naming : (g : Drive) (t : List ℕ) (s : ℕ) → Naming (lyingOn g t s)
 lying-naming g t s =
-    pick-naming (ltb (s % sectorsOf g) (g .home))
-    (blockAtHome t (s / sectorsOf g * g .home + s % sectorsOf g))
-    (blockOnSpare t (s / sectorsOf g * g .spare + (s % sectorsOf g - g .home)))
-    (at-home (s / sectorsOf g * g .home + s % sectorsOf g))
-    (on-spare (s / sectorsOf g * g .spare + (s % sectorsOf g - g .home)))
+    pick-naming (ltb (s % sectorsPerTrack g) (g .home))
+    (blockAtHome t (s / sectorsPerTrack g * g .home + s % sectorsPerTrack g))
+    (blockOnSpare t (s / sectorsPerTrack g * g .spare + (s % sectorsPerTrack g - g .home)))
+    (at-home (s / sectorsPerTrack g * g .home + s % sectorsPerTrack g))
+    (on-spare (s / sectorsPerTrack g * g .spare + (s % sectorsPerTrack g - g .home)))
   where
     at-home : (b : ℕ) → Naming (blockAtHome t b)
     at-home b = pick-naming (isReplaced t b) NoBlock (Block b) none-naming (block-naming b)
@@ -188,26 +189,26 @@ lying-naming g t s =
 module _ (shape : Shape) (r : ℕ) (t : List ℕ) where
   pub spares-sector-of : (b : ℕ) (result : Placed) → SpareSectorOf shape r t b result → PlacedBy (BlockJudged shape r t b) result
   spares-sector-of b result promise =
-      placed-by (spareBlockFault shape r t b) (block-exactly shape r t b) (liesOn (layoutOf shape r) t b) result (promise .answers)
+      placed-by (spareBlockFault shape r t b) (block-exactly shape r t b) (liesOn (driveOf shape r) t b) result (promise .answers)
 
   pub spares-address-of : (b : ℕ) (result : Located) → SpareAddressOf shape r t b result → LocatedBy (BlockJudged shape r t b) result
   spares-address-of b result promise =
-      located-by (spareBlockFault shape r t b) (block-exactly shape r t b) (addressAt shape (liesOn (layoutOf shape r) t b)) result (promise .answers)
+      located-by (spareBlockFault shape r t b) (block-exactly shape r t b) (addressAt shape (liesOn (driveOf shape r) t b)) result (promise .answers)
 
   pub spares-shift : (b : ℕ) (result : Shifted) → ShiftOf shape r t b result → ShiftedBy (BlockJudged shape r t b) result
   spares-shift b result promise =
-      shifted-by (spareBlockFault shape r t b) (block-exactly shape r t b) (shiftOf (layoutOf shape r) t b) result (promise .answers)
+      shifted-by (spareBlockFault shape r t b) (block-exactly shape r t b) (shiftOf (driveOf shape r) t b) result (promise .answers)
 
   pub spares-block-on : (s : ℕ) (result : Named) → SpareBlockOn shape r t s result → NamedBy (SpareBlockOnJudged shape r t s) result
   spares-block-on s result promise =
-      named-by (blockOnFault shape r t s) (spare-block-on-exactly shape r t s) _ result (lying-naming (layoutOf shape r) t s) (promise .answers)
+      named-by (blockOnFault shape r t s) (spare-block-on-exactly shape r t s) _ result (lying-naming (driveOf shape r) t s) (promise .answers)
 
   pub spares-block-at :
       (cylinder head sector : ℕ) (result : Named) → SpareBlockAt shape r t cylinder head sector result →
       NamedBy (SpareBlockAtJudged shape r t cylinder head sector) result
   spares-block-at cylinder head sector result promise =
       named-by (blockAtFault shape r t cylinder head sector) (spare-block-at-exactly shape r t cylinder head sector) _ result
-      (lying-naming (layoutOf shape r) t (sectorAt shape cylinder head sector))
+      (lying-naming (driveOf shape r) t (sectorAt shape cylinder head sector))
       (promise .answers)
 
   pub spares-census : (result : Counted) → CensusOf shape r t result → CountedBy (TableJudged shape r t) result
@@ -215,18 +216,18 @@ module _ (shape : Shape) (r : ℕ) (t : List ℕ) where
 
 module _ (shape : Shape) (r : ℕ) (t : List ℕ) (b : ℕ) (result : Replaced) (after : List ℕ) (promise : Replacement shape r t b result after) where
   pub spares-replace : ReplacedBy (ReplaceJudged shape r t b) result
-  spares-replace = replaced-by (replaceFault shape r t b) (replace-exactly shape r t b) (spareFor (layoutOf shape r) t b) result (promise .answers)
+  spares-replace = replaced-by (replaceFault shape r t b) (replace-exactly shape r t b) (spareFor (driveOf shape r) t b) result (promise .answers)
 
   pub spares-replace-keeps : Keeps (saidReplaced result .0) t after
   spares-replace-keeps = keeps-bytes _ (replaceFault shape r t b) t after _ (ap (λ (said : ℕ × ℕ). said .0) (promise .says)) (promise .holds)
 
 module _ (shape : Shape) (r : ℕ) (list room : List ℕ) (result : Written) (after : List ℕ) (promise : FirstTable shape r list room result after) where
-  pub spares-first-table : WrittenBy (FirstJudged shape r list room) result
+  pub spares-first-table : WrittenBy (FirstTableJudged shape r list room) result
   spares-first-table =
-      written-by (firstFault shape r list room) (first-exactly shape r list room) (tableLength (layoutOf shape r)) result (promise .answers)
+      written-by (firstTableFault shape r list room) (first-exactly shape r list room) (tableLength (driveOf shape r)) result (promise .answers)
 
   pub spares-first-table-keeps : Keeps (saidWritten result .0) room after
-  spares-first-table-keeps = keeps-bytes _ (firstFault shape r list room) room after _ (ap (λ (said : ℕ × ℕ). said .0) (promise .says)) (promise .holds)
+  spares-first-table-keeps = keeps-bytes _ (firstTableFault shape r list room) room after _ (ap (λ (said : ℕ × ℕ). said .0) (promise .says)) (promise .holds)
 
 -- the sector image
 module _ (number : ℕ) (bytes : List ℕ) (forced : Bool) (room : List ℕ) (result : Written) (after : List ℕ) (promise : Write number bytes forced room result after) where
@@ -259,23 +260,23 @@ image-data image number part promise =
 module _ (shape : Shape) (r : ℕ) (t : List ℕ) (b : ℕ) where
   pub reading-judge :
       (home spare : List ℕ) (result : Verdict) → ReadJudge shape r t b home spare result →
-      VerdictBy (ReadJudged dataSize shape r t b home spare) result
+      VerdictBy (BlockReadJudged dataSize shape r t b home spare) result
   reading-judge home spare result promise =
-      verdict-by (readFault dataSize shape r t b home spare) (read-exactly dataSize shape r t b home spare) result (promise .answers)
+      verdict-by (blockReadFault dataSize shape r t b home spare) (read-exactly dataSize shape r t b home spare) result (promise .answers)
 
   pub reading-spot :
       (home spare : List ℕ) (result : Spot) → Spots shape r t b home spare result →
-      SpotBy (ReadJudged dataSize shape r t b home spare) result
+      SpotBy (BlockReadJudged dataSize shape r t b home spare) result
   reading-spot home spare result promise =
-      spot-by (readFault dataSize shape r t b home spare) (read-exactly dataSize shape r t b home spare)
-      (isReplaced t b) (dataStart dataSize (layoutOf shape r) t b) result (promise .answers)
+      spot-by (blockReadFault dataSize shape r t b home spare) (read-exactly dataSize shape r t b home spare)
+      (isReplaced t b) (dataStart dataSize (driveOf shape r) t b) result (promise .answers)
 
   pub reading-data :
       (home spare part : RefT (List ℕ)) → ReadData shape r t b home spare part →
-      PartBy (ReadJudged dataSize shape r t b (home .now) (spare .now)) dataSize (part .now)
+      PartBy (BlockReadJudged dataSize shape r t b (home .now) (spare .now)) dataSize (part .now)
   reading-data home spare part promise =
       record {
-        number = readFault dataSize shape r t b (home .now) (spare .now);
+        number = blockReadFault dataSize shape r t b (home .now) (spare .now);
         exactly = read-exactly dataSize shape r t b (home .now) (spare .now);
         refused-empty = read-refused-empty dataSize shape r t b home spare part promise;
         accepted-whole =

@@ -8,14 +8,14 @@ use lib.ListN.{length, take}
 use Rattle.paper.specs.declared.Written.the-variants.{Length}
 use Rattle.seek.proofs.Counts.{count-le}
 use Rattle.shape.specs.declared.Shape.{Shape}
-use Rattle.layout.specs.Layouts.{layoutOf}
+use Rattle.layout.specs.Layouts.{driveOf}
 use Rattle.layout.specs.Descriptors.{free}
-use Rattle.layout.specs.declared.Layout.{Layout}
+use Rattle.layout.specs.declared.Drive.{Drive}
 use Rattle.table.specs.Rules.{tableFault, tableLength}
 use Rattle.replacing.specs.Counting.{codeCount}
 use Rattle.replacing.specs.declared.Census.{Census}
 use Rattle.marking.specs.Marks.{isBadSpare, badSpares, badHomes, goodSpares}
-use Rattle.first.specs.First.{firstTable, firstFault}
+use Rattle.first.specs.First.{firstTable, firstTableFault}
 use Rattle.first.specs.Promises.{FirstTable}
 use Rattle.first.proofs.Exact.{first-shows, first-made}
 use Rattle.spares.specs.Promises.{saidCounted, CensusOf}
@@ -42,21 +42,21 @@ census-counts shape r t census promise =
 -- and leaves no place out
 pub census-leaves-none-out :
     (shape : Shape) (r : ℕ) (t : List ℕ) (census : Census) → CensusOf shape r t (Census-of census) →
-    census .free + (census .primary + (census .elsewhere + (census .unusable + census .null))) ≡ tableLength (layoutOf shape r)
+    census .free + (census .primary + (census .elsewhere + (census .unusable + census .null))) ≡ tableLength (driveOf shape r)
 census-leaves-none-out shape r t census promise =
     let passes : tableFault shape r t ≡ 0 = sym (ap (λ (said : ℕ × ℕ × ℕ × ℕ × ℕ × ℕ). said .0) (promise .says)) in
     let counts : Counts t census = census-counts shape r t census promise in
     rw (counts .are-free, counts .are-primary, counts .are-elsewhere, counts .are-unusable, counts .are-null) (census-whole shape r t passes)
 
-spares-hold : (g : Layout) (list : List ℕ) → badSpares g list ≤ g .spares
+spares-hold : (g : Drive) (list : List ℕ) → badSpares g list ≤ g .spares
 unfolding badSpares
 spares-hold g list = count-le (isBadSpare g list) (g .spares)
 
 module _ (shape : Shape) (r : ℕ) (list room : List ℕ) (long : ℕ) (after : List ℕ) (made : FirstTable shape r list room (Length long) after) where
-  first-fault : firstFault shape r list room ≡ 0
+  first-fault : firstTableFault shape r list room ≡ 0
   first-fault = sym (ap (λ (said : ℕ × ℕ). said .0) (made .says))
 
-  first-is : take long after ≡ firstTable (layoutOf shape r) list
+  first-is : take long after ≡ firstTable (driveOf shape r) list
   first-is = first-table-hands shape r list room long after made .0 .first
 
   module _ (calls : List Call) where
@@ -70,7 +70,7 @@ module _ (shape : Shape) (r : ℕ) (list room : List ℕ) (long : ℕ) (after : 
     pub free-places :
         (census : Census) → CensusOf shape r (afterAll shape r (take long after) calls) (Census-of census) →
         census .free
-        ≡ layoutOf shape r .spares - badSpares (layoutOf shape r) list - length (badHomes (layoutOf shape r) list)
+        ≡ driveOf shape r .spares - badSpares (driveOf shape r) list - length (badHomes (driveOf shape r) list)
         - accepted shape r (take long after) calls
     free-places census promise =
         census-counts shape r (afterAll shape r (take long after) calls) census promise .are-free
@@ -79,12 +79,12 @@ module _ (shape : Shape) (r : ℕ) (list room : List ℕ) (long : ℕ) (after : 
     -- and no difference falls below 0: the four numbers make up the spares
     pub places-make-up-spares :
         (census : Census) → CensusOf shape r (afterAll shape r (take long after) calls) (Census-of census) →
-        census .free + (accepted shape r (take long after) calls + (length (badHomes (layoutOf shape r) list) + badSpares (layoutOf shape r) list))
-        ≡ layoutOf shape r .spares
+        census .free + (accepted shape r (take long after) calls + (length (badHomes (driveOf shape r) list) + badSpares (driveOf shape r) list))
+        ≡ driveOf shape r .spares
     places-make-up-spares census promise =
-        let free-first : codeCount (firstTable (layoutOf shape r) list) free ≡ goodSpares (layoutOf shape r) list - length (badHomes (layoutOf shape r) list) =
+        let free-first : codeCount (firstTable (driveOf shape r) list) free ≡ goodSpares (driveOf shape r) list - length (badHomes (driveOf shape r) list) =
         first-made shape r list room first-fault .free-left in
-        let frees = history-frees shape r (firstTable (layoutOf shape r) list) calls in
-        let is : census .free ≡ codeCount (afterAll shape r (firstTable (layoutOf shape r) list) calls) free =
+        let frees = history-frees shape r (firstTable (driveOf shape r) list) calls in
+        let is : census .free ≡ codeCount (afterAll shape r (firstTable (driveOf shape r) list) calls) free =
         rw first-is at (census-counts shape r (afterAll shape r (take long after) calls) census promise .are-free) in
-        rw first-is (omega (arith, is, frees, free-first, first-shows shape r list room first-fault .enough, spares-hold (layoutOf shape r) list))
+        rw first-is (omega (arith, is, frees, free-first, first-shows shape r list room first-fault .enough, spares-hold (driveOf shape r) list))

@@ -24,13 +24,13 @@ use Rattle.shape.specs.Shapes.{sizeOf}
 use Rattle.shape.specs.Addresses.{OnDrive, sectorAt, addressAt}
 use Rattle.shape.proofs.Inverse.{there-and-back, address-on-drive}
 use Rattle.shape.proofs.Exact.{tells-on-drive}
-use Rattle.layout.specs.Layouts.{Laid, layoutOf, sectorsOf, spareSector, homeCylinder}
+use Rattle.layout.specs.Layouts.{Laid, driveOf, sectorsPerTrack, spareSector, homeCylinder}
 use Rattle.layout.specs.Descriptors.{unusable, codeOf, Names}
 use Rattle.layout.proofs.Layings.{drive-whole}
 use Rattle.layout.proofs.Sectors.{home-track, spare-track}
 use Rattle.layout.proofs.Words.{tells-names}
 use Rattle.table.specs.Rules.{tableFault}
-use Rattle.table.specs.Lookup.{Replaced, isReplaced, placeOf, liesOn, lyingOn, Lies, Vacant}
+use Rattle.table.specs.Lookup.{Replaced, isReplaced, placeOf, liesOn, lyingOn, Resides, Vacant}
 use Rattle.table.proofs.Lookups.{place-once, lies-shows, lies-only, lies-apart, none-on-unusable, lying-of-lies, vacant-told, lies-below, lies-of-lying, vacant-shows}
 use Rattle.replacing.specs.Replacing.{NoneFree, Altered, spareFor}
 use Rattle.spares.specs.Spares.{shiftOf, blockFault, blockOnFault, blockAtFault, replaceFault}
@@ -47,12 +47,12 @@ module _ (shape : Shape) (r : ℕ) (t : List ℕ) where
   answered-passes : (b s : ℕ) → SectorOf shape r t b (At s) → blockFault shape r t b ≡ 0
   answered-passes b s promise = sym (ap (λ (said : ℕ × ℕ). said .0) (promise .says))
 
-  answered-is : (b s : ℕ) → SectorOf shape r t b (At s) → s ≡ liesOn (layoutOf shape r) t b
+  answered-is : (b s : ℕ) → SectorOf shape r t b (At s) → s ≡ liesOn (driveOf shape r) t b
   answered-is b s promise = rw (answered-passes b s promise) at (ap (λ (said : ℕ × ℕ). said .1) (promise .says))
 
   -- a sector that is answered is the block's home, or the spare whose descriptor names the block
-  pub answered-lies : (b s : ℕ) → SectorOf shape r t b (At s) → Lies (layoutOf shape r) t b s
-  answered-lies b s promise = rw (answered-is b s promise) (lies-shows (layoutOf shape r) t b)
+  pub answered-lies : (b s : ℕ) → SectorOf shape r t b (At s) → Resides (driveOf shape r) t b s
+  answered-lies b s promise = rw (answered-is b s promise) (lies-shows (driveOf shape r) t b)
 
   -- two blocks never share a sector
   pub never-share : (a b s : ℕ) → SectorOf shape r t a (At s) → SectorOf shape r t b (At s) → a ≡ b
@@ -60,7 +60,7 @@ module _ (shape : Shape) (r : ℕ) (t : List ℕ) where
       lies-apart (block-ready shape r t a (answered-passes a s first) .laid) t a b (sym (answered-is a s first) ∙ answered-is b s second)
 
   -- none lies on a spare marked unusable
-  pub never-on-unusable : (b s q : ℕ) → SectorOf shape r t b (At s) → codeOf (getD t q 0) ≡ unusable → s ≡ spareSector (layoutOf shape r) q → ⊥
+  pub never-on-unusable : (b s q : ℕ) → SectorOf shape r t b (At s) → codeOf (getD t q 0) ≡ unusable → s ≡ spareSector (driveOf shape r) q → ⊥
   never-on-unusable b s q promise marked on =
       none-on-unusable (block-ready shape r t b (answered-passes b s promise) .laid) t b q marked (sym (answered-is b s promise) ∙ on)
 
@@ -73,38 +73,38 @@ module _ (shape : Shape) (r : ℕ) (t : List ℕ) where
 
     -- where the table passes and the drive has the block, the sector that the block lies on is answered
     pub lies-answered :
-        (b s : ℕ) → b < layoutOf shape r .blocks → Lies (layoutOf shape r) t b s → (result : Placed) → SectorOf shape r t b result → result ≡ At s
+        (b s : ℕ) → b < driveOf shape r .blocks → Resides (driveOf shape r) t b s → (result : Placed) → SectorOf shape r t b result → result ≡ At s
     lies-answered b s below lies result promise =
-        let fault : blockFault shape r t b ≡ 0 = rw (passes, lt-leb (layoutOf shape r .blocks) b below) in
+        let fault : blockFault shape r t b ≡ 0 = rw (passes, lt-leb (driveOf shape r .blocks) b below) in
         promise .answers
-        ∙ (answer-accepted (blockFault shape r t b) NotPlaced (At (liesOn (layoutOf shape r) t b)) fault
-        ∙ ap At (lies-only (layoutOf shape r) t b (table-ready shape r t passes .obeys) lies))
+        ∙ (answer-accepted (blockFault shape r t b) NotPlaced (At (liesOn (driveOf shape r) t b)) fault
+        ∙ ap At (lies-only (driveOf shape r) t b (table-ready shape r t passes .obeys) lies))
 
   -- sector to block is the inverse: the sector of a block names that block again
   pub sector-names-block : (b s : ℕ) → SectorOf shape r t b (At s) → (result : Named) → BlockOn shape r t s result → result ≡ Block b
   sector-names-block b s promise result names =
       let none : blockFault shape r t b ≡ 0 = answered-passes b s promise in
       let ready = block-ready shape r t b none in
-      let is : s ≡ liesOn (layoutOf shape r) t b = answered-is b s promise in
+      let is : s ≡ liesOn (driveOf shape r) t b = answered-is b s promise in
       let inside : s < sizeOf shape = rw is (rw (drive-whole (ready .drives)) at (lies-below (ready .laid) t (ready .obeys) b (block-below shape r t b none))) in
       let fault : blockOnFault shape r t s ≡ 0 = rw (orElse-first (tableFault shape r t) _ none, lt-leb (sizeOf shape) s inside) in
       names .answers
-      ∙ (answer-accepted (blockOnFault shape r t s) NotNamed (lyingOn (layoutOf shape r) t s) fault
-      ∙ (ap (lyingOn (layoutOf shape r) t) is ∙ lying-of-lies (ready .laid) t b))
+      ∙ (answer-accepted (blockOnFault shape r t s) NotNamed (lyingOn (driveOf shape r) t s) fault
+      ∙ (ap (lyingOn (driveOf shape r) t) is ∙ lying-of-lies (ready .laid) t b))
 
   module _ (s : ℕ) where
     asked-passes : (lying : Named) → BlockOn shape r t s lying → saidNamed lying .0 ≡ 0 → blockOnFault shape r t s ≡ 0
     asked-passes lying promise accepted = sym (ap (λ (said : ℕ × ℕ × ℕ). said .0) (promise .says)) ∙ accepted
 
-    asked-is : (lying : Named) → BlockOn shape r t s lying → saidNamed lying .0 ≡ 0 → lyingOn (layoutOf shape r) t s ≡ lying
+    asked-is : (lying : Named) → BlockOn shape r t s lying → saidNamed lying .0 ≡ 0 → lyingOn (driveOf shape r) t s ≡ lying
     asked-is lying promise accepted =
         sym (promise .answers
-        ∙ answer-accepted (blockOnFault shape r t s) NotNamed (lyingOn (layoutOf shape r) t s) (asked-passes lying promise accepted))
+        ∙ answer-accepted (blockOnFault shape r t s) NotNamed (lyingOn (driveOf shape r) t s) (asked-passes lying promise accepted))
 
     asked-ready : blockOnFault shape r t s ≡ 0 → Ready shape r t
     asked-ready fault = table-ready shape r t (orElse-first (tableFault shape r t) _ fault)
 
-    asked-inside : (fault : blockOnFault shape r t s ≡ 0) → s < layoutOf shape r .tracks * sectorsOf (layoutOf shape r)
+    asked-inside : (fault : blockOnFault shape r t s ≡ 0) → s < driveOf shape r .tracks * sectorsPerTrack (driveOf shape r)
     asked-inside fault =
         sector-within (asked-ready fault .drives) (below-shows (sizeOf shape) s noSuchSector (omega arith) (orElse-next (tableFault shape r t) _ fault))
 
@@ -114,12 +114,12 @@ module _ (shape : Shape) (r : ℕ) (t : List ℕ) where
         let fault : blockOnFault shape r t s ≡ 0 = asked-passes (Block b) promise refl in
         let ready = asked-ready fault in
         let lies = lies-of-lying (ready .laid) t (ready .obeys) s b (asked-inside fault) (asked-is (Block b) promise refl) in
-        let none : blockFault shape r t b ≡ 0 = rw (orElse-first (tableFault shape r t) _ fault, lt-leb (layoutOf shape r .blocks) b (lies .0)) in
+        let none : blockFault shape r t b ≡ 0 = rw (orElse-first (tableFault shape r t) _ fault, lt-leb (driveOf shape r .blocks) b (lies .0)) in
         placed .answers
-        ∙ (answer-accepted (blockFault shape r t b) NotPlaced (At (liesOn (layoutOf shape r) t b)) none ∙ ap At (lies .1))
+        ∙ (answer-accepted (blockFault shape r t b) NotPlaced (At (liesOn (driveOf shape r) t b)) none ∙ ap At (lies .1))
 
     -- "no block" means a home whose block has moved away, or a spare that holds none
-    pub none-is-vacant : BlockOn shape r t s NoBlock → Vacant (layoutOf shape r) t s
+    pub none-is-vacant : BlockOn shape r t s NoBlock → Vacant (driveOf shape r) t s
     none-is-vacant promise =
         let fault : blockOnFault shape r t s ≡ 0 = asked-passes NoBlock promise refl in
         let ready = asked-ready fault in
@@ -127,27 +127,27 @@ module _ (shape : Shape) (r : ℕ) (t : List ℕ) where
 
     -- and for these always
     pub vacant-has-none :
-        tableFault shape r t ≡ 0 → s < sizeOf shape → Vacant (layoutOf shape r) t s → (result : Named) → BlockOn shape r t s result → result ≡ NoBlock
+        tableFault shape r t ≡ 0 → s < sizeOf shape → Vacant (driveOf shape r) t s → (result : Named) → BlockOn shape r t s result → result ≡ NoBlock
     vacant-has-none passes inside vacant result promise =
         let fault : blockOnFault shape r t s ≡ 0 = rw (passes, lt-leb (sizeOf shape) s inside) in
         promise .answers
-        ∙ (answer-accepted (blockOnFault shape r t s) NotNamed (lyingOn (layoutOf shape r) t s) fault
+        ∙ (answer-accepted (blockOnFault shape r t s) NotNamed (lyingOn (driveOf shape r) t s) fault
         ∙ vacant-told (table-ready shape r t passes .laid) t vacant)
 
   -- by cylinder, head and sector: the address that is answered is on the drive and is that of the sector that the block lies on
   pub address-lies :
       (b : ℕ) (address : Address) → AddressOf shape r t b (LocatedAt address) →
       OnDrive shape (address .cylinder) (address .head) (address .sector)
-      × Lies (layoutOf shape r) t b (sectorAt shape (address .cylinder) (address .head) (address .sector))
+      × Resides (driveOf shape r) t b (sectorAt shape (address .cylinder) (address .head) (address .sector))
   address-lies b address promise =
       let none : blockFault shape r t b ≡ 0 = sym (ap (λ (said : ℕ × ℕ × ℕ × ℕ). said .0) (promise .says)) in
       let ready = block-ready shape r t b none in
-      let inside : liesOn (layoutOf shape r) t b < sizeOf shape = rw (drive-whole (ready .drives)) at (lies-below (ready .laid) t (ready .obeys) b (block-below shape r t b none)) in
-      let cylinder : address .cylinder ≡ addressAt shape (liesOn (layoutOf shape r) t b) .cylinder = rw none at (ap (λ (said : ℕ × ℕ × ℕ × ℕ). said .1) (promise .says)) in
-      let head : address .head ≡ addressAt shape (liesOn (layoutOf shape r) t b) .head = rw none at (ap (λ (said : ℕ × ℕ × ℕ × ℕ). said .2) (promise .says)) in
-      let sector : address .sector ≡ addressAt shape (liesOn (layoutOf shape r) t b) .sector = rw none at (ap (λ (said : ℕ × ℕ × ℕ × ℕ). said .3) (promise .says)) in (
+      let inside : liesOn (driveOf shape r) t b < sizeOf shape = rw (drive-whole (ready .drives)) at (lies-below (ready .laid) t (ready .obeys) b (block-below shape r t b none)) in
+      let cylinder : address .cylinder ≡ addressAt shape (liesOn (driveOf shape r) t b) .cylinder = rw none at (ap (λ (said : ℕ × ℕ × ℕ × ℕ). said .1) (promise .says)) in
+      let head : address .head ≡ addressAt shape (liesOn (driveOf shape r) t b) .head = rw none at (ap (λ (said : ℕ × ℕ × ℕ × ℕ). said .2) (promise .says)) in
+      let sector : address .sector ≡ addressAt shape (liesOn (driveOf shape r) t b) .sector = rw none at (ap (λ (said : ℕ × ℕ × ℕ × ℕ). said .3) (promise .says)) in (
         rw (cylinder, head, sector) (address-on-drive (ready .shaped) inside),
-        rw (cylinder, head, sector) (rw (there-and-back (ready .shaped) inside) (lies-shows (layoutOf shape r) t b)),
+        rw (cylinder, head, sector) (rw (there-and-back (ready .shaped) inside) (lies-shows (driveOf shape r) t b)),
       )
 
   -- and that address names the block again
@@ -158,20 +158,20 @@ module _ (shape : Shape) (r : ℕ) (t : List ℕ) where
       let none : blockFault shape r t b ≡ 0 = sym (ap (λ (said : ℕ × ℕ × ℕ × ℕ). said .0) (promise .says)) in
       let ready = block-ready shape r t b none in
       let there = address-lies b address promise in
-      let is : liesOn (layoutOf shape r) t b ≡ sectorAt shape (address .cylinder) (address .head) (address .sector) =
-      lies-only (layoutOf shape r) t b (ready .obeys) (there .1) in
+      let is : liesOn (driveOf shape r) t b ≡ sectorAt shape (address .cylinder) (address .head) (address .sector) =
+      lies-only (driveOf shape r) t b (ready .obeys) (there .1) in
       let fault : blockAtFault shape r t (address .cylinder) (address .head) (address .sector) ≡ 0 =
       rw (orElse-first (tableFault shape r t) _ none, tells-on-drive shape (address .cylinder) (address .head) (address .sector) .told (there .0)) in
       names .answers
       ∙ (answer-accepted (blockAtFault shape r t (address .cylinder) (address .head) (address .sector)) NotNamed
-      (lyingOn (layoutOf shape r) t (sectorAt shape (address .cylinder) (address .head) (address .sector))) fault
-      ∙ (ap (lyingOn (layoutOf shape r) t) (sym is) ∙ lying-of-lies (ready .laid) t b))
+      (lyingOn (driveOf shape r) t (sectorAt shape (address .cylinder) (address .head) (address .sector))) fault
+      ∙ (ap (lyingOn (driveOf shape r) t) (sym is) ∙ lying-of-lies (ready .laid) t b))
 
   -- an accepted replacement alters one descriptor, which was free, and leaves a table that obeys the rules, with every other block where it was
-  pub replacement-alters : (b q : ℕ) (after : List ℕ) → Replacement shape r t b (Place q) after → Altered (layoutOf shape r) t b q after
+  pub replacement-alters : (b q : ℕ) (after : List ℕ) → Replacement shape r t b (Place q) after → Altered (driveOf shape r) t b q after
   replacement-alters b q after promise =
       let accepted : replaceFault shape r t b ≡ 0 = sym (ap (λ (said : ℕ × ℕ). said .0) (promise .says)) in
-      let place : q ≡ spareFor (layoutOf shape r) t b = rw accepted at (ap (λ (said : ℕ × ℕ). said .1) (promise .says)) in
+      let place : q ≡ spareFor (driveOf shape r) t b = rw accepted at (ap (λ (said : ℕ × ℕ). said .1) (promise .says)) in
       rw (place, promise .holds) (replace-alters shape r t b accepted)
 
   -- it is refused for want of a spare only when none is free
@@ -186,22 +186,22 @@ module _ (shape : Shape) (r : ℕ) (t : List ℕ) where
       ap (λ (said : ℕ × ℕ). said .0) (promise .says) ∙ no-spare-told shape r t b none at-home none-free
 
   -- the shift leads from the cylinder of the home to the cylinder that the block lies on, and is less than C to either side
-  pub shift-leads-there : (b : ℕ) (shift : ℤ) → ShiftOf shape r t b (By shift) → Leads (layoutOf shape r) t b (shape .cylinders) shift
+  pub shift-leads-there : (b : ℕ) (shift : ℤ) → ShiftOf shape r t b (By shift) → Leads (driveOf shape r) t b (shape .cylinders) shift
   shift-leads-there b shift promise =
       let none : blockFault shape r t b ≡ 0 = sym (ap (λ (said : ℕ × ℤ). said .0) (promise .says)) in
-      let is : shift ≡ shiftOf (layoutOf shape r) t b = rw none at (ap (λ (said : ℕ × ℤ). said .1) (promise .says)) in
+      let is : shift ≡ shiftOf (driveOf shape r) t b = rw none at (ap (λ (said : ℕ × ℤ). said .1) (promise .says)) in
       rw is (record { leads = leads (block-ready shape r t b none .laid); within = shift-answered shape r t b none })
     where
-      leads : Laid (layoutOf shape r) → pos (homeCylinder (layoutOf shape r) b) +ℤ shiftOf (layoutOf shape r) t b ≡ pos (liesOn (layoutOf shape r) t b / sectorsOf (layoutOf shape r) / shape .heads)
+      leads : Laid (driveOf shape r) → pos (homeCylinder (driveOf shape r) b) +ℤ shiftOf (driveOf shape r) t b ≡ pos (liesOn (driveOf shape r) t b / sectorsPerTrack (driveOf shape r) / shape .heads)
       leads laid =
           byBool (isReplaced t b)
           (λ e.
-          shift-leads (layoutOf shape r) t b (tells-lt (placeOf t b) (length t) .holds e)
+          shift-leads (driveOf shape r) t b (tells-lt (placeOf t b) (length t) .holds e)
           ∙ rw e (rw (spare-track laid (placeOf t b))))
-          (λ e. rw e (rw (home-track laid b) (+ℤ-idr (pos (homeCylinder (layoutOf shape r) b)))))
+          (λ e. rw e (rw (home-track laid b) (+ℤ-idr (pos (homeCylinder (driveOf shape r) b)))))
 
   -- a block that has not moved has shift 0
   pub shift-0-at-home : (b : ℕ) (shift : ℤ) → ShiftOf shape r t b (By shift) → (Replaced t b → ⊥) → shift ≡ pos 0
   shift-0-at-home b shift promise at-home =
       let none : blockFault shape r t b ≡ 0 = sym (ap (λ (said : ℕ × ℤ). said .0) (promise .says)) in
-      rw none at (ap (λ (said : ℕ × ℤ). said .1) (promise .says)) ∙ shift-at-home (layoutOf shape r) t b at-home
+      rw none at (ap (λ (said : ℕ × ℤ). said .1) (promise .says)) ∙ shift-at-home (driveOf shape r) t b at-home

@@ -29,8 +29,8 @@ use Rattle.shape.specs.Addresses.{OnDrive, sectorAt, addressAt}
 use Rattle.shape.proofs.Inverse.{there-and-back, address-on-drive}
 use Rattle.shape.proofs.Exact.{tells-on-drive}
 use Rattle.skip.specs.Skipping.{Lies, place}
-use Rattle.skip.specs.Translation.{blocks, blockFault, sectorFault, blockOn}
-use Rattle.skip.specs.Cursors.{Belongs, skippedBefore, cursorAt, cursorFault, stepFault}
+use Rattle.skip.specs.Translation.{blocks, sectorOfFault, blockOnFault, blockOn}
+use Rattle.skip.specs.Cursors.{Belongs, skippedBefore, cursorAt, checkFault, stepFault}
 use Rattle.skip.specs.Promises.{SectorOf, BlockOn, Starts, Steps}
 use Rattle.skip.specs.declared.Cursor.{Cursor}
 use Rattle.skip.specs.declared.Job.{Job}
@@ -39,7 +39,7 @@ use Rattle.skip.proofs.Lying.{Somewhere, somewhere, lies-one-unit, lies-one-blo
 use Rattle.skip.proofs.Walks.{goods-are-blocks}
 use Rattle.skip.proofs.Shown.{block-proper, block-below}
 use Rattle.skip.proofs.Cursoring.{tells-belongs, step-fresh, step-block, step-refused}
-use Rattle.skipped.specs.Drive.{driveFault, blockFault as skippedBlockFault, placeFault as skippedPlaceFault}
+use Rattle.skipped.specs.Drive.{skippedFault, addressOfFault as skippedBlockFault, blockAtFault as skippedPlaceFault}
 use Rattle.skipped.specs.Promises.{AddressOf, BlockAt}
 use Rattle.skipped.proofs.Shown.{drive-shaped, drive-proper, block-drive, block-below as skipped-block-below}
 use Rattle.demands.specs.Mission.{Onward}
@@ -48,7 +48,7 @@ module _ (n : ℕ) (a : List ℕ) where
   -- a sector that is answered is the one that the block lies on
   pub answered-lies : (b s : ℕ) → SectorOf n a b (At s) → Lies (isIn a) n b s
   answered-lies b s promise =
-      let passes : blockFault n a b ≡ 0 = sym (ap (λ (said : ℕ × ℕ). said .0) (promise .says)) in
+      let passes : sectorOfFault n a b ≡ 0 = sym (ap (λ (said : ℕ × ℕ). said .0) (promise .says)) in
       let here : s ≡ place (isIn a) n b = rw passes at (ap (λ (said : ℕ × ℕ). said .1) (promise .says)) in
       let proper : Proper n a = block-proper n a b passes in
       rw here (place-lies (isIn a) n b (rw (goods-are-blocks n a (proper .rising) (proper .inside)) (block-below n a b passes)))
@@ -76,27 +76,27 @@ module _ (n : ℕ) (a : List ℕ) where
     -- where N and the list pass, the sector that a block lies on is answered
     pub lies-answered : (b s : ℕ) → Lies (isIn a) n b s → (result : Placed) → SectorOf n a b result → result ≡ At s
     lies-answered b s lies result promise =
-        let passes : blockFault n a b ≡ 0 = rw (space-passes, lt-leb (blocks n a) b (no-other-block b s lies)) in
-        promise .answers ∙ (answer-accepted (blockFault n a b) NotPlaced (At (place (isIn a) n b)) passes ∙ ap At (lies-place (isIn a) n b s lies))
+        let passes : sectorOfFault n a b ≡ 0 = rw (space-passes, lt-leb (blocks n a) b (no-other-block b s lies)) in
+        promise .answers ∙ (answer-accepted (sectorOfFault n a b) NotPlaced (At (place (isIn a) n b)) passes ∙ ap At (lies-place (isIn a) n b s lies))
 
     -- the sector of a block names that block again
     pub sector-names-block : (b s : ℕ) → Lies (isIn a) n b s → (result : Named) → BlockOn n a s result → result ≡ Block b
     sector-names-block b s lies result promise =
-        let passes : sectorFault n a s ≡ 0 = rw (space-passes, lt-leb n s (lies .inside)) in
+        let passes : blockOnFault n a s ≡ 0 = rw (space-passes, lt-leb n s (lies .inside)) in
         promise .answers
-        ∙ (answer-accepted (sectorFault n a s) NotNamed (blockOn a s) passes ∙ (rw (lies .good) (ap Block (lies .before))))
+        ∙ (answer-accepted (blockOnFault n a s) NotNamed (blockOn a s) passes ∙ (rw (lies .good) (ap Block (lies .before))))
 
     -- and a sector that is in the list, no block
     pub bad-sector-names-none : (s : ℕ) → s < n → isIn a s ≡ true → (result : Named) → BlockOn n a s result → result ≡ NoBlock
     bad-sector-names-none s inside bad result promise =
-        let passes : sectorFault n a s ≡ 0 = rw (space-passes, lt-leb n s inside) in
-        promise .answers ∙ (answer-accepted (sectorFault n a s) NotNamed (blockOn a s) passes ∙ rw bad)
+        let passes : blockOnFault n a s ≡ 0 = rw (space-passes, lt-leb n s inside) in
+        promise .answers ∙ (answer-accepted (blockOnFault n a s) NotNamed (blockOn a s) passes ∙ rw bad)
 
 module _ (n : ℕ) (a : List ℕ) where
   -- a block that is named lies on the sector
   pub named-lies : (b s : ℕ) → BlockOn n a s (Block b) → Lies (isIn a) n b s
   named-lies b s promise =
-      let passes : sectorFault n a s ≡ 0 = sym (ap (λ (said : ℕ × ℕ × ℕ). said .0) (promise .says)) in
+      let passes : blockOnFault n a s ≡ 0 = sym (ap (λ (said : ℕ × ℕ × ℕ). said .0) (promise .says)) in
       byBool (isIn a s)
       (λ bad. absurd (omega (arith, rw (passes, bad) at (ap (λ (said : ℕ × ℕ × ℕ). said .1) (promise .says)))))
       (λ good.
@@ -109,7 +109,7 @@ module _ (n : ℕ) (a : List ℕ) where
   -- no block is answered for a sector of the list alone
   pub none-is-bad : (s : ℕ) → BlockOn n a s NoBlock → isIn a s ≡ true
   none-is-bad s promise =
-      let passes : sectorFault n a s ≡ 0 = sym (ap (λ (said : ℕ × ℕ × ℕ). said .0) (promise .says)) in
+      let passes : blockOnFault n a s ≡ 0 = sym (ap (λ (said : ℕ × ℕ × ℕ). said .0) (promise .says)) in
       byBool (isIn a s)
       (λ bad. bad)
       (λ good. absurd (omega (arith, rw (passes, good) at (ap (λ (said : ℕ × ℕ × ℕ). said .1) (promise .says)))))
@@ -117,7 +117,7 @@ module _ (n : ℕ) (a : List ℕ) where
   -- the job cursor: a start that is accepted gives the cursor of its block, which belongs
   pub started-belongs : (b : ℕ) (c : Cursor) → Starts n a b (Ready c) → (c .block ≡ b) × Belongs n a c
   started-belongs b c promise =
-      let passes : blockFault n a b ≡ 0 = sym (ap (λ (said : ℕ × ℕ × ℕ × ℕ). said .0) (promise .says)) in
+      let passes : sectorOfFault n a b ≡ 0 = sym (ap (λ (said : ℕ × ℕ × ℕ × ℕ). said .0) (promise .says)) in
       let block : c .block ≡ b = rw passes at (ap (λ (said : ℕ × ℕ × ℕ × ℕ). said .2) (promise .says)) in
       let count : c .skipped ≡ skippedBefore n a b = rw passes at (ap (λ (said : ℕ × ℕ × ℕ × ℕ). said .3) (promise .says)) in
       (block, record { within = omega (arith, block, block-below n a b passes); counts = rw block count })
@@ -139,7 +139,7 @@ module _ (n : ℕ) (a : List ℕ) where
       )
 
   module _ (size : Within 1 unitsMost n) (proper : Proper n a) where
-    cursor-passes : (c : Cursor) → Belongs n a c → cursorFault n a c ≡ 0
+    cursor-passes : (c : Cursor) → Belongs n a c → checkFault n a c ≡ 0
     cursor-passes c belongs = rw (space-passes n a size proper, tells-belongs n a c .told belongs)
 
     -- a cursor of this list steps on until the last block
@@ -166,7 +166,7 @@ module _ (shape : Shape) (a : List ℕ) where
       × Lies (isIn a) (sizeOf shape) b (sectorAt shape (address .cylinder) (address .head) (address .sector))
   address-lies b address promise =
       let passes : skippedBlockFault shape a b ≡ 0 = sym (ap (λ (said : ℕ × ℕ × ℕ × ℕ). said .0) (promise .says)) in
-      let drive : driveFault shape a ≡ 0 = block-drive shape a b passes in
+      let drive : skippedFault shape a ≡ 0 = block-drive shape a b passes in
       let proper : Proper (sizeOf shape) a = drive-proper shape a drive in
       let lies : Lies (isIn a) (sizeOf shape) b (place (isIn a) (sizeOf shape) b) =
       place-lies (isIn a) (sizeOf shape) b (rw (goods-are-blocks (sizeOf shape) a (proper .rising) (proper .inside)) (skipped-block-below shape a b passes)) in

@@ -9,8 +9,9 @@ use native.Mathlib.Omega.{arith}
 use lib.ListN.{length, take}
 use borrow.Author.Tests.{le-ltb}
 use Rattle.paper.proofs.Chain.{orElse-first, answer-accepted}
-use Rattle.lists.specs.Union.{isIn, union, written}
-use Rattle.skip.specs.Skipping.{goodsBefore, Lies, place, sectorsOf}
+use Rattle.lists.specs.Union.{isIn, union}
+use Rattle.paper.specs.Promise.{written}
+use Rattle.skip.specs.Skipping.{goodsBefore, Lies, place, sectorsOfBlocks}
 use Rattle.skip.specs.Translation.{blocks}
 use Rattle.skip.proofs.Lying.{lies-place, lies-below, place-lies}
 use Rattle.skip.proofs.Walks.{goods-are-blocks}
@@ -64,7 +65,7 @@ module _ (n : ℕ) (p g : List ℕ) (space option : ℕ) (night : ScanNight spac
           let rising-d = d-rising n p g space option d (scans space option night) plan-none in
           let inside-d = d-inside n p g space option d (scans space option night) plan-none in
           ap (λ (l : List ℕ). goodsBefore (isIn l) n) (new-is ∙ list-is n p g space option d (scans space option night) plan-none)
-          ∙ (goods-are-blocks n (union used (sectorsOf n used d)) (rising-night n used rising inside d rising-d inside-d) (inside-night n used rising inside d rising-d inside-d)
+          ∙ (goods-are-blocks n (union used (sectorsOfBlocks n used d)) (rising-night n used rising inside d rising-d inside-d) (inside-night n used rising inside d rising-d inside-d)
           ∙ (night-blocks n used rising inside d rising-d inside-d ∙ sym (goods-are-blocks (blocks n used) d rising-d inside-d)))
 
       used-goods : goodsBefore (isIn used) n ≡ blocks n used

@@ -13,38 +13,38 @@ use Rattle.paper.proofs.Kept.{gives, fills}
 use Rattle.words.specs.Words.{bytes16, bytes32, bytesOf, word16At}
 use Rattle.seek.specs.Count.{countBelow}
 use Rattle.seek.specs.Every.{allBelow}
-use Rattle.seek.specs.First.{firstBelow, firstFault}
+use Rattle.seek.specs.First.{firstBelow, faultBelow}
 use Rattle.seek.specs.Search.{firstOr, rising}
 use Rattle.lists.specs.Proper.{listFault}
-use Rattle.lists.specs.Union.{isIn, written}
+use Rattle.lists.specs.Union.{isIn}
+use Rattle.paper.specs.Promise.{written}
 use Rattle.shape.specs.declared.Shape.{Shape}
 use Rattle.shape.specs.Shapes.{sizeOf}
 use Rattle.skip.specs.Skipping.{goodsBefore, place}
 use Rattle.skip.specs.Walk.{passes, walked}
-use Rattle.skip.specs.Translation.{blockFault, sectorFault}
+use Rattle.skip.specs.Translation.{sectorOfFault, blockOnFault}
 use Rattle.skip.proofs.Shown.{block-walk}
 use Rattle.format.specs.declared.Formatted.the-variants.{Done}
 use Rattle.format.specs.Spaces.{newGrown, newList, newSpace, planFault, formatFault}
 use Rattle.format.proofs.Answering.{format-done}
 use Rattle.format.proofs.Named.{scan-grown, scan-list, scan-accepted}
-use Rattle.layout.specs.Layouts.{layoutOf, driveFault}
+use Rattle.layout.specs.Layouts.{driveOf, driveFault}
 use Rattle.table.specs.Rules.{tableFault, tableLength}
 use Rattle.table.specs.Lookup.{placeOf, liesOn}
 use Rattle.order.specs.Order.{outward}
 use Rattle.replacing.specs.Replacing.{spareFor}
 use Rattle.replacing.specs.Counting.{censusOf}
 use Rattle.marking.specs.Marks.{passing, badSpares, badHomes, marked}
-use Rattle.first.specs.First.{replacedAll, firstTable, spareFault, firstFault as startFault}
+use Rattle.first.specs.First.{replacedAll, firstTable, spareFault, firstTableFault as startFault}
 use Rattle.first.proofs.Says.{spares-judge}
 use Rattle.spares.specs.Spares as Spares
 use Rattle.spares.specs.Promises.{tableAfter}
-use Rattle.spares.proofs.Says.{replaced-says, shifted-says, counted-says, lying-says}
-use Rattle.image.specs.Code.{wordsOf, rotated, stepped, codeFrom, codeOf, carried}
+use Rattle.image.specs.Code.{wordsOf, rotated, codeAfter, codeFrom, dataCode, carried}
 use Rattle.image.specs.Image.{storedIn, imageOf, imageIn, writeFault}
 use Rattle.image.proofs.Exact.{length-passes}
 use Rattle.demands.specs.Mission.{AllowsOnly}
 use Rattle.demands.specs.Inputs.{chart, small, noneReplaced, afterSeven, afterEight, afterSix}
-use Rattle.demands.specs.Rows.{skip-sector, skip-block, format, spare-first, spare-replace, image-write, Holds, AllHold, done, _also_, zeros, firstOne, lastOne, rows}
+use Rattle.demands.specs.Rows.{skip-sector, skip-block, format, spare-first, spare-replace, image-write, Holds, AllHold, done, _also_, zeros, firstOne, lastOne, paperRows}
 
 module _ {Answer Said : Type 0} {said : Answer → Said} {stated : Answer} {numbers : Said} (says : said stated ≡ numbers) where
   -- a promise that is kept by the answer it states allows what holds of every answer that it allows, and nothing else
@@ -67,17 +67,17 @@ module _ {Answer Said : Type 0} {said : Answer → Said} {stated : Answer} {numb
       }
 
 -- a block that passes its checks lies where the walk ends
-block-walked : (n : ℕ) (list : List ℕ) (block : ℕ) {sector : ℕ} → blockFault n list block ≡ 0 → walked list block ≡ sector → Holds (skip-sector n list block (0, sector))
+block-walked : (n : ℕ) (list : List ℕ) (block : ℕ) {sector : ℕ} → sectorOfFault n list block ≡ 0 → walked list block ≡ sector → Holds (skip-sector n list block (0, sector))
 block-walked n list block none ends =
-    allows (placed-says (blockFault n list block) (place (isIn list) n block)) (rw (none, ← block-walk n list block none, ends))
+    allows (placed-says (sectorOfFault n list block) (place (isIn list) n block)) (rw (none, ← block-walk n list block none, ends))
 
 -- a block that does not pass is refused
-block-refused : (n : ℕ) (list : List ℕ) (block : ℕ) {fault : ℕ} → blockFault n list block ≡ suc fault → Holds (skip-sector n list block (suc fault, 0))
-block-refused n list block some = allows (placed-says (blockFault n list block) (place (isIn list) n block)) (rw some)
+block-refused : (n : ℕ) (list : List ℕ) (block : ℕ) {fault : ℕ} → sectorOfFault n list block ≡ suc fault → Holds (skip-sector n list block (suc fault, 0))
+block-refused n list block some = allows (placed-says (sectorOfFault n list block) (place (isIn list) n block)) (rw some)
 
 -- no block lies on a sector of the list
-sector-listed : (n : ℕ) (list : List ℕ) (sector : ℕ) → sectorFault n list sector ≡ 0 → isIn list sector ≡ true → Holds (skip-block n list sector (0, 0, 0))
-sector-listed n list sector none listed = allows (named-says (sectorFault n list sector) (isIn list sector) (goodsBefore (isIn list) sector)) (rw (none, listed))
+sector-listed : (n : ℕ) (list : List ℕ) (sector : ℕ) → blockOnFault n list sector ≡ 0 → isIn list sector ≡ true → Holds (skip-block n list sector (0, 0, 0))
+sector-listed n list sector none listed = allows (named-says (blockOnFault n list sector) (isIn list sector) (goodsBefore (isIn list) sector)) (rw (none, listed))
 
 -- a Format that passes its checks, in rooms that are long enough
 plan-formatted :
@@ -100,20 +100,20 @@ plan-formatted n p g space option d {grown} {list} passed grows lists first seco
 module _ (shape : Shape) (r : ℕ) where
   -- a first table whose drive and list pass and that has spares enough, in a room that is long enough
   table-built :
-      (list : List ℕ) {table : List ℕ} → driveFault shape r ≡ 0 → listFault (sizeOf shape) list ≡ 0 → spareFault (layoutOf shape r) list ≡ 0 →
-      firstTable (layoutOf shape r) list ≡ table → length table ≡ tableLength (layoutOf shape r) → Holds (spare-first shape r list table)
+      (list : List ℕ) {table : List ℕ} → driveFault shape r ≡ 0 → listFault (sizeOf shape) list ≡ 0 → spareFault (driveOf shape r) list ≡ 0 →
+      firstTable (driveOf shape r) list ≡ table → length table ≡ tableLength (driveOf shape r) → Holds (spare-first shape r list table)
   table-built list {table} drive entries enough built long room fits =
       let none : startFault shape r list room ≡ 0 = spares-judge shape r list room drive entries (rw long at fits) ∙ enough in
-      allows-room (written-says (startFault shape r list room) (tableLength (layoutOf shape r))) (rw (none, long))
+      allows-room (written-says (startFault shape r list room) (tableLength (driveOf shape r))) (rw (none, long))
       (λ held. held ≡ written table room)
       (rw (none, built))
 
   -- a replacement that passes its checks
   spare-taken :
       (table : List ℕ) (block : ℕ) {spare : ℕ} {after : List ℕ} → Spares.replaceFault shape r table block ≡ 0 →
-      spareFor (layoutOf shape r) table block ≡ spare → tableAfter shape r table block ≡ after → Holds (spare-replace shape r table block spare after)
+      spareFor (driveOf shape r) table block ≡ spare → tableAfter shape r table block ≡ after → Holds (spare-replace shape r table block spare after)
   spare-taken table block {spare} {after} none found stored =
-      allows-room (replaced-says (Spares.replaceFault shape r table block) (spareFor (layoutOf shape r) table block)) (rw (none, found)) (λ held. held ≡ after) stored
+      allows-room (replaced-says (Spares.replaceFault shape r table block) (spareFor (driveOf shape r) table block)) (rw (none, found)) (λ held. held ≡ after) stored
 
 -- an image of data of the right length, in a room that is long enough
 code-carried :
@@ -126,8 +126,8 @@ code-carried forced bytes {code} long stored number room fits =
     (rw none (stored number room))
 
 -- every row of the paper's table
-pub numbers-to-try : AllHold rows
-unfolding firstFault passes isIn countBelow allBelow firstBelow firstOr rising placeOf outward passing badSpares badHomes marked replacedAll bytes16 bytes32 bytesOf word16At wordsOf rotated stepped codeFrom codeOf carried storedIn imageOf imageIn
+pub numbers-to-try : AllHold paperRows
+unfolding faultBelow passes isIn countBelow allBelow firstBelow firstOr rising placeOf outward passing badSpares badHomes marked replacedAll bytes16 bytes32 bytesOf word16At wordsOf rotated codeAfter codeFrom dataCode carried storedIn imageOf imageIn
 numbers-to-try =
     block-walked 848 chart 3 refl refl
     also block-walked 848 chart 57 refl refl
@@ -142,10 +142,10 @@ numbers-to-try =
     also spare-taken small 2 noneReplaced 7 refl refl refl
     also spare-taken small 2 afterSeven 8 refl refl refl
     also spare-taken small 2 afterEight 6 refl refl refl
-    also allows (shifted-says (Spares.blockFault small 2 afterSix 6) (Spares.shiftOf (layoutOf small 2) afterSix 6)) refl
-    also allows (placed-says (Spares.blockFault small 2 afterSix 6) (liesOn (layoutOf small 2) afterSix 6)) refl
-    also allows (lying-says (Spares.blockOnFault small 2 afterSix 9) (layoutOf small 2) afterSix 9) refl
-    also allows (lying-says (Spares.blockOnFault small 2 afterSix 10) (layoutOf small 2) afterSix 10) refl
+    also allows (shifted-says (Spares.blockFault small 2 afterSix 6) (Spares.shiftOf (driveOf small 2) afterSix 6)) refl
+    also allows (placed-says (Spares.blockFault small 2 afterSix 6) (liesOn (driveOf small 2) afterSix 6)) refl
+    also allows (lying-says (Spares.blockOnFault small 2 afterSix 9) (driveOf small 2) afterSix 9) refl
+    also allows (lying-says (Spares.blockOnFault small 2 afterSix 10) (driveOf small 2) afterSix 10) refl
     also allows (counted-says (tableFault small 2 afterSix) (censusOf afterSix)) refl
     also code-carried false zeros refl (λ number room. refl)
     also code-carried false firstOne refl (λ number room. refl)

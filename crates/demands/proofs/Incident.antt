@@ -19,7 +19,7 @@ use Rattle.seek.specs.Every.{allBelow}
 use Rattle.seek.specs.First.{firstBelow}
 use Rattle.seek.specs.Search.{firstOr, rising}
 use Rattle.shape.specs.declared.Shape.{Shape}
-use Rattle.layout.specs.Layouts.{layoutOf, homeCylinder, spareCylinder}
+use Rattle.layout.specs.Layouts.{driveOf, homeCylinder, spareCylinder}
 use Rattle.layout.specs.Descriptors.{Names}
 use Rattle.table.specs.Rules.{tableFault}
 use Rattle.table.specs.Lookup.{placeOf, Replaced, isReplaced}
@@ -33,16 +33,14 @@ use Rattle.spares.specs.Spares.{shiftOf, blockFault, replaceFault}
 use Rattle.spares.specs.Promises.{Replacement, replaced}
 use Rattle.spares.proofs.Accepted.{replace-block, after-passes}
 use Rattle.spares.proofs.Exact.{block-ready}
-use Rattle.spares.proofs.Says.{shifted-says}
 use Rattle.spares.proofs.Shifts.{shift-replaced, shift-leads}
 use Rattle.image.specs.declared.Verdict.{Verdict}
 use Rattle.image.specs.Image.{imageOf, writeFault}
 use Rattle.image.specs.Promises.{Lends, Write}
 use Rattle.image.proofs.Exact.{write-shows}
-use Rattle.image.proofs.Says.{verdict-says}
 use Rattle.image.proofs.ThereAndBack.{room-image}
 use Rattle.reading.specs.Tracks.{on-spare, sectorIn, bytesIn, dataStart, imageAt, headerFor}
-use Rattle.reading.specs.Faults.{lentFault, readFault}
+use Rattle.reading.specs.Faults.{lentFault, blockReadFault}
 use Rattle.reading.specs.Promises.{Data, Judge}
 use Rattle.reading.proofs.Alike.{home-unread, verdict-alike, part-alike}
 use Rattle.reading.proofs.Parts.{refused-empty, accepted-data}
@@ -77,18 +75,18 @@ module _ (shape : Shape) (r : ℕ) (t : List ℕ) (b q : ℕ) (passed : blockFau
   its-place : placeOf t b ≡ q
   its-place = replaced-place (block-ready shape r t b passed .obeys) is-named
 
-  its-sector : sectorIn (layoutOf shape r) t b ≡ layoutOf shape r .home + q % r
-  its-sector = seated-only (layoutOf shape r) t b {Track = ℕ} 0 1 (block-ready shape r t b passed .obeys) (on-spare q in-table named) .1
+  its-sector : sectorIn (driveOf shape r) t b ≡ driveOf shape r .home + q % r
+  its-sector = seated-only (driveOf shape r) t b {Track = ℕ} 0 1 (block-ready shape r t b passed .obeys) (on-spare q in-table named) .1
 
-  its-shift : shiftOf (layoutOf shape r) t b ≡ pos (spareCylinder (layoutOf shape r) q) -ℤ pos (homeCylinder (layoutOf shape r) b)
-  its-shift = shift-replaced (layoutOf shape r) t b (rw its-place in-table) ∙ rw its-place
+  its-shift : shiftOf (driveOf shape r) t b ≡ pos (spareCylinder (driveOf shape r) q) -ℤ pos (homeCylinder (driveOf shape r) b)
+  its-shift = shift-replaced (driveOf shape r) t b (rw its-place in-table) ∙ rw its-place
 
-  shift-goes : pos (homeCylinder (layoutOf shape r) b) +ℤ shiftOf (layoutOf shape r) t b ≡ pos (spareCylinder (layoutOf shape r) q)
-  shift-goes = shift-leads (layoutOf shape r) t b (rw its-place in-table) ∙ rw its-place
+  shift-goes : pos (homeCylinder (driveOf shape r) b) +ℤ shiftOf (driveOf shape r) t b ≡ pos (spareCylinder (driveOf shape r) q)
+  shift-goes = shift-leads (driveOf shape r) t b (rw its-place in-table) ∙ rw its-place
 
   -- a part that is handed back without fault: the spare's bytes, where they lie
   part-lent :
-      (home spare part : RefT (List ℕ)) → Data shape r t b home spare part → readFault dataSize shape r t b (home .now) (spare .now) ≡ 0 →
+      (home spare part : RefT (List ℕ)) → Data shape r t b home spare part → blockReadFault dataSize shape r t b (home .now) (spare .now) ≡ 0 →
       Lends spare (spareData shape r q) (take dataSize (drop (spareData shape r q) (spare .now))) part
   part-lent home spare part given-part none =
       record {
@@ -102,7 +100,7 @@ module _ (shape : Shape) (r : ℕ) (t : List ℕ) (b q : ℕ) (passed : blockFau
       (home spare part : RefT (List ℕ)) → Data shape r t b home spare part → (part .now ≡ [] → ⊥) →
       Lends spare (spareData shape r q) (take dataSize (drop (spareData shape r q) (spare .now))) part
   part-filled home spare part given-part filled =
-      byFault (readFault dataSize shape r t b (home .now) (spare .now))
+      byFault (blockReadFault dataSize shape r t b (home .now) (spare .now))
       (λ none. part-lent home spare part given-part none)
       (λ some. absurd (filled (refused-empty dataSize shape r t b home spare part given-part some)))
 
@@ -144,11 +142,11 @@ module _ (shape : Shape) (r : ℕ) (t : List ℕ) (b q : ℕ) (passed : blockFau
       (h : Bytes bytes)
       (stands : imageFrom (spareStart shape r q) (spare .now) ≡ imageOf b bytes false)
     where
-      held : imageAt dataSize (spareStart shape r q) (spare .now) ≡ imageOf (headerFor (layoutOf shape r) t b) bytes false
+      held : imageAt dataSize (spareStart shape r q) (spare .now) ≡ imageOf (headerFor (driveOf shape r) t b) bytes false
       unfolding imageAt headerFor
       held = stands
 
-      read-passes : readFault dataSize shape r t b (home .now) (spare .now) ≡ 0
+      read-passes : blockReadFault dataSize shape r t b (home .now) (spare .now) ≡ 0
       read-passes =
           good-read dataSize shape r t b bytes long h (lent-passes (home .now) (spare .now) whole whole′) (on-spare q in-table named) held
 
@@ -160,22 +158,22 @@ module _ (shape : Shape) (r : ℕ) (t : List ℕ) (b q : ℕ) (passed : blockFau
           }
 
   -- where a place names the block, reads are safe, and the shift is the difference of the cylinders
-  pub named-safe : Safe shape r t b q (pos (spareCylinder (layoutOf shape r) q) -ℤ pos (homeCylinder (layoutOf shape r) b))
+  pub named-safe : Safe shape r t b q (pos (spareCylinder (driveOf shape r) q) -ℤ pos (homeCylinder (driveOf shape r) b))
   named-safe =
       record {
-        answers = allows (shifted-says (blockFault shape r t b) (shiftOf (layoutOf shape r) t b)) (rw (passed, its-shift));
+        answers = allows (shifted-says (blockFault shape r t b) (shiftOf (driveOf shape r) t b)) (rw (passed, its-shift));
         leads = rw its-shift at shift-goes;
         spots = λ home spare.
-            allows-where (spot-says (readFault dataSize shape r t b home spare) (isReplaced t b) (dataStart dataSize (layoutOf shape r) t b))
+            allows-where (spot-says (blockReadFault dataSize shape r t b home spare) (isReplaced t b) (dataStart dataSize (driveOf shape r) t b))
             (λ answer given-spot none.
-            let passes : readFault dataSize shape r t b home spare ≡ 0 = sym (ap (λ (numbers : ℕ × ℕ × ℕ). numbers .0) (given-spot .says)) ∙ none in
+            let passes : blockReadFault dataSize shape r t b home spare ≡ 0 = sym (ap (λ (numbers : ℕ × ℕ × ℕ). numbers .0) (given-spot .says)) ∙ none in
             given-spot .says ∙ rw (passes, is-replaced, its-sector));
         lends = λ home spare. allows-part (part-filled home spare);
         same-part = part-unread;
         same-verdict = verdict-unread;
         gives-back = λ home spare bytes whole whole′ long h stands.
             record {
-              accepted = allows (verdict-says (readFault dataSize shape r t b (home .now) (spare .now))) (read-passes home spare bytes whole whole′ long h stands);
+              accepted = allows (verdict-says (blockReadFault dataSize shape r t b (home .now) (spare .now))) (read-passes home spare bytes whole whole′ long h stands);
               bytes-lent = allows-part (data-lent home spare bytes whole whole′ long h stands);
             };
       }
@@ -190,7 +188,7 @@ module _ (shape : Shape) (r : ℕ) (t : List ℕ) (b q : ℕ) (after : List ℕ)
   passes : replaceFault shape r t b ≡ 0
   passes = sym (ap (λ (numbers : ℕ × ℕ). numbers .0) (replacement .says))
 
-  altered : Altered (layoutOf shape r) t b q after
+  altered : Altered (driveOf shape r) t b q after
   altered = replacement-alters shape r t b q after replacement
 
   block-passes : blockFault shape r after b ≡ 0
@@ -200,12 +198,12 @@ module _ (shape : Shape) (r : ℕ) (t : List ℕ) (b q : ℕ) (after : List ℕ)
       rw table (orElse-next (tableFault shape r t) _ before)
 
   -- reads of a replaced block are safe, and the shift leads from its home's cylinder to its spare's
-  pub replaced-safe : Safe shape r after b q (pos (spareCylinder (layoutOf shape r) q) -ℤ pos (homeCylinder (layoutOf shape r) b))
+  pub replaced-safe : Safe shape r after b q (pos (spareCylinder (driveOf shape r) q) -ℤ pos (homeCylinder (driveOf shape r) b))
   replaced-safe = named-safe shape r after b q block-passes (rw (altered .same-length) (altered .in-table)) (altered .names-block)
 
   -- the incident: the spare lies one cylinder nearer to cylinder 0 than the block's home
-  pub outward-safe : spareCylinder (layoutOf shape r) q + 1 ≡ homeCylinder (layoutOf shape r) b → Safe shape r after b q (negsuc 0)
-  outward-safe outward = rw (one-less (spareCylinder (layoutOf shape r) q) (homeCylinder (layoutOf shape r) b) outward) at replaced-safe
+  pub outward-safe : spareCylinder (driveOf shape r) q + 1 ≡ homeCylinder (driveOf shape r) b → Safe shape r after b q (negsuc 0)
+  outward-safe outward = rw (one-less (spareCylinder (driveOf shape r) q) (homeCylinder (driveOf shape r) b) outward) at replaced-safe
 
 -- where reads are safe, data that was written on the spare comes back
 module _

@@ -8,7 +8,7 @@ use lib.ListN.{length, getD}
 use borrow.Author.Tests.{le-leb, lt-leb}
 use Rattle.paper.specs.Limits.{listMost}
 use Rattle.paper.specs.Refusals.{notRising, outside}
-use Rattle.seek.specs.First.{firstFault}
+use Rattle.seek.specs.First.{faultBelow}
 use Rattle.lists.specs.Proper.{listFault}
 use Rattle.lists.proofs.Unions.{union-holds}
 use Rattle.skip.specs.Translation.{blocks}
@@ -23,11 +23,11 @@ both-faults-come-late n a i falls strays = omega (arith, falls, strays)
 
 -- the lowest place decides: over a space of n, the list n, 0 is refused 4, and 0, 0, n is refused 3
 pub outside-first : (n : ℕ) → listFault n (n ∷ 0 ∷ []) ≡ outside
-unfolding firstFault
+unfolding faultBelow
 outside-first n = rw (le-leb n n (omega arith))
 
 pub not-rising-first : (n : ℕ) → listFault (suc n) (0 ∷ 0 ∷ suc n ∷ []) ≡ notRising
-unfolding firstFault
+unfolding faultBelow
 not-rising-first n = rw (lt-leb (suc n) 0 (omega arith))
 
 -- a cursor of no blocks: where every sector is bad, block 0 with count 0 belongs

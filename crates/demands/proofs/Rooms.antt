@@ -8,7 +8,7 @@ use lib.ListN.{length, take, drop}
 use lib.Seq.{take-at, drop-at}
 use Rattle.paper.specs.Limits.{dataSize, imageExtra}
 use Rattle.paper.specs.declared.Written.the-variants.{Length}
-use Rattle.lists.specs.Union.{written}
+use Rattle.paper.specs.Promise.{written}
 use Rattle.page.specs.Layout.{kindOf, unitsOf, entriesOf}
 use Rattle.page.specs.Pages.{readFault, writeFault, pageBytes}
 use Rattle.page.specs.Promises.{Reads, Writes}
@@ -18,8 +18,8 @@ use Rattle.format.specs.Spaces.{formatFault, newGrown, newList, newSpace}
 use Rattle.format.specs.Promises.{Formats}
 use Rattle.format.specs.declared.Formatted.the-variants.{Done}
 use Rattle.shape.specs.declared.Shape.{Shape}
-use Rattle.layout.specs.Layouts.{layoutOf}
-use Rattle.first.specs.First.{firstTable, firstFault, Starts}
+use Rattle.layout.specs.Layouts.{driveOf}
+use Rattle.first.specs.First.{firstTable, firstTableFault, IsFirstTable}
 use Rattle.first.specs.Promises.{FirstTable}
 use Rattle.first.proofs.Exact.{first-made}
 use Rattle.image.specs.Image.{imageOf, writeFault as imageWriteFault}
@@ -78,12 +78,12 @@ format-hands n p g space option d grown list grownLong listLong spaceAfter grown
 -- `spares::first_table` hands back the first table
 pub first-table-hands :
     (shape : Shape) (r : ℕ) (list room : List ℕ) (long : ℕ) (after : List ℕ) → FirstTable shape r list room (Length long) after →
-    Handed (firstTable (layoutOf shape r) list) room long after × Starts (layoutOf shape r) list (take long after)
+    Handed (firstTable (driveOf shape r) list) room long after × IsFirstTable (driveOf shape r) list (take long after)
 first-table-hands shape r list room long after promise =
-    let passes : firstFault shape r list room ≡ 0 = sym (ap (λ (said : ℕ × ℕ). said .0) (promise .says)) in
-    let starts : Starts (layoutOf shape r) list (firstTable (layoutOf shape r) list) = first-made shape r list room passes in
-    let hands : Handed (firstTable (layoutOf shape r) list) room long after =
-    handed (firstTable (layoutOf shape r) list) room long after
+    let passes : firstTableFault shape r list room ≡ 0 = sym (ap (λ (said : ℕ × ℕ). said .0) (promise .says)) in
+    let starts : IsFirstTable (driveOf shape r) list (firstTable (driveOf shape r) list) = first-made shape r list room passes in
+    let hands : Handed (firstTable (driveOf shape r) list) room long after =
+    handed (firstTable (driveOf shape r) list) room long after
     (rw (starts .obeys .long) (rw passes at (ap (λ (said : ℕ × ℕ). said .1) (promise .says))))
     (rw passes at (promise .holds)) in
     (hands, rw (hands .first) starts)

@@ -13,14 +13,14 @@ use Rattle.paper.specs.Refusals.{forcedError}
 use Rattle.paper.specs.declared.Written.{Written}
 use Rattle.paper.specs.declared.Written.the-variants.{Length}
 use Rattle.words.specs.Words.{Bytes}
-use Rattle.lists.specs.Union.{written}
+use Rattle.paper.specs.Promise.{written}
 use Rattle.page.specs.Promises.{Reads, Writes}
 use Rattle.page.specs.declared.Paged.{Paged}
 use Rattle.page.specs.declared.Paged.the-variants.{Page}
 use Rattle.page.proofs.Back.{write-then-read, read-then-write}
-use Rattle.image.specs.Code.{codeOf}
+use Rattle.image.specs.Code.{dataCode}
 use Rattle.image.specs.Image.{headerSize, imageOf}
-use Rattle.image.specs.Judged.{SectorJudged}
+use Rattle.image.specs.Judged.{ContentsJudged}
 use Rattle.image.specs.Promises.{Write, Header, Judge, Data}
 use Rattle.image.specs.declared.Head.{Head}
 use Rattle.image.specs.declared.Head.the-variants.{Number}
@@ -84,7 +84,7 @@ module _ (number : ℕ) (bytes : List ℕ) (fits : number < 2 ^ 32) (are-bytes :
 -- one changed bit changes the code
 pub changed-bit-changes-code :
     (bytes : List ℕ) → Bytes bytes → length bytes ≡ dataSize → (k bit : ℕ) → bit < 8 → k < dataSize →
-    codeOf (set bytes k (bitXor (getD bytes k 0) (2 ^ bit))) ≡ codeOf bytes → ⊥
+    dataCode (set bytes k (bitXor (getD bytes k 0) (2 ^ bit))) ≡ dataCode bytes → ⊥
 changed-bit-changes-code bytes are-bytes long k bit low inside = one-bit 256 bytes are-bytes long k bit low (rw long inside)
 
 -- so a good image of which a data byte is changed is good no more
@@ -95,5 +95,5 @@ changed-data-not-good image number k byte are-bytes inside low apart good again 
     changed-byte dataSize image k byte inside number 256 refl are-bytes low apart (sym (good .says)) (sym (again .says))
 
 -- an image has one verdict
-pub one-verdict : (image : List ℕ) (number j k : ℕ) → SectorJudged dataSize image number j → SectorJudged dataSize image number k → j ≡ k
+pub one-verdict : (image : List ℕ) (number j k : ℕ) → ContentsJudged dataSize image number j → ContentsJudged dataSize image number k → j ≡ k
 one-verdict image number j k = sector-one image dataSize number j k

@@ -17,14 +17,14 @@ use Rattle.paper.specs.Refusals.{outside, noSpare, forcedError, badCode}
 use Rattle.paper.specs.declared.Placed.the-variants.{At}
 use Rattle.seek.specs.Count.{countBelow}
 use Rattle.seek.specs.Every.{allBelow}
-use Rattle.seek.specs.First.{firstBelow, firstFault}
+use Rattle.seek.specs.First.{firstBelow, faultBelow}
 use Rattle.seek.specs.Search.{firstOr, rising}
 use Rattle.words.specs.Words.{bytes32, bytesOf, word16At, word32At, entriesAt}
 use Rattle.words.proofs.Stores.{part-sets}
 use Rattle.lists.specs.Union.{isIn, into, union}
 use Rattle.skip.specs.Skipping.{Lies, goodsBefore, place}
 use Rattle.skip.specs.Walk.{entriesBelow}
-use Rattle.skip.specs.Translation.{blockFault, SectorOfJudged}
+use Rattle.skip.specs.Translation.{sectorOfFault, SectorOfJudged}
 use Rattle.skip.specs.Cursors.{cursorAt, stepped}
 use Rattle.skip.proofs.Lying.{lies-one-block}
 use Rattle.skip.proofs.Composition.{place-after}
@@ -33,7 +33,7 @@ use Rattle.page.specs.Layout.{entriesOf, laidOut}
 use Rattle.page.specs.declared.Paged.the-variants.{Page, Refused as NotPaged}
 use Rattle.format.specs.Spaces.{newGrown, newList}
 use Rattle.format.specs.declared.Formatted.the-variants.{Done}
-use Rattle.layout.specs.Layouts.{layoutOf}
+use Rattle.layout.specs.Layouts.{driveOf}
 use Rattle.layout.specs.Descriptors.{free, codeOf}
 use Rattle.table.specs.Rules.{tableFault}
 use Rattle.table.specs.Lookup as Table
@@ -50,7 +50,7 @@ use Rattle.spares.specs.declared.Counted.the-variants.{Counts as CountedAs}
 use Rattle.spares.proofs.Exact.{table-ready, replace-exactly}
 use Rattle.image.specs.Code as Code
 use Rattle.image.specs.Code.{wordsOf, rotated, codeFrom}
-use Rattle.image.specs.Image.{headerSize, times, alike, copies, headerOf, storedIn, foundIn, dataOf, imageOf, addressFault, sectorFault, imageFault}
+use Rattle.image.specs.Image.{headerSize, times, alike, copies, headerOf, storedIn, foundIn, dataOf, imageOf, copiesFault, contentsFault, imageFault}
 use Rattle.image.specs.Judged.{ImageJudged}
 use Rattle.image.specs.declared.Verdict.the-variants.{Refused as NotGood}
 use Rattle.image.proofs.Exact.{judge-exactly}
@@ -71,12 +71,12 @@ no-other : {Rows : ℕ → Type 0} {number k : ℕ} → Exactly Rows number → 
 no-other {k = k} exactly other judged = other (exactly .only k judged)
 
 -- N 6, list 0, 1, 2: nothing is wrong with blocks 0 and 1
-zero-passes : blockFault 6 few 0 ≡ 0
-unfolding firstFault
+zero-passes : sectorOfFault 6 few 0 ≡ 0
+unfolding faultBelow
 zero-passes = refl
 
-one-passes : blockFault 6 few 1 ≡ 0
-unfolding firstFault
+one-passes : sectorOfFault 6 few 1 ≡ 0
+unfolding faultBelow
 one-passes = refl
 
 -- refuses all: no row gives its number, and number 0 would be no refusal
@@ -113,22 +113,22 @@ pub same-spare-shared :
     (s : ℕ) →
     (sameSpare s small 2 noneReplaced 0 ≡ At s)
     × (sameSpare s small 2 noneReplaced 1 ≡ At s)
-    × (Table.Lies (layoutOf small 2) noneReplaced 0 s → Table.Lies (layoutOf small 2) noneReplaced 1 s → ⊥)
+    × (Table.Lies (driveOf small 2) noneReplaced 0 s → Table.Lies (driveOf small 2) noneReplaced 1 s → ⊥)
 same-spare-shared s = (rw noneReplaced-passes, rw noneReplaced-passes, shared)
   where
-    shared : Table.Lies (layoutOf small 2) noneReplaced 0 s → Table.Lies (layoutOf small 2) noneReplaced 1 s → ⊥
+    shared : Table.Lies (driveOf small 2) noneReplaced 0 s → Table.Lies (driveOf small 2) noneReplaced 1 s → ⊥
     shared first second =
         let ready = table-ready small 2 noneReplaced noneReplaced-passes in
-        let same = lies-only (layoutOf small 2) noneReplaced 0 (ready .obeys) first ∙ sym (lies-only (layoutOf small 2) noneReplaced 1 (ready .obeys) second) in
+        let same = lies-only (driveOf small 2) noneReplaced 0 (ready .obeys) first ∙ sym (lies-only (driveOf small 2) noneReplaced 1 (ready .obeys) second) in
         let clash : _≡_ {A = ℕ} 0 1 = lies-apart (ready .laid) noneReplaced 0 1 same in
         omega arith
 
 -- a replacement that leaves the table: it answers the right place, and of no place is the descriptor altered
-pub leaves-table-unaltered : (leavesTable small 2 noneReplaced 7 ≡ (Place 4, noneReplaced)) × ((q : ℕ) → Altered (layoutOf small 2) noneReplaced 7 q noneReplaced → ⊥)
+pub leaves-table-unaltered : (leavesTable small 2 noneReplaced 7 ≡ (Place 4, noneReplaced)) × ((q : ℕ) → Altered (driveOf small 2) noneReplaced 7 q noneReplaced → ⊥)
 unfolding allBelow placeOf firstBelow firstOr outward rising
 leaves-table-unaltered = (refl, unaltered)
   where
-    unaltered : (q : ℕ) → Altered (layoutOf small 2) noneReplaced 7 q noneReplaced → ⊥
+    unaltered : (q : ℕ) → Altered (driveOf small 2) noneReplaced 7 q noneReplaced → ⊥
     unaltered q altered =
         ⊎-elim
         (λ at-primary. omega (arith, altered .was-free, at-primary))
@@ -137,16 +137,16 @@ leaves-table-unaltered = (refl, unaltered)
 
 -- a cursor that runs ahead is not that of the next block after its first step, and after its second neither
 pub runs-ahead-first : Onward 6 few (cursorAfter (runsAhead 6 few) 0 opened) (cursorAfter (runsAhead 6 few) 1 opened) → ⊥
-unfolding cursorAfter firstFault
+unfolding cursorAfter faultBelow
 runs-ahead-first onward = omega (arith, onward .follows)
 
 pub runs-ahead-second : Onward 6 few (cursorAfter (runsAhead 6 few) 1 opened) (cursorAfter (runsAhead 6 few) 2 opened) → ⊥
-unfolding cursorAfter firstFault place firstBelow goodsBefore countBelow isIn entriesBelow
+unfolding cursorAfter faultBelow place firstBelow goodsBefore countBelow isIn entriesBelow
 runs-ahead-second onward = omega (arith, onward .follows)
 
 -- however often it steps, it passes over block 1, which lies on sector 4, and answers block 2 again and again
 pub runs-ahead-sectors : (steps : ℕ) → sectorsAfter (runsAhead 6 few) (suc steps) opened ≡ 3 ∷ replicate steps 5
-unfolding sectorsAfter firstFault place firstBelow goodsBefore countBelow isIn entriesBelow
+unfolding sectorsAfter faultBelow place firstBelow goodsBefore countBelow isIn entriesBelow
 runs-ahead-sectors steps = ap (λ (l : List ℕ). 3 ∷ l) (repeats steps)
   where
     repeats : (steps : ℕ) → sectorsAfter (runsAhead 6 few) steps (cursorAt 6 few 2) ≡ replicate steps 5
@@ -155,7 +155,7 @@ runs-ahead-sectors steps = ap (λ (l : List ℕ). 3 ∷ l) (repeats steps)
 
 -- the steps that are promised answer the blocks one after another
 pub promised-sectors : sectorsAfter (stepped 6 few) 3 opened ≡ 3 ∷ 4 ∷ 5 ∷ []
-unfolding sectorsAfter firstFault place firstBelow goodsBefore countBelow isIn entriesBelow
+unfolding sectorsAfter faultBelow place firstBelow goodsBefore countBelow isIn entriesBelow
 promised-sectors = refl
 
 -- lengths made up: the paper's page has two entries, and any other number is not the length of its list
@@ -163,7 +163,7 @@ pub made-up-entries :
     (count : ℕ) → (count ≡ 2 → ⊥) →
     (madeUpEntries count (pageWith 7) lent .0 ≡ Page 0 20 count)
     × (Handed (entriesOf (pageWith 7)) lent count (madeUpEntries count (pageWith 7) lent .1) → ⊥)
-unfolding laidOut word32At entriesAt firstFault
+unfolding laidOut word32At entriesAt faultBelow
 made-up-entries count other = (refl, λ handed. other (handed .long-as))
 
 -- the paper's night gives lists of two and four, and of any other lengths one is not its list's
@@ -172,7 +172,7 @@ pub made-up-lengths :
     (madeUpLengths long other 20 made [] 3 1 scan lent lent .0 ≡ Done long other 3)
     × (Handed (newGrown 20 made [] 3 1 scan) lent long (madeUpLengths long other 20 made [] 3 1 scan lent lent .1) →
     Handed (newList 20 made [] 3 1 scan) lent other (madeUpLengths long other 20 made [] 3 1 scan lent lent .2) → ⊥)
-unfolding countBelow firstBelow firstFault isIn into union goodsBefore place
+unfolding countBelow firstBelow faultBelow isIn into union goodsBefore place
 made-up-lengths long other wrong = (refl, λ grown list. wrong (grown .long-as, list .long-as))
 
 -- a census made up: five places are free, one is afterSix at its primary, two elsewhere, none is unusable and 120 are null
@@ -219,32 +219,32 @@ on-bad isBad lies = true≢false (sym isBad ∙ lies .good)
 
 -- so demand 3 is stated over demand 2's map, and the identity breaks demand 2: it answers sector 0, which is bad
 pub skips-nothing-on-bad : (skipsNothing 6 few 0 ≡ At 0) × (Lies (isIn few) 6 0 0 → ⊥)
-unfolding isIn firstFault
+unfolding isIn faultBelow
 skips-nothing-on-bad = (refl, on-bad refl)
 
 -- the entries at or below the block added once: sector 1 is bad, and so is sector 60 of the chart
 pub adds-once-on-bad : (addsOnce 6 few 0 ≡ At 1) × (Lies (isIn few) 6 0 1 → ⊥)
-unfolding isIn firstFault entriesBelow
+unfolding isIn faultBelow entriesBelow
 adds-once-on-bad = (refl, on-bad refl)
 
 pub adds-once-on-bad-chart : (addsOnce 848 chart 58 ≡ At 60) × (Lies (isIn chart) 848 58 60 → ⊥)
-unfolding isIn firstFault entriesBelow
+unfolding isIn faultBelow entriesBelow
 adds-once-on-bad-chart = (refl, on-bad refl)
 
 -- D taken as sectors: the new list is 3, 7, 16, and new block 15 lies on 18, where you arrive at 19
 pub takes-sectors-strays :
     (takesSectors 20 made [] 3 1 scan lent lent ≡ (Done 2 3 3, 3 ∷ 16 ∷ 0 ∷ 0 ∷ [], 3 ∷ 7 ∷ 16 ∷ 0 ∷ []))
     × (Arrives 20 made scan (3 ∷ 7 ∷ 16 ∷ []) 15 → ⊥)
-unfolding countBelow firstBelow firstFault isIn into union goodsBefore place
+unfolding countBelow firstBelow faultBelow isIn into union goodsBefore place
 takes-sectors-strays = (refl, λ arrives. omega (arith, arrives))
 
 -- a shift kept unsigned: block 6 lies one cylinder nearer to cylinder 0, and 0 does not lead there
-pub truncated-shift-leads-not : (truncatedShift small 2 afterSix 6 ≡ By (pos 0)) × (Leads (layoutOf small 2) afterSix 6 2 (pos 0) → ⊥)
+pub truncated-shift-leads-not : (truncatedShift small 2 afterSix 6 ≡ By (pos 0)) × (Leads (driveOf small 2) afterSix 6 2 (pos 0) → ⊥)
 unfolding allBelow placeOf firstBelow
 truncated-shift-leads-not = (refl, λ shift. let same : pos 1 ≡ pos 0 = shift .leads in let clash : _≡_ {A = ℕ} 0 1 = cc in omega arith)
 
 -- and 2 to the 32 less 1 is not within 1 − C to C − 1
-pub wrapped-shift-not-within : (wrappedShift small 2 afterSix 6 ≡ By (pos 4294967295)) × (Leads (layoutOf small 2) afterSix 6 2 (pos 4294967295) → ⊥)
+pub wrapped-shift-not-within : (wrappedShift small 2 afterSix 6 ≡ By (pos 4294967295)) × (Leads (driveOf small 2) afterSix 6 2 (pos 4294967295) → ⊥)
 unfolding allBelow placeOf firstBelow
 wrapped-shift-not-within = (refl, λ shift. omega (arith, shift .within))
 
@@ -261,16 +261,16 @@ stops-search-unjudged = (refl, refl, no-other (replace-exactly small 2 begun 2) 
 
 -- entries written early: the last entry, 20, is not below N, and the room does not hold what it held
 pub writes-early-keeps-not : (writesEarly (pageWith 20) lent ≡ (NotPaged outside, 3 ∷ 20 ∷ 0 ∷ 0 ∷ [])) × (Keeps outside lent (3 ∷ 20 ∷ 0 ∷ 0 ∷ []) → ⊥)
-unfolding laidOut word32At entriesAt firstFault
+unfolding laidOut word32At entriesAt faultBelow
 writes-early-keeps-not = (refl, λ keeps. omega (arith, ap (λ (l : List ℕ). getD l 0 0) (keeps (λ none. omega arith))))
 
 -- every mismatch taken for a forced error: the code is neither, and no row gives 17
 damaged-fault : imageFault dataSize damaged 6 ≡ badCode
-unfolding damaged imageFault sectorFault addressFault headerOf times alike copies storedIn foundIn dataOf Code.codeOf codeFrom Code.stepped rotated wordsOf bytesOf bytes32 word16At word32At entriesAt
+unfolding damaged imageFault contentsFault copiesFault headerOf times alike copies storedIn foundIn dataOf Code.codeOf codeFrom Code.stepped rotated wordsOf bytesOf bytes32 word16At word32At entriesAt
 damaged-fault = refl
 
 pub every-forced-unjudged : (everyForced damaged 6 ≡ NotGood forcedError) × (ImageJudged dataSize damaged 6 forcedError → ⊥)
-unfolding damaged addressFault headerOf times alike copies storedIn foundIn dataOf Code.codeOf codeFrom Code.stepped rotated wordsOf bytesOf bytes32 word16At word32At entriesAt
+unfolding damaged copiesFault headerOf times alike copies storedIn foundIn dataOf Code.codeOf codeFrom Code.stepped rotated wordsOf bytesOf bytes32 word16At word32At entriesAt
 every-forced-unjudged =
     (refl, no-other (judge-exactly damaged dataSize 6) (λ same. let clash : badCode ≡ forcedError = sym damaged-fault ∙ same in omega arith))
 
@@ -299,7 +299,7 @@ newer-long : length newer ≡ dataSize
 newer-long = length-replicate {A = ℕ} 512 1
 
 -- block 6 lies on sector 4 of the second track
-six-on-spare : {Track : Type 0} (home spare : Track) → Seated (layoutOf small 2) afterSix 6 home spare spare 4
+six-on-spare : {Track : Type 0} (home spare : Track) → Seated (driveOf small 2) afterSix 6 home spare spare 4
 six-on-spare home spare = on-spare 3 (omega arith) (inr refl, refl)
 
 in-spare-holds :
@@ -317,7 +317,7 @@ module _ (home spare : RefT (List ℕ)) (home-is : home .now ≡ trackWith 0 old
   spare-holds : imageAt dataSize (bytesIn dataSize 4) (spare .now) ≡ imageOf 6 newer false
   spare-holds = rw spare-is (track-holds 4 newer (omega arith) newer-long)
 
-  home-good : sectorFault dataSize (homeImage small 2 6 (home .now)) 6 ≡ 0
+  home-good : contentsFault dataSize (homeImage small 2 6 (home .now)) 6 ≡ 0
   home-good = rw home-holds (rw older-long at (written-good 6 older (omega arith) (replicate-below 512 0 (omega arith) (omega arith))))
 
   home-handed : readsHome small 2 afterSix 6 home spare .now ≡ older

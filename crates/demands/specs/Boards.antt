@@ -15,11 +15,12 @@ use Rattle.paper.specs.declared.Placed.{Placed}
 use Rattle.paper.specs.declared.Placed.the-variants.{At, Refused as NotPlaced}
 use Rattle.seek.specs.Search.{firstOr, rising}
 use Rattle.words.specs.Words.{bytesOf}
-use Rattle.lists.specs.Union.{isIn, union, written}
+use Rattle.lists.specs.Union.{isIn, union}
+use Rattle.paper.specs.Promise.{written}
 use Rattle.shape.specs.declared.Shape.{Shape}
 use Rattle.skip.specs.Skipping.{goodsBefore, place, after}
 use Rattle.skip.specs.Walk.{entriesBelow}
-use Rattle.skip.specs.Translation.{blocks, blockFault}
+use Rattle.skip.specs.Translation.{blocks, sectorOfFault}
 use Rattle.skip.specs.Cursors.{cursorAt, stepFault}
 use Rattle.skip.specs.Promises.{saidJob, handedBack}
 use Rattle.skip.specs.declared.Cursor.{Cursor}
@@ -34,8 +35,8 @@ use Rattle.format.specs.Options.{add, grownBy}
 use Rattle.format.specs.Spaces.{listOf, newGrown, newList, newSpace, formatFault}
 use Rattle.format.specs.declared.Formatted.{Formatted}
 use Rattle.format.specs.declared.Formatted.the-variants.{Done, Refused as NotFormatted}
-use Rattle.layout.specs.declared.Layout.{Layout}
-use Rattle.layout.specs.Layouts.{layoutOf, homeCylinder, spareCylinder}
+use Rattle.layout.specs.declared.Drive.{Drive}
+use Rattle.layout.specs.Layouts.{driveOf, homeCylinder, spareCylinder}
 use Rattle.layout.specs.Descriptors.{primary}
 use Rattle.table.specs.Rules.{tableFault}
 use Rattle.table.specs.Lookup.{placeOf, isReplaced}
@@ -50,7 +51,7 @@ use Rattle.spares.specs.declared.Shifted.{Shifted}
 use Rattle.spares.specs.declared.Shifted.the-variants.{By, Refused as NotShifted}
 use Rattle.spares.specs.declared.Counted.{Counted}
 use Rattle.spares.specs.declared.Counted.the-variants.{Counts, Refused as NotCounted}
-use Rattle.image.specs.Image.{copiesMade, headerSize, headerOf, storedIn, foundIn, dataOf, imageOf, lengthFault, addressFault, sectorFault}
+use Rattle.image.specs.Image.{copiesMade, headerSize, headerOf, storedIn, foundIn, dataOf, imageOf, lengthFault, copiesFault, contentsFault}
 use Rattle.image.specs.declared.Verdict.{Verdict}
 use Rattle.image.specs.declared.Verdict.the-variants.{Good, Refused as NotGood}
 use Rattle.reading.specs.Tracks.{bytesIn, imageAt}
@@ -112,15 +113,15 @@ refusesAll k n a b = NotPlaced k
 
 -- skip::sector_of: one sector for all blocks
 abbrev pub sameSector : ℕ → ℕ → List ℕ → ℕ → Placed
-sameSector s n a b = answer (blockFault n a b) NotPlaced (At s)
+sameSector s n a b = answer (sectorOfFault n a b) NotPlaced (At s)
 
 -- skip::sector_of: counts the entries up to the block once, and does not look again from where that leads
 abbrev pub addsOnce : ℕ → List ℕ → ℕ → Placed
-addsOnce n a b = answer (blockFault n a b) NotPlaced (At (b + entriesBelow a (suc b)))
+addsOnce n a b = answer (sectorOfFault n a b) NotPlaced (At (b + entriesBelow a (suc b)))
 
 -- skip::sector_of: skips nothing
 abbrev pub skipsNothing : ℕ → List ℕ → ℕ → Placed
-skipsNothing n a b = answer (blockFault n a b) NotPlaced (At b)
+skipsNothing n a b = answer (sectorOfFault n a b) NotPlaced (At b)
 
 -- Cursor::step: goes on by two blocks at block 0, and then stays
 abbrev pub runsAhead : ℕ → List ℕ → Cursor → Job
@@ -197,7 +198,7 @@ stoppedOrder places p =
     ++ (rising (blockStart p + tableBlock) (places - (blockStart p + tableBlock)) ++ rising 0 (blockStart p))
 
 -- the spare that it finds
-abbrev pub stoppedSpare : Layout → List ℕ → ℕ → ℕ
+abbrev pub stoppedSpare : Drive → List ℕ → ℕ → ℕ
 stoppedSpare g t b = firstOr (length t) (freeAt t) (stoppedOrder (length t) (primary g b))
 
 -- checks 1, 11, 5, 12, 13 with it
@@ -205,14 +206,14 @@ abbrev pub stoppedFault : Shape → ℕ → List ℕ → ℕ → ℕ
 stoppedFault shape r t b =
     spareBlockFault shape r t b
     orElse refuse (isReplaced t b) alreadyReplaced
-    orElse refuse (leb (length t) (stoppedSpare (layoutOf shape r) t b)) noSpare
+    orElse refuse (leb (length t) (stoppedSpare (driveOf shape r) t b)) noSpare
 
 -- spares::replace: searches in that order
 abbrev pub stopsSearch : Shape → ℕ → List ℕ → ℕ → Replaced × List ℕ
 stopsSearch shape r t b = (
-  answer (stoppedFault shape r t b) NotReplaced (Place (stoppedSpare (layoutOf shape r) t b)),
+  answer (stoppedFault shape r t b) NotReplaced (Place (stoppedSpare (driveOf shape r) t b)),
   answer (stoppedFault shape r t b) (λ fault. t)
-      (set t (stoppedSpare (layoutOf shape r) t b) (descriptorAt (layoutOf shape r) (stoppedSpare (layoutOf shape r) t b) b)),
+      (set t (stoppedSpare (driveOf shape r) t b) (descriptorAt (driveOf shape r) (stoppedSpare (driveOf shape r) t b) b)),
 )
 
 -- spares::census: any census
@@ -228,13 +229,13 @@ censusWith free primary elsewhere unusable null =
 abbrev pub truncatedShift : Shape → ℕ → List ℕ → ℕ → Shifted
 truncatedShift shape r t b =
     answer (spareBlockFault shape r t b) NotShifted
-    (By (pick (isReplaced t b) (pos (spareCylinder (layoutOf shape r) (placeOf t b) - homeCylinder (layoutOf shape r) b)) (pos 0)))
+    (By (pick (isReplaced t b) (pos (spareCylinder (driveOf shape r) (placeOf t b) - homeCylinder (driveOf shape r) b)) (pos 0)))
 
 -- spares::shift: a difference of 32 bits without a sign
 abbrev pub wrappedShift : Shape → ℕ → List ℕ → ℕ → Shifted
 wrappedShift shape r t b =
     answer (spareBlockFault shape r t b) NotShifted
-    (By (pick (isReplaced t b) (pos ((2 ^ 32 + spareCylinder (layoutOf shape r) (placeOf t b) - homeCylinder (layoutOf shape r) b) % 2 ^ 32)) (pos 0)))
+    (By (pick (isReplaced t b) (pos ((2 ^ 32 + spareCylinder (driveOf shape r) (placeOf t b) - homeCylinder (driveOf shape r) b) % 2 ^ 32)) (pos 0)))
 
 -- Boards for images.
 
@@ -243,7 +244,7 @@ abbrev pub everyForced : List ℕ → ℕ → Verdict
 everyForced image number =
     answer
     (lengthFault (dataSize + imageExtra) image
-    orElse (addressFault image
+    orElse (copiesFault image
     orElse (refuse (not (eqb (headerOf image) number)) otherBlock
     orElse refuse (not (eqb (storedIn dataSize image) (foundIn dataSize image))) forcedError)))
     NotGood Good
@@ -254,12 +255,12 @@ partAt bytes at held = record { ptr = (bytes .ptr .0, at + bytes .ptr .1); name 
 
 -- the sector image at a block's home
 abbrev pub homeImage : Shape → ℕ → ℕ → List ℕ → List ℕ
-homeImage shape r b home = imageAt dataSize (bytesIn dataSize (b % layoutOf shape r .home)) home
+homeImage shape r b home = imageAt dataSize (bytesIn dataSize (b % driveOf shape r .home)) home
 
 -- reading::data: looks at home for every block
 abbrev pub readsHome : Shape → ℕ → List ℕ → ℕ → RefT (List ℕ) → RefT (List ℕ) → RefT (List ℕ)
 readsHome shape r t b home spare =
     answer
-    (lentFault dataSize shape r t b (home .now) (spare .now) orElse sectorFault dataSize (homeImage shape r b (home .now)) b)
+    (lentFault dataSize shape r t b (home .now) (spare .now) orElse contentsFault dataSize (homeImage shape r b (home .now)) b)
     (λ fault. partAt home 0 [])
-    (partAt home (bytesIn dataSize (b % layoutOf shape r .home) + headerSize) (dataOf dataSize (homeImage shape r b (home .now))))
+    (partAt home (bytesIn dataSize (b % driveOf shape r .home) + headerSize) (dataOf dataSize (homeImage shape r b (home .now))))

@@ -9,7 +9,7 @@ use denote.Ref.{RefT}
 use Rattle.paper.specs.Limits.{dataSize, imageExtra}
 use Rattle.words.specs.Words.{Bytes}
 use Rattle.shape.specs.declared.Shape.{Shape}
-use Rattle.layout.specs.Layouts.{layoutOf, homeCylinder, spareCylinder}
+use Rattle.layout.specs.Layouts.{driveOf, homeCylinder, spareCylinder}
 use Rattle.spares.specs.Promises.{ShiftOf, saidShifted}
 use Rattle.image.specs.declared.Verdict.{Verdict}
 use Rattle.image.specs.Image.{headerSize, imageOf}
@@ -20,7 +20,7 @@ use Rattle.demands.specs.Mission.{AllowsOnly}
 
 -- where the sector image of spare q starts in the image of its track: the spare's sector there, l + q mod r, times 530
 abbrev pub spareStart : Shape → ℕ → ℕ → ℕ
-spareStart shape r q = bytesIn dataSize (layoutOf shape r .home + q % r)
+spareStart shape r q = bytesIn dataSize (driveOf shape r .home + q % r)
 
 -- where its data begins: 16 bytes further
 abbrev pub spareData : Shape → ℕ → ℕ → ℕ
@@ -49,7 +49,7 @@ pub record Safe (shape : Shape) (r : ℕ) (t : List ℕ) (b q : ℕ) (shift : �
   -- the shift that is answered is this one, with its sign
   pub answers : AllowsOnly (ShiftOf shape r t b) (λ answer. saidShifted answer ≡ (0, shift))
   -- it leads from the cylinder of the block's home to that of the spare
-  pub leads : pos (homeCylinder (layoutOf shape r) b) +ℤ shift ≡ pos (spareCylinder (layoutOf shape r) q)
+  pub leads : pos (homeCylinder (driveOf shape r) b) +ℤ shift ≡ pos (spareCylinder (driveOf shape r) q)
   -- a spot that is answered is in the second image, where the spare's data begins
   pub spots :
       (home spare : List ℕ) →

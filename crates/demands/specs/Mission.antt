@@ -11,8 +11,8 @@ use Rattle.skip.specs.Skipping.{place}
 use Rattle.skip.specs.Translation.{blocks}
 use Rattle.skip.specs.Cursors.{Belongs}
 use Rattle.skip.specs.declared.Cursor.{Cursor}
-use Rattle.layout.specs.declared.Layout.{Layout}
-use Rattle.layout.specs.Layouts.{sectorsOf, homeCylinder}
+use Rattle.layout.specs.declared.Drive.{Drive}
+use Rattle.layout.specs.Layouts.{sectorsPerTrack, homeCylinder}
 use Rattle.layout.specs.Descriptors.{free, atPrimary, elsewhere, unusable, null}
 use Rattle.table.specs.Lookup.{liesOn}
 use Rattle.replacing.specs.Counting.{codeCount}
@@ -47,8 +47,8 @@ pub record Onward (n : ℕ) (a : List ℕ) (c next : Cursor) : Type 0 where
   pub belongs : Belongs n a next
 
 -- a shift leads from the cylinder of a block's home to the cylinder that it lies on, and is less than C to either side
-pub record Leads (g : Layout) (t : List ℕ) (b cylinders : ℕ) (shift : ℤ) : Type 0 where
-  pub leads : pos (homeCylinder g b) +ℤ shift ≡ pos (liesOn g t b / sectorsOf g / g .heads)
+pub record Leads (g : Drive) (t : List ℕ) (b cylinders : ℕ) (shift : ℤ) : Type 0 where
+  pub leads : pos (homeCylinder g b) +ℤ shift ≡ pos (liesOn g t b / sectorsPerTrack g / g .heads)
   pub within : natAbs shift < cylinders
 
 -- a census counts each code of the table

@@ -1,4 +1,4 @@
--- Document 01, "Numbers to try": those that are marked P, as the rows of one table, and what it is for a row to hold.
+-- Document 01, "Numbers to try": those that are marked P, as the paperRows of one table, and what it is for a row to hold.
 use Prim.Native.Nat.{ℕ, _+_, _≤_}
 use mathlib.Core.Path.{_≡_}
 use mathlib.Core.Bool.{Bool, true, false}
@@ -8,7 +8,7 @@ use lib.ListN.{length, replicate}
 use Rattle.paper.specs.Answers.{saidPlaced, saidNamed, saidWritten}
 use Rattle.paper.specs.Limits.{dataSize, imageExtra}
 use Rattle.paper.specs.declared.Written.{Written}
-use Rattle.lists.specs.Union.{written}
+use Rattle.paper.specs.Promise.{written}
 use Rattle.shape.specs.declared.Shape.{Shape}
 use Rattle.skip.specs.Promises as Skip
 use Rattle.format.specs.declared.Formatted.{Formatted}
@@ -89,8 +89,8 @@ abbrev pub lastOne : List ℕ
 lastOne = replicate 511 0 ++ (1 ∷ [])
 
 -- the table, in the paper's order
-abbrev pub rows : List Row
-rows =
+abbrev pub paperRows : List Row
+paperRows =
     -- the chart's blocks 3, 57, 58 and 843
     skip-sector 848 chart 3 (0, 4)
     ∷ skip-sector 848 chart 57 (0, 59)

@@ -8,8 +8,8 @@ use native.Mathlib.Omega.{arith}
 use lib.ListN.{length, getD, drop}
 use Rattle.paper.proofs.Cases.{byBool}
 use Rattle.lists.specs.Proper.{Proper}
-use Rattle.layout.specs.declared.Layout.{Layout}
-use Rattle.layout.specs.Layouts.{Laid, sectorsOf}
+use Rattle.layout.specs.declared.Drive.{Drive}
+use Rattle.layout.specs.Layouts.{Laid, sectorsPerTrack}
 use Rattle.layout.specs.Descriptors.{free}
 use Rattle.replacing.specs.Replacing.{replacedIn}
 use Rattle.replacing.specs.Counting.{codeCount}
@@ -17,17 +17,17 @@ use Rattle.marking.specs.Sides.{isHome, blockAt}
 use Rattle.marking.specs.Marks.{badHomes}
 use Rattle.marking.proofs.Entries.{walk-here, walk-next, walk-over}
 use Rattle.marking.proofs.Bads.{homesAlong, homes-along}
-use Rattle.first.specs.First.{replacedAll, replacedAlso, Ready}
+use Rattle.first.specs.First.{replacedAll, replacedAlso, Replaceable}
 use Rattle.first.proofs.Replacings.{all-none, all-next, ready-next}
 
 -- the table up to a place of the list
-pub record Along (g : Layout) (list before table : List ℕ) (i : ℕ) : Type 0 where
+pub record Along (drive : Drive) (list before table : List ℕ) (i : ℕ) : Type 0 where
   pub within : i ≤ length list
-  pub ready : Ready g table (homesAlong g (drop i list))
-  pub left : replacedAll g before (badHomes g list) ≡ replacedAll g table (homesAlong g (drop i list))
+  pub ready : Replaceable drive table (homesAlong drive (drop i list))
+  pub left : replacedAll drive before (badHomes drive list) ≡ replacedAll drive table (homesAlong drive (drop i list))
 
-module _ {g : Layout} (laid : Laid g) {list : List ℕ} (proper : Proper (g .tracks * sectorsOf g) list) {before : List ℕ} where
-  pub along-none : Ready g before (badHomes g list) → Along g list before before 0
+module _ {drive : Drive} (laid : Laid drive) {list : List ℕ} (proper : Proper (drive .tracks * sectorsPerTrack drive) list) {before : List ℕ} where
+  pub along-none : Replaceable drive before (badHomes drive list) → Along drive list before before 0
   along-none ready =
       record {
         within = omega arith;
@@ -35,30 +35,30 @@ module _ {g : Layout} (laid : Laid g) {list : List ℕ} (proper : Proper (g .tra
         left = rw (homes-along laid proper);
       }
 
-  module _ {table : List ℕ} {i : ℕ} (along : Along g list before table i) where
+  module _ {table : List ℕ} {i : ℕ} (along : Along drive list before table i) where
     -- there is a spare for a home block that stands next
-    pub along-free : i < length list → isHome g (getD list i 0) ≡ true → 0 < codeCount table free
-    along-free h e = omega (arith, along .ready .enough, ap length (walk-here (isHome g) (blockAt g) list i h e))
+    pub along-free : i < length list → isHome drive (getD list i 0) ≡ true → 0 < codeCount table free
+    along-free h e = omega (arith, along .ready .enough, ap length (walk-here (isHome drive) (blockAt drive) list i h e))
 
     home-next :
-        (rest : List ℕ) (b : ℕ) → homesAlong g (drop i list) ≡ b ∷ rest →
-        Ready g (replacedIn g table b) rest × (replacedAll g before (badHomes g list) ≡ replacedAll g (replacedIn g table b) rest)
-    home-next rest b next = (ready-next laid (rw next at (along .ready)), along .left ∙ ap (replacedAll g table) next ∙ all-next g table b rest)
+        (rest : List ℕ) (b : ℕ) → homesAlong drive (drop i list) ≡ b ∷ rest →
+        Replaceable drive (replacedIn drive table b) rest × (replacedAll drive before (badHomes drive list) ≡ replacedAll drive (replacedIn drive table b) rest)
+    home-next rest b next = (ready-next laid (rw next at (along .ready)), along .left ∙ ap (replacedAll drive table) next ∙ all-next drive table b rest)
 
-    pub along-more : i < length list → Along g list before (replacedAlso g (getD list i 0) table) (i + 1)
+    pub along-more : i < length list → Along drive list before (replacedAlso drive (getD list i 0) table) (i + 1)
     along-more h =
-        byBool (isHome g (getD list i 0))
+        byBool (isHome drive (getD list i 0))
         (λ e.
-        let next = home-next (homesAlong g (drop (i + 1) list)) (blockAt g (getD list i 0)) (walk-here (isHome g) (blockAt g) list i h e) in
+        let next = home-next (homesAlong drive (drop (i + 1) list)) (blockAt drive (getD list i 0)) (walk-here (isHome drive) (blockAt drive) list i h e) in
         rw e (record { within = omega arith; ready = next .0; left = next .1 }))
         (λ e.
-        let next : homesAlong g (drop i list) ≡ homesAlong g (drop (i + 1) list) = walk-next (isHome g) (blockAt g) list i h e in
+        let next : homesAlong drive (drop i list) ≡ homesAlong drive (drop (i + 1) list) = walk-next (isHome drive) (blockAt drive) list i h e in
         rw e
         (record {
           within = omega arith;
           ready = rw next at (along .ready);
-          left = along .left ∙ ap (replacedAll g table) next;
+          left = along .left ∙ ap (replacedAll drive table) next;
         }))
 
-    pub along-all : length list ≤ i → table ≡ replacedAll g before (badHomes g list)
-    along-all h = sym (along .left ∙ ap (replacedAll g table) (walk-over (isHome g) (blockAt g) list i h) ∙ all-none g table)
+    pub along-all : length list ≤ i → table ≡ replacedAll drive before (badHomes drive list)
+    along-all h = sym (along .left ∙ ap (replacedAll drive table) (walk-over (isHome drive) (blockAt drive) list i h) ∙ all-none drive table)

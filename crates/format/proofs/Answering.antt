@@ -10,19 +10,14 @@ use Rattle.paper.specs.Checks.{answer, given}
 use Rattle.paper.specs.Refusals.{tooLong, noRoom}
 use Rattle.paper.specs.Limits.{listMost}
 use Rattle.paper.proofs.Chain.{orElse-some, answer-refused, answer-accepted}
-use Rattle.lists.specs.Union.{written}
+use Rattle.paper.proofs.Kept.{fills-refuses, fills-accepts}
+use Rattle.paper.specs.Promise.{written}
 use Rattle.format.specs.Spaces.{newGrown, newList, newSpace, suppliedFault, planFault, formatFault}
 use Rattle.format.specs.Plans.{plannedGrown, plannedList}
 use Rattle.format.proofs.Planning.{Supplied, plan-shows, plan-grown, plan-list, planned-grown, planned-list}
-use Rattle.format.specs.Promises.{saidFormatted, planned, formatted, Formats}
+use Rattle.format.specs.Promises.{planned, Formats}
 use Rattle.format.specs.declared.Planned.the-variants.{Fits, Refused as NotPlanned}
 use Rattle.format.specs.declared.Formatted.the-variants.{Done, Refused}
-
-formatted-says :
-    (fault grown list space : ℕ) →
-    saidFormatted (answer fault Refused (Done grown list space)) ≡ (fault, given fault grown, given fault list, given fault space)
-formatted-says zero grown list space = refl
-formatted-says (suc fault) grown list space = refl
 
 refused-is : (fault grown list k : ℕ) → answer fault NotPlanned (Fits grown list) ≡ NotPlanned k → (fault ≡ k) × (fault ≡ 0 → ⊥)
 refused-is zero grown list k e = let z : _≡_ {A = ℕ} 0 1 = cc in absurd (omega arith)
@@ -73,16 +68,7 @@ module _ (n : ℕ) (p g : List ℕ) (space option : ℕ) (d : List ℕ) where
     fault = formatFault n p g space option d grown list
 
     refused : (k : ℕ) → formatFault n p g space option d grown list ≡ k → (k ≡ 0 → ⊥) → Formats n p g space option d grown list (Refused k) grown list
-    refused k is some =
-        let some′ : formatFault n p g space option d grown list ≡ 0 → ⊥ = λ none. some (sym is ∙ none) in
-        let answers : Refused k ≡ formatted n p g space option d grown list =
-        sym (answer-refused (formatFault n p g space option d grown list) Refused _ some′ ∙ ap Refused is) in
-        record {
-          answers = answers;
-          says = ap saidFormatted answers ∙ formatted-says (formatFault n p g space option d grown list) grownLength listLength (newSpace space option);
-          grown-holds = sym (answer-refused (formatFault n p g space option d grown list) (λ k. grown) _ some′);
-          list-holds = sym (answer-refused (formatFault n p g space option d grown list) (λ k. list) _ some′);
-        }
+    refused k is some = fills-refuses (λ k. refl) k is some
 
     pub format-refused : (k : ℕ) → planned n p g space option d ≡ NotPlanned k → Formats n p g space option d grown list (Refused k) grown list
     format-refused k e =
@@ -104,15 +90,7 @@ module _ (n : ℕ) (p g : List ℕ) (space option : ℕ) (d : List ℕ) where
           grownAfter ≡ written (newGrown n p g space option d) grown → listAfter ≡ written (newList n p g space option d) list →
           Formats n p g space option d grown list (Done grownLength listLength (newSpace space option)) grownAfter listAfter
       format-done fits room grownAfter listAfter grown-is list-is =
-          let none : formatFault n p g space option d grown list ≡ 0 = rw (passes, le-ltb (length grown) grownLength fits, le-ltb (length list) listLength room) in
-          let answers : Done grownLength listLength (newSpace space option) ≡ formatted n p g space option d grown list =
-          sym (answer-accepted (formatFault n p g space option d grown list) Refused _ none) in
-          record {
-            answers = answers;
-            says = ap saidFormatted answers ∙ formatted-says (formatFault n p g space option d grown list) grownLength listLength (newSpace space option);
-            grown-holds = grown-is ∙ sym (answer-accepted (formatFault n p g space option d grown list) (λ k. grown) _ none);
-            list-holds = list-is ∙ sym (answer-accepted (formatFault n p g space option d grown list) (λ k. list) _ none);
-          }
+          fills-accepts (λ k. refl) (rw (passes, le-ltb (length grown) grownLength fits, le-ltb (length list) listLength room)) refl (rw (grown-is, list-is))
 
 -- the call at each end, once the plan fits with lengths a and b
 module _

@@ -3,7 +3,7 @@
 use mathlib.Core.Path.{_≡_, refl}
 use mathlib.Core.List.{[], _∷_}
 use Rattle.seek.specs.Count.{countBelow}
-use Rattle.seek.specs.First.{firstBelow, firstFault}
+use Rattle.seek.specs.First.{firstBelow, faultBelow}
 use Rattle.lists.specs.Union.{isIn, into, union}
 use Rattle.skip.specs.Skipping.{goodsBefore, place}
 use Rattle.skip.specs.Translation.{blocks}
@@ -19,7 +19,7 @@ unfolding countBelow firstBelow isIn into union goodsBefore place
 scan-list = refl
 
 pub scan-accepted : planFault 20 (3 ∷ 7 ∷ []) [] 3 1 (3 ∷ 16 ∷ []) ≡ 0
-unfolding countBelow firstBelow firstFault isIn into union goodsBefore place
+unfolding countBelow firstBelow faultBelow isIn into union goodsBefore place
 scan-accepted = refl
 
 -- the scan's numbers taken as sectors give another list: option 5 has D in sectors
@@ -29,7 +29,7 @@ scan-as-sectors = refl
 
 -- option 1 in space 1 brings in all of G too: over 4 sectors with P 0 and G 1 and nothing named, new block 0 lies on 2, and the old map has it on 1
 pub space-1-accepted : planFault 4 (0 ∷ []) (1 ∷ []) 1 1 [] ≡ 0
-unfolding countBelow firstBelow firstFault isIn into union goodsBefore place
+unfolding countBelow firstBelow faultBelow isIn into union goodsBefore place
 space-1-accepted = refl
 
 pub space-1-new : place (isIn (newList 4 (0 ∷ []) (1 ∷ []) 1 1 [])) 4 0 ≡ 2

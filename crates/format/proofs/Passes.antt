@@ -12,7 +12,7 @@ use Rattle.seek.proofs.Drops.{drop-past}
 use Rattle.lists.specs.Union.{union}
 use Rattle.lists.proofs.Unions.{union-none}
 use Rattle.lists.proofs.Filling.{Filled, filled-more}
-use Rattle.format.specs.Walking.{one, stepAt, grownLeft, listedLeft, Ready, Walks}
+use Rattle.format.specs.Walking.{one, stepAt, grownLeft, listedLeft, Walkable, Walks}
 use Rattle.format.specs.declared.Sides.{Sides}
 use Rattle.format.specs.declared.Walker.{Walker}
 use Rattle.format.specs.declared.Taken.{Taken}
@@ -37,7 +37,7 @@ pub record Stepped (over takes : Sides) (p g d : List ℕ) (at : Walker) (taken 
   pub grown-left : grownLeft over p g d at ≡ pick (taken .grown) (taken .entry ∷ grownLeft over p g d (taken .next)) (grownLeft over p g d (taken .next))
   pub listed-left : listedLeft over takes p g d at ≡ pick (taken .listed) (taken .entry ∷ listedLeft over takes p g d (taken .next)) (listedLeft over takes p g d (taken .next))
 
-module _ (over takes : Sides) (p g d : List ℕ) (at : Walker) (ready : Ready p g d) (walks : Walks over p g d at) where
+module _ (over takes : Sides) (p g d : List ℕ) (at : Walker) (ready : Walkable p g d) (walks : Walks over p g d at) where
   pub stepped : at .p + at .g + at .d < length p + length g + length d → (taken : Taken) → taken ≡ stepAt over takes p g d at → Stepped over takes p g d at taken
   stepped goes taken is =
       rw is

@@ -20,13 +20,13 @@ use Rattle.lists.specs.Union.{isIn, union}
 use Rattle.lists.proofs.Exact.{list-shows}
 use Rattle.lists.proofs.Risings.{rising-nil}
 use Rattle.lists.proofs.Unions.{union-none, union-nothing, rising-union, inside-union}
-use Rattle.skip.specs.Skipping.{place, sectorsOf}
+use Rattle.skip.specs.Skipping.{place, sectorsOfBlocks}
 use Rattle.skip.specs.Walk.{walked}
 use Rattle.skip.specs.Translation.{blocks}
 use Rattle.skip.proofs.Walks.{walk-is-place, passes-nil}
 use Rattle.format.specs.Options.{none, inBlocks, inSectors, keep, add, clear, replace, optionMost, spaceMost, meaning, grownBy}
 use Rattle.format.specs.Spaces.{listOf, sizeOfD, newGrown, newList, newSpace, optionTaken, OptionTaken, optionFault, suppliedFault, planFault}
-use Rattle.format.specs.Walking.{mappedOver, Ready}
+use Rattle.format.specs.Walking.{mappedOver, Walkable}
 use Rattle.format.specs.Plans.{sidesOf, takesOf, keepsGrown, keptOf, plannedGrown, plannedList}
 
 -- numbers up to a small bound, one by one
@@ -194,7 +194,7 @@ module _ (n : ℕ) (p g : List ℕ) (space option : ℕ) (d : List ℕ) (supplie
   no-list is-none = length-zero d (supplied .taken .list-taken is-none)
 
   -- the sectors of D's blocks by the walk
-  walked-sectors : meaning option ≡ inBlocks → map (walked (listOf space p g)) d ≡ sectorsOf n (listOf space p g) d
+  walked-sectors : meaning option ≡ inBlocks → map (walked (listOf space p g)) d ≡ sectorsOfBlocks n (listOf space p g) d
   walked-sectors is-blocks =
       map-alike (walked (listOf space p g)) (place (isIn (listOf space p g)) n) d
       (λ i less.
@@ -226,7 +226,7 @@ module _ (n : ℕ) (p g : List ℕ) (space option : ℕ) (d : List ℕ) (supplie
       ∙ sides-list (newSpace space option) (new-space-most space option (supplied .taken .space-within) (supplied .taken .option-within)) p (newGrown n p g space option d)
 
   -- the walk may go along what is supplied
-  pub supplied-ready : Ready p g d
+  pub supplied-ready : Walkable p g d
   supplied-ready =
       record {
         inside-p = λ i h. omega (arith, supplied .proper-p .inside i h, supplied .size .1);
@@ -242,7 +242,7 @@ module _ (n : ℕ) (p g : List ℕ) (space option : ℕ) (d : List ℕ) (supplie
       d-fits = byBool (eqb (meaning option) inBlocks) (λ e. rw e (omega arith)) (λ e. rw e (omega arith))
 
 -- what is kept of G may be walked along too
-pub kept-ready : (option : ℕ) (p g d : List ℕ) → Ready p g d → Ready p (keptOf option g) d
+pub kept-ready : (option : ℕ) (p g d : List ℕ) → Walkable p g d → Walkable p (keptOf option g) d
 kept-ready option p g d ready =
     byBool (keepsGrown option)
     (λ e. rw e ready)

@@ -12,7 +12,7 @@ use Rattle.lists.specs.Proper.{Rising, Inside}
 use Rattle.lists.specs.Union.{isIn, union}
 use Rattle.lists.proofs.Exact.{list-passes}
 use Rattle.lists.proofs.Unions.{union-assoc, union-holds}
-use Rattle.skip.specs.Skipping.{place, sectorsOf}
+use Rattle.skip.specs.Skipping.{place, sectorsOfBlocks}
 use Rattle.skip.specs.Translation.{blocks}
 use Rattle.skip.proofs.Nights.{sectors-length, rising-sectors, night-place, joined-rising, joined-inside, joined-sectors}
 use Rattle.format.specs.Nights.{joined}
@@ -34,7 +34,7 @@ pub option-3-in-space-2 : Scans 2 3
 option-3-in-space-2 = record { in-blocks = refl; adds = refl; same-space = refl; has-grown = omega arith }
 
 -- the new grown list: G and the sectors of the named blocks
-pub grown-is : (n : ℕ) (p g : List ℕ) (space option : ℕ) (d : List ℕ) → Scans space option → newGrown n p g space option d ≡ union g (sectorsOf n (listOf space p g) d)
+pub grown-is : (n : ℕ) (p g : List ℕ) (space option : ℕ) (d : List ℕ) → Scans space option → newGrown n p g space option d ≡ union g (sectorsOfBlocks n (listOf space p g) d)
 grown-is n p g space option d scans = rw (scans .adds)
 
 module _ (n : ℕ) (p g : List ℕ) (space option : ℕ) (d : List ℕ) where
@@ -92,10 +92,10 @@ module _ (n : ℕ) (p g : List ℕ) (space option : ℕ) (d : List ℕ) where
         (λ e. rw e (sym (union-assoc p g m (supplied .proper-p .rising) (supplied .proper-g .rising) rising-m)))
 
     -- the new list: the list in use and the sectors of the named blocks
-    pub list-is : newList n p g space option d ≡ union A (sectorsOf n A d)
+    pub list-is : newList n p g space option d ≡ union A (sectorsOfBlocks n A d)
     list-is =
         ap (λ (s : ℕ). listOf s p (newGrown n p g space option d)) (scans .same-space)
-        ∙ (ap (listOf space p) (grown-is n p g space option d scans) ∙ joins (sectorsOf n A d) (rising-sectors n A A-rising A-inside d d-rising d-inside))
+        ∙ (ap (listOf space p) (grown-is n p g space option d scans) ∙ joins (sectorsOfBlocks n A d) (rising-sectors n A A-rising A-inside d d-rising d-inside))
 
     -- each new block lies where you arrive by skipping the named blocks in the old numbering and following the old map
     pub scan-places : (b : ℕ) → place (isIn (newList n p g space option d)) n b ≡ place (isIn A) n (place (isIn d) (blocks n A) b)
@@ -116,19 +116,19 @@ module _
     both = joined (blocks n (listOf space p g)) d e
 
     -- the list in use in the second night
-    used-then : listOf space p (newGrown n p g space option d) ≡ union (listOf space p g) (sectorsOf n (listOf space p g) d)
+    used-then : listOf space p (newGrown n p g space option d) ≡ union (listOf space p g) (sectorsOfBlocks n (listOf space p g) d)
     used-then = ap (λ (s : ℕ). listOf s p (newGrown n p g space option d)) (sym (scans .same-space)) ∙ list-is n p g space option d scans first
 
     e-rising : Rising e
     e-rising = d-rising n p (newGrown n p g space option d) space option e scans second
 
-    e-inside : Inside (blocks n (union (listOf space p g) (sectorsOf n (listOf space p g) d))) e
+    e-inside : Inside (blocks n (union (listOf space p g) (sectorsOfBlocks n (listOf space p g) d))) e
     e-inside = rw used-then at (d-inside n p (newGrown n p g space option d) space option e scans second)
 
-    M-rising : Rising (sectorsOf n (listOf space p g) d)
+    M-rising : Rising (sectorsOfBlocks n (listOf space p g) d)
     M-rising = rising-sectors n (listOf space p g) (A-rising n p g space option d scans first) (A-inside n p g space option d scans first) d (d-rising n p g space option d scans first) (d-inside n p g space option d scans first)
 
-    then-rising : Rising (sectorsOf n (listOf space p (newGrown n p g space option d)) e)
+    then-rising : Rising (sectorsOfBlocks n (listOf space p (newGrown n p g space option d)) e)
     then-rising =
         rising-sectors n (listOf space p (newGrown n p g space option d))
         (A-rising n p (newGrown n p g space option d) space option e scans second)
@@ -140,10 +140,10 @@ module _
     pub nights-grown : newGrown n p (newGrown n p g space option d) space option e ≡ newGrown n p g space option both
     nights-grown =
         grown-is n p (newGrown n p g space option d) space option e scans
-        ∙ (ap (λ (l : List ℕ). union l (sectorsOf n (listOf space p (newGrown n p g space option d)) e)) (grown-is n p g space option d scans)
-        ∙ (union-assoc g (sectorsOf n (listOf space p g) d) (sectorsOf n (listOf space p (newGrown n p g space option d)) e)
+        ∙ (ap (λ (l : List ℕ). union l (sectorsOfBlocks n (listOf space p (newGrown n p g space option d)) e)) (grown-is n p g space option d scans)
+        ∙ (union-assoc g (sectorsOfBlocks n (listOf space p g) d) (sectorsOfBlocks n (listOf space p (newGrown n p g space option d)) e)
         (plan-shows n p g space option d first .proper-g .rising) M-rising then-rising
-        ∙ (ap (λ (l : List ℕ). union g (union (sectorsOf n (listOf space p g) d) (sectorsOf n l e))) used-then
+        ∙ (ap (λ (l : List ℕ). union g (union (sectorsOfBlocks n (listOf space p g) d) (sectorsOfBlocks n l e))) used-then
         ∙ (ap (union g) (sym (joined-sectors n (listOf space p g)
         (A-rising n p g space option d scans first)
         (A-inside n p g space option d scans first)
@@ -151,7 +151,7 @@ module _
         (d-rising n p g space option d scans first)
         (d-inside n p g space option d scans first)
         e e-rising e-inside))
-        ∙ sym (grown-is n p g space option (union d (sectorsOf (blocks n (listOf space p g)) d e)) scans)))))
+        ∙ sym (grown-is n p g space option (union d (sectorsOfBlocks (blocks n (listOf space p g)) d e)) scans)))))
 
     -- and its list
     pub nights-list : newList n p (newGrown n p g space option d) space option e ≡ newList n p g space option both
@@ -161,14 +161,14 @@ module _
     pub joined-supplied : Supplied n p g space option both
     joined-supplied =
         let was : Supplied n p g space option d = plan-shows n p g space option d first in
-        let rises : Rising (union d (sectorsOf (blocks n (listOf space p g)) d e)) =
+        let rises : Rising (union d (sectorsOfBlocks (blocks n (listOf space p g)) d e)) =
         joined-rising n (listOf space p g) (A-rising n p g space option d scans first) (A-inside n p g space option d scans first) d (d-rising n p g space option d scans first) (d-inside n p g space option d scans first) e e-rising e-inside in
-        let inside : Inside (blocks n (listOf space p g)) (union d (sectorsOf (blocks n (listOf space p g)) d e)) =
+        let inside : Inside (blocks n (listOf space p g)) (union d (sectorsOfBlocks (blocks n (listOf space p g)) d e)) =
         joined-inside n (listOf space p g) (A-rising n p g space option d scans first) (A-inside n p g space option d scans first) d (d-rising n p g space option d scans first) (d-inside n p g space option d scans first) e e-rising e-inside in
-        let sectors : length (sectorsOf n (listOf space p g) (union d (sectorsOf (blocks n (listOf space p g)) d e))) ≡ length (union d (sectorsOf (blocks n (listOf space p g)) d e)) =
-        sectors-length n (listOf space p g) (A-rising n p g space option d scans first) (A-inside n p g space option d scans first) (union d (sectorsOf (blocks n (listOf space p g)) d e)) rises inside in
-        let grown : length (newGrown n p (newGrown n p g space option d) space option e) ≡ length (union g (sectorsOf n (listOf space p g) (union d (sectorsOf (blocks n (listOf space p g)) d e)))) =
-        ap length (nights-grown ∙ grown-is n p g space option (union d (sectorsOf (blocks n (listOf space p g)) d e)) scans) in
+        let sectors : length (sectorsOfBlocks n (listOf space p g) (union d (sectorsOfBlocks (blocks n (listOf space p g)) d e))) ≡ length (union d (sectorsOfBlocks (blocks n (listOf space p g)) d e)) =
+        sectors-length n (listOf space p g) (A-rising n p g space option d scans first) (A-inside n p g space option d scans first) (union d (sectorsOfBlocks (blocks n (listOf space p g)) d e)) rises inside in
+        let grown : length (newGrown n p (newGrown n p g space option d) space option e) ≡ length (union g (sectorsOfBlocks n (listOf space p g) (union d (sectorsOfBlocks (blocks n (listOf space p g)) d e)))) =
+        ap length (nights-grown ∙ grown-is n p g space option (union d (sectorsOfBlocks (blocks n (listOf space p g)) d e)) scans) in
         record {
           size = was .size;
           proper-p = was .proper-p;
@@ -182,7 +182,7 @@ module _
           used = was .used;
           proper-d =
               record {
-                short = omega (arith, plan-grown n p (newGrown n p g space option d) space option e second, grown, sectors, union-holds g (sectorsOf n (listOf space p g) (union d (sectorsOf (blocks n (listOf space p g)) d e))));
+                short = omega (arith, plan-grown n p (newGrown n p g space option d) space option e second, grown, sectors, union-holds g (sectorsOfBlocks n (listOf space p g) (union d (sectorsOfBlocks (blocks n (listOf space p g)) d e))));
                 rising = rises;
                 inside = rw (d-size n p g space option d scans first) inside;
               };

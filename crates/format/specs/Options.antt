@@ -1,4 +1,4 @@
--- Document 01, "Format": the eight rows as one table, read by option number.
+-- Document 01, "Format": the eight optionRows as one table, read by option number.
 use Prim.Native.Nat.{ℕ, _+_}
 use mathlib.Core.Bool.{Bool}
 use mathlib.Core.List.{List, [], _∷_}
@@ -44,8 +44,8 @@ abbrev pub optionOf : Bool → Bool → Bool → ℕ
 optionOf cmplst dpry dfct = pick cmplst 4 0 + pick dpry 2 0 + pick dfct 1 0
 
 -- option by option: what the list is in, the new grown list, the new space
-abbrev pub rows : List (List ℕ)
-rows =
+abbrev pub optionRows : List (List ℕ)
+optionRows =
     (none ∷ keep ∷ asBefore ∷ [])
     ∷ (inBlocks ∷ add ∷ 3 ∷ [])
     ∷ (none ∷ keep ∷ 2 ∷ [])
@@ -58,7 +58,7 @@ rows =
 
 -- a cell of an option's row
 abbrev pub cell : ℕ → ℕ → ℕ
-cell option column = getD (getD rows option []) column 0
+cell option column = getD (getD optionRows option []) column 0
 
 abbrev pub meaning : ℕ → ℕ
 meaning option = cell option 0

@@ -1,5 +1,5 @@
 -- Document 01, "Format": the list of a space, the new grown list and the new list, and the checks in their order.
-use Prim.Native.Nat.{ℕ, _<_, _≤_}
+use Prim.Native.Nat.{ℕ, _≤_}
 use mathlib.Core.Path.{_≡_}
 use mathlib.Core.Bool.{Bool, not, _&&_, _||_}
 use mathlib.Core.List.{List, []}
@@ -9,9 +9,10 @@ use Rattle.paper.specs.Checks.{pick, refuse, _orElse_}
 use Rattle.paper.specs.Refusals.{tooLong, noRoom, badOption}
 use Rattle.paper.specs.Limits.{listMost, sizeFault, SizeJudged}
 use Rattle.paper.specs.Exactly.{When, _andThen_}
+use Rattle.paper.specs.Conditions.{TooLong, NoRoom}
 use Rattle.lists.specs.Proper.{listFault, ListJudged}
 use Rattle.lists.specs.Union.{union}
-use Rattle.skip.specs.Skipping.{sectorsOf}
+use Rattle.skip.specs.Skipping.{sectorsOfBlocks}
 use Rattle.skip.specs.Translation.{blocks}
 use Rattle.format.specs.Options.{none, inBlocks, keep, add, clear, asBefore, optionMost, spaceMost, meaning, grownBy, spaceBy}
 
@@ -27,7 +28,7 @@ sizeOfD n p g space option = pick (eqb (meaning option) inBlocks) (blocks n (lis
 abbrev pub newGrown : ℕ → List ℕ → List ℕ → ℕ → ℕ → List ℕ → List ℕ
 newGrown n p g space option d =
     pick (eqb (grownBy option) keep) g
-    (pick (eqb (grownBy option) add) (union g (sectorsOf n (listOf space p g) d))
+    (pick (eqb (grownBy option) add) (union g (sectorsOfBlocks n (listOf space p g) d))
     (pick (eqb (grownBy option) clear) [] d))
 
 abbrev pub newSpace : ℕ → ℕ → ℕ
@@ -80,17 +81,17 @@ SuppliedJudged n p g space option d =
     andThen ListJudged n p
     andThen ListJudged n g
     andThen When badOption (OptionTaken space option d → ⊥)
-    andThen When tooLong (listMost < length (listOf space p g))
+    andThen When tooLong (TooLong (listOf space p g))
     andThen ListJudged (sizeOfD n p g space option) d
 
 abbrev pub PlanJudged : ℕ → List ℕ → List ℕ → ℕ → ℕ → List ℕ → ℕ → Type 0
 PlanJudged n p g space option d =
     SuppliedJudged n p g space option d
-    andThen When tooLong (listMost < length (newGrown n p g space option d))
-    andThen When tooLong (listMost < length (newList n p g space option d))
+    andThen When tooLong (TooLong (newGrown n p g space option d))
+    andThen When tooLong (TooLong (newList n p g space option d))
 
 abbrev pub FormatJudged : ℕ → List ℕ → List ℕ → ℕ → ℕ → List ℕ → List ℕ → List ℕ → ℕ → Type 0
 FormatJudged n p g space option d grown list =
     PlanJudged n p g space option d
-    andThen When noRoom (length grown < length (newGrown n p g space option d))
-    andThen When noRoom (length list < length (newList n p g space option d))
+    andThen When noRoom (NoRoom (length (newGrown n p g space option d)) grown)
+    andThen When noRoom (NoRoom (length (newList n p g space option d)) list)

@@ -91,7 +91,7 @@ abbrev pub listedLeft : Sides → Sides → List ℕ → List ℕ → List ℕ �
 listedLeft over takes p g d at = union (pick (takes .p) (drop (at .p) p) []) (pick (takes .g) (grownLeft over p g d at) [])
 
 -- lists that a walk may go along
-pub record Ready (p g d : List ℕ) : Type 0 where
+pub record Walkable (p g d : List ℕ) : Type 0 where
   pub inside-p : Inside unitsMost p
   pub inside-g : Inside unitsMost g
   pub inside-d : Inside unitsMost d

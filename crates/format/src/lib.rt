@@ -7,11 +7,11 @@ ghost use lib.ListN.{length, set};
 ghost use Rattle.paper.specs.Checks.{pick};
 ghost use Rattle.paper.specs.Limits.{unitsMost, listMost};
 ghost use Rattle.lists.specs.Proper.{Inside};
-ghost use Rattle.lists.specs.Union.{written};
+ghost use Rattle.paper.specs.Promise.{written};
 ghost use lib.Dec.{eqb};
-ghost use Rattle.format.specs.Options.{none, inBlocks, keep, add, asBefore, optionMost, spaceMost, rows, cell, meaning};
+ghost use Rattle.format.specs.Options.{none, inBlocks, keep, add, asBefore, optionMost, spaceMost, optionRows, cell, meaning};
 ghost use Rattle.format.specs.Spaces.{listOf, newSpace, optionFault, suppliedFault};
-ghost use Rattle.format.specs.Walking.{ended, headAt, mappedAt, least, one, stepAt, Ready, Walks, grownOf, listedOf};
+ghost use Rattle.format.specs.Walking.{ended, headAt, mappedAt, least, one, stepAt, Walkable, Walks, grownOf, listedOf};
 ghost use Rattle.format.specs.Plans.{sidesOf, overOf, keptOf, plannedGrown, plannedList};
 ghost use Rattle.format.specs.Promises.{planned, Formats};
 use paper::BAD_OPTION;
@@ -45,7 +45,7 @@ pub struct Taken {
 }
 
 fn both(a: bool, b: bool) -> bool
-    ensures { λ r. ⌜ r ≡ (a && b) ⌝ }
+    ensures { λ result. ⌜ result ≡ (a && b) ⌝ }
 {
     if a {
         return b;
@@ -54,7 +54,7 @@ fn both(a: bool, b: bool) -> bool
 }
 
 fn either(a: bool, b: bool) -> bool
-    ensures { λ r. ⌜ r ≡ (a || b) ⌝ }
+    ensures { λ result. ⌜ result ≡ (a || b) ⌝ }
 {
     if a {
         return true;
@@ -64,8 +64,8 @@ fn either(a: bool, b: bool) -> bool
 
 // 1 for what is taken, else 0.
 fn count_of(taken: bool) -> usize
-    ensures { λ r. ⌜ r ≡ one taken ⌝ }
-    ensures { λ r. ⌜ r ≤ 1 ⌝ }
+    ensures { λ result. ⌜ result ≡ one taken ⌝ }
+    ensures { λ result. ⌜ result ≤ 1 ⌝ }
 {
     if taken {
         return 1;
@@ -74,7 +74,7 @@ fn count_of(taken: bool) -> usize
 }
 
 fn smaller(x: u32, y: u32) -> u32
-    ensures { λ r. ⌜ r ≡ least x y ⌝ }
+    ensures { λ result. ⌜ result ≡ least x y ⌝ }
 {
     if x <= y {
         return x;
@@ -84,7 +84,7 @@ fn smaller(x: u32, y: u32) -> u32
 
 // The entry at a place, or the end.
 fn head(list: &[u32], i: usize) -> u32
-    ensures { λ r. ⌜ r ≡ headAt (now (list .entry)) i ⌝ }
+    ensures { λ result. ⌜ result ≡ headAt (now (list .entry)) i ⌝ }
 {
     if i < list.len() {
         return list[i];
@@ -96,7 +96,7 @@ fn head(list: &[u32], i: usize) -> u32
 fn mapped(d: &[u32], k: usize, skipped: u32) -> u32
     requires { ⌜ Inside unitsMost (now d) ⌝ }
     requires { ⌜ skipped ≤ listMost + listMost ⌝ }
-    ensures { λ r. ⌜ r ≡ mappedAt (now (d .entry)) k skipped ⌝ }
+    ensures { λ result. ⌜ result ≡ mappedAt (now (d .entry)) k skipped ⌝ }
 {
     if k < d.len() {
         return d[k] + skipped;
@@ -106,9 +106,9 @@ fn mapped(d: &[u32], k: usize, skipped: u32) -> u32
 
 // One step of the walk.
 fn step(over: Sides, takes: Sides, p: &[u32], g: &[u32], d: &[u32], at: Walker) -> Taken
-    requires { ⌜ Ready (now p) (now g) (now d) ⌝ }
+    requires { ⌜ Walkable (now p) (now g) (now d) ⌝ }
     requires { ⌜ Walks over (now p) (now g) (now d) at ⌝ }
-    ensures { λ r. ⌜ r ≡ stepAt over takes (now (p .entry)) (now (g .entry)) (now (d .entry)) at ⌝ }
+    ensures { λ result. ⌜ result ≡ stepAt over takes (now (p .entry)) (now (g .entry)) (now (d .entry)) at ⌝ }
 {
     let head_p = head(p, at.p);
     let head_g = head(g, at.g);
@@ -154,9 +154,9 @@ pub struct Lengths {
 
 // The first pass along P, G and D: it counts, and writes nothing.
 fn count_both(over: Sides, takes: Sides, p: &[u32], g: &[u32], d: &[u32]) -> Lengths
-    requires { ⌜ Ready (now p) (now g) (now d) ⌝ }
-    ensures { λ r. ⌜ r .grown ≡ length (grownOf over (now (p .entry)) (now (g .entry)) (now (d .entry))) ⌝ }
-    ensures { λ r. ⌜ r .listed ≡ length (listedOf over takes (now (p .entry)) (now (g .entry)) (now (d .entry))) ⌝ }
+    requires { ⌜ Walkable (now p) (now g) (now d) ⌝ }
+    ensures { λ result. ⌜ result .grown ≡ length (grownOf over (now (p .entry)) (now (g .entry)) (now (d .entry))) ⌝ }
+    ensures { λ result. ⌜ result .listed ≡ length (listedOf over takes (now (p .entry)) (now (g .entry)) (now (d .entry))) ⌝ }
 {
     let mut at = Walker {
         p: 0,
@@ -179,8 +179,8 @@ fn count_both(over: Sides, takes: Sides, p: &[u32], g: &[u32], d: &[u32]) -> Len
 // Writes an entry at the count where it is taken, and answers the count after it.
 fn put(room: &mut [u32], count: usize, entry: u32, taken: bool) -> usize
     requires { ⌜ (taken ≡ true → count < length (now room)) ⌝ }
-    ensures { λ r. ⌜ r ≡ count + one taken ⌝ }
-    ensures { λ r. ⌜ now (room .exit) ≡ pick taken (set (now (room .entry)) count entry) (now (room .entry)) ⌝ }
+    ensures { λ result. ⌜ result ≡ count + one taken ⌝ }
+    ensures { λ result. ⌜ now (room .exit) ≡ pick taken (set (now (room .entry)) count entry) (now (room .entry)) ⌝ }
 {
     if taken {
         room[count] = entry;
@@ -199,11 +199,11 @@ fn fill(
     grown: &mut [u32],
     listed: &mut [u32],
 )
-    requires { ⌜ Ready (now p) (now g) (now d) ⌝ }
+    requires { ⌜ Walkable (now p) (now g) (now d) ⌝ }
     requires { ⌜ length (grownOf over (now p) (now g) (now d)) ≤ length (now grown) ⌝ }
     requires { ⌜ length (listedOf over takes (now p) (now g) (now d)) ≤ length (now listed) ⌝ }
-    ensures { λ r. ⌜ now (grown .exit) ≡ written (grownOf over (now (p .entry)) (now (g .entry)) (now (d .entry))) (now (grown .entry)) ⌝ }
-    ensures { λ r. ⌜ now (listed .exit) ≡ written (listedOf over takes (now (p .entry)) (now (g .entry)) (now (d .entry))) (now (listed .entry)) ⌝ }
+    ensures { λ result. ⌜ now (grown .exit) ≡ written (grownOf over (now (p .entry)) (now (g .entry)) (now (d .entry))) (now (grown .entry)) ⌝ }
+    ensures { λ result. ⌜ now (listed .exit) ≡ written (listedOf over takes (now (p .entry)) (now (g .entry)) (now (d .entry))) (now (listed .entry)) ⌝ }
 {
     let mut at = Walker {
         p: 0,
@@ -222,7 +222,7 @@ fn fill(
     }
 }
 
-// The eight rows: what the list is in, the new grown list, the new space.
+// The eight optionRows: what the list is in, the new grown list, the new space.
 const ROWS: [[u8; 3]; 8] = [
     [0, 0, 4],
     [1, 1, 3],
@@ -248,27 +248,27 @@ const OPTION_MOST: u32 = 7;
 
 const SPACE_MOST: u32 = 3;
 
-// The rows of the code are those of the definitions.
+// The optionRows of the code are those of the definitions.
 fn rows_agree() -> [[u8; 3]; 8]
-    ensures { λ r. ⌜ r ≡ rows ⌝ }
+    ensures { λ result. ⌜ result ≡ optionRows ⌝ }
 {
     ROWS
 }
 
 // And so are its names.
 fn names_agree()
-    ensures { λ r. do ⌜ (← ⟦NONE⟧ .entry) ≡ none ⌝ }
-    ensures { λ r. do ⌜ (← ⟦IN_BLOCKS⟧ .entry) ≡ inBlocks ⌝ }
-    ensures { λ r. do ⌜ (← ⟦KEEP⟧ .entry) ≡ keep ⌝ }
-    ensures { λ r. do ⌜ (← ⟦ADD⟧ .entry) ≡ add ⌝ }
-    ensures { λ r. do ⌜ (← ⟦AS_BEFORE⟧ .entry) ≡ asBefore ⌝ }
-    ensures { λ r. do ⌜ (← ⟦OPTION_MOST⟧ .entry) ≡ optionMost ⌝ }
-    ensures { λ r. do ⌜ (← ⟦SPACE_MOST⟧ .entry) ≡ spaceMost ⌝ }
-    ensures { λ r. do ⌜ (← ⟦ENDED⟧ .entry) ≡ ended ⌝ }
+    ensures { λ result. do ⌜ (← ⟦NONE⟧ .entry) ≡ none ⌝ }
+    ensures { λ result. do ⌜ (← ⟦IN_BLOCKS⟧ .entry) ≡ inBlocks ⌝ }
+    ensures { λ result. do ⌜ (← ⟦KEEP⟧ .entry) ≡ keep ⌝ }
+    ensures { λ result. do ⌜ (← ⟦ADD⟧ .entry) ≡ add ⌝ }
+    ensures { λ result. do ⌜ (← ⟦AS_BEFORE⟧ .entry) ≡ asBefore ⌝ }
+    ensures { λ result. do ⌜ (← ⟦OPTION_MOST⟧ .entry) ≡ optionMost ⌝ }
+    ensures { λ result. do ⌜ (← ⟦SPACE_MOST⟧ .entry) ≡ spaceMost ⌝ }
+    ensures { λ result. do ⌜ (← ⟦ENDED⟧ .entry) ≡ ended ⌝ }
 {}
 
 fn wide(x: u8) -> u32
-    ensures { λ r. ⌜ r ≡ x ⌝ }
+    ensures { λ result. ⌜ result ≡ x ⌝ }
 {
     x as u32
 }
@@ -277,7 +277,7 @@ fn wide(x: u8) -> u32
 fn cell_of(option: u32, column: usize) -> u32
     requires { ⌜ option ≤ optionMost ⌝ }
     requires { ⌜ column < 3 ⌝ }
-    ensures { λ r. ⌜ r ≡ cell option column ⌝ }
+    ensures { λ result. ⌜ result ≡ cell option column ⌝ }
 {
     let o = option as usize;
     wide(ROWS[o][column])
@@ -285,7 +285,7 @@ fn cell_of(option: u32, column: usize) -> u32
 
 // The sides of a space.
 fn sides_of(space: u32) -> Sides
-    ensures { λ r. ⌜ r ≡ sidesOf space ⌝ }
+    ensures { λ result. ⌜ result ≡ sidesOf space ⌝ }
 {
     Sides {
         p: either(space == 1, space == 3),
@@ -296,7 +296,7 @@ fn sides_of(space: u32) -> Sides
 // The new space of an option.
 fn new_space(space: u32, option: u32) -> u32
     requires { ⌜ option ≤ optionMost ⌝ }
-    ensures { λ r. ⌜ r ≡ newSpace space option ⌝ }
+    ensures { λ result. ⌜ result ≡ newSpace space option ⌝ }
 {
     let to = cell_of(option, 2);
     if to == AS_BEFORE {
@@ -308,7 +308,7 @@ fn new_space(space: u32, option: u32) -> u32
 // The sides that D is mapped over.
 fn over_of(space: u32, option: u32) -> Sides
     requires { ⌜ option ≤ optionMost ⌝ }
-    ensures { λ r. ⌜ r ≡ overOf space option ⌝ }
+    ensures { λ result. ⌜ result ≡ overOf space option ⌝ }
 {
     if cell_of(option, 0) == IN_BLOCKS {
         return sides_of(space);
@@ -319,7 +319,7 @@ fn over_of(space: u32, option: u32) -> Sides
 // What an option keeps of G: all of it, or the empty part at its start.
 fn kept_of(option: u32, g: &[u32]) -> &[u32]
     requires { ⌜ option ≤ optionMost ⌝ }
-    ensures { λ r. ⌜ now r ≡ keptOf option (now (g .entry)) ⌝ }
+    ensures { λ result. ⌜ now result ≡ keptOf option (now (g .entry)) ⌝ }
 {
     let to = cell_of(option, 1);
     if either(to == KEEP, to == ADD) {
@@ -330,7 +330,7 @@ fn kept_of(option: u32, g: &[u32]) -> &[u32]
 
 // Refusal 10 for an option or a space that is none, or for a list that the option does not take, else 0.
 fn option_fault(space: u32, option: u32, d: &[u32]) -> u32
-    ensures { λ r. ⌜ r ≡ optionFault space option (now (d .entry)) ⌝ }
+    ensures { λ result. ⌜ result ≡ optionFault space option (now (d .entry)) ⌝ }
 {
     if OPTION_MOST < option {
         return BAD_OPTION;
@@ -349,7 +349,7 @@ fn option_fault(space: u32, option: u32, d: &[u32]) -> u32
 
 // How many entries the list in use has.
 fn in_use(space: u32, p: &[u32], g: &[u32]) -> usize
-    ensures { λ r. ⌜ r ≡ length (listOf space (now (p .entry)) (now (g .entry))) ⌝ }
+    ensures { λ result. ⌜ result ≡ length (listOf space (now (p .entry)) (now (g .entry))) ⌝ }
 {
     if space == 0 {
         return 0;
@@ -367,7 +367,7 @@ fn in_use(space: u32, p: &[u32], g: &[u32]) -> usize
 fn size_of_d(n: u32, option: u32, used: usize) -> u32
     requires { ⌜ option ≤ optionMost ⌝ }
     requires { ⌜ used ≤ listMost ⌝ }
-    ensures { λ r. ⌜ r ≡ pick (eqb (meaning option) inBlocks) (n - used) n ⌝ }
+    ensures { λ result. ⌜ result ≡ pick (eqb (meaning option) inBlocks) (n - used) n ⌝ }
 {
     if cell_of(option, 0) == IN_BLOCKS {
         if n as usize <= used {
@@ -381,9 +381,9 @@ fn size_of_d(n: u32, option: u32, used: usize) -> u32
 // The first pass, laid out for the option and the space.
 fn count_planned(p: &[u32], g: &[u32], space: u32, option: u32, d: &[u32]) -> Lengths
     requires { ⌜ option ≤ optionMost ⌝ }
-    requires { ⌜ Ready (now p) (now g) (now d) ⌝ }
-    ensures { λ r. ⌜ r .grown ≡ length (plannedGrown (now (p .entry)) (now (g .entry)) space option (now (d .entry))) ⌝ }
-    ensures { λ r. ⌜ r .listed ≡ length (plannedList (now (p .entry)) (now (g .entry)) space option (now (d .entry))) ⌝ }
+    requires { ⌜ Walkable (now p) (now g) (now d) ⌝ }
+    ensures { λ result. ⌜ result .grown ≡ length (plannedGrown (now (p .entry)) (now (g .entry)) space option (now (d .entry))) ⌝ }
+    ensures { λ result. ⌜ result .listed ≡ length (plannedList (now (p .entry)) (now (g .entry)) space option (now (d .entry))) ⌝ }
 {
     let kept = kept_of(option, g);
     let over = over_of(space, option);
@@ -402,11 +402,11 @@ fn fill_planned(
     listed: &mut [u32],
 )
     requires { ⌜ option ≤ optionMost ⌝ }
-    requires { ⌜ Ready (now p) (now g) (now d) ⌝ }
+    requires { ⌜ Walkable (now p) (now g) (now d) ⌝ }
     requires { ⌜ length (plannedGrown (now p) (now g) space option (now d)) ≤ length (now grown) ⌝ }
     requires { ⌜ length (plannedList (now p) (now g) space option (now d)) ≤ length (now listed) ⌝ }
-    ensures { λ r. ⌜ now (grown .exit) ≡ written (plannedGrown (now (p .entry)) (now (g .entry)) space option (now (d .entry))) (now (grown .entry)) ⌝ }
-    ensures { λ r. ⌜ now (listed .exit) ≡ written (plannedList (now (p .entry)) (now (g .entry)) space option (now (d .entry))) (now (listed .entry)) ⌝ }
+    ensures { λ result. ⌜ now (grown .exit) ≡ written (plannedGrown (now (p .entry)) (now (g .entry)) space option (now (d .entry))) (now (grown .entry)) ⌝ }
+    ensures { λ result. ⌜ now (listed .exit) ≡ written (plannedList (now (p .entry)) (now (g .entry)) space option (now (d .entry))) (now (listed .entry)) ⌝ }
 {
     let kept = kept_of(option, g);
     let over = over_of(space, option);
@@ -416,7 +416,7 @@ fn fill_planned(
 
 // P, G, the option and the list in use: 1, P, G, 10, 2, then D. What is left is to count.
 fn supplied_fault(n: u32, p: &[u32], g: &[u32], space: u32, option: u32, d: &[u32]) -> u32
-    ensures { λ r. ⌜ r ≡ suppliedFault n (now (p .entry)) (now (g .entry)) space option (now (d .entry)) ⌝ }
+    ensures { λ result. ⌜ result ≡ suppliedFault n (now (p .entry)) (now (g .entry)) space option (now (d .entry)) ⌝ }
 {
     let fault = paper::size_fault(n);
     if fault != 0 {
@@ -443,7 +443,7 @@ fn supplied_fault(n: u32, p: &[u32], g: &[u32], space: u32, option: u32, d: &[u3
 
 // The chain up to the new list's length, without the rooms, and both lengths. Only other crates call this.
 pub fn plan(n: u32, p: &[u32], g: &[u32], space: u32, option: u32, d: &[u32]) -> Planned
-    ensures { λ r. ⌜ r ≡ planned n (now (p .entry)) (now (g .entry)) space option (now (d .entry)) ⌝ }
+    ensures { λ result. ⌜ result ≡ planned n (now (p .entry)) (now (g .entry)) space option (now (d .entry)) ⌝ }
 {
     let fault = supplied_fault(n, p, g, space, option, d);
     if fault != 0 {
@@ -472,7 +472,7 @@ pub fn format(
     grown: &mut [u32],
     list: &mut [u32],
 ) -> Formatted
-    ensures { λ r. ⌜ Formats n (now (p .entry)) (now (g .entry)) space option (now (d .entry)) (now (grown .entry)) (now (list .entry)) r (now (grown .exit)) (now (list .exit)) ⌝ }
+    ensures { λ result. ⌜ Formats n (now (p .entry)) (now (g .entry)) space option (now (d .entry)) (now (grown .entry)) (now (list .entry)) result (now (grown .exit)) (now (list .exit)) ⌝ }
 {
     let planned = plan(n, p, g, space, option, d);
     match planned {

@@ -9,24 +9,24 @@ use lib.Seq.{drop-set-add, take-set-lt, getD-take, getD-drop}
 use Rattle.words.specs.Words.{Bytes}
 use Rattle.words.proofs.Bounds.{below-take, below-drop}
 use Rattle.words.proofs.Places.{word16-after}
-use Rattle.image.specs.Code.{codeOf}
-use Rattle.image.specs.Image.{headerSize, dataOf, storedIn, foundIn, sectorFault, imageFault}
-use Rattle.image.specs.Judged.{GoodCode, SectorJudged}
+use Rattle.image.specs.Code.{dataCode}
+use Rattle.image.specs.Image.{headerSize, dataOf, storedIn, foundIn, contentsFault, imageFault}
+use Rattle.image.specs.Judged.{GoodCode, ContentsJudged}
 use Rattle.image.proofs.Coding.{one-byte}
 use Rattle.image.proofs.Images.{length-data}
 use Rattle.image.proofs.Exact.{image-sector, image-length, sector-exactly}
 
 module _ (size : ℕ) (image : List ℕ) (number : ℕ) where
-  good-of : (k : ℕ) → SectorJudged size image number k → k ≡ 0 → GoodCode size image
-  good-of k (SectorJudged.no-address none) e = absurd (omega arith)
-  good-of k (SectorJudged.other-block m stands other) e = absurd (omega arith)
-  good-of k (SectorJudged.good stands same) e = same
-  good-of k (SectorJudged.forced stands same) e = absurd (omega arith)
-  good-of k (SectorJudged.neither stands other neither) e = absurd (omega arith)
+  good-of : (k : ℕ) → ContentsJudged size image number k → k ≡ 0 → GoodCode size image
+  good-of k (ContentsJudged.no-address none) e = absurd (omega arith)
+  good-of k (ContentsJudged.other-block m stands other) e = absurd (omega arith)
+  good-of k (ContentsJudged.good stands same) e = same
+  good-of k (ContentsJudged.forced stands same) e = absurd (omega arith)
+  good-of k (ContentsJudged.neither stands other neither) e = absurd (omega arith)
 
   -- the stored code of a good image is the one found
-  pub good-code : sectorFault size image number ≡ 0 → GoodCode size image
-  good-code = good-of (sectorFault size image number) (sector-exactly image size number .judged)
+  pub good-code : contentsFault size image number ≡ 0 → GoodCode size image
+  good-code = good-of (contentsFault size image number) (sector-exactly image size number .judged)
 
   pub good-image : imageFault size image number ≡ 0 → GoodCode size image
   good-image none = good-code (sym (image-sector image size number (image-length image size number none)) ∙ none)
@@ -50,7 +50,7 @@ module _ (size : ℕ) (image : List ℕ) (k byte : ℕ) (inside : k < size) wher
       let changed = set image (headerSize + k) byte in
       let bytes = below-take size (drop headerSize image) (omega arith) (below-drop headerSize image h) in
       let held : getD kept k 0 ≡ getD image (headerSize + k) 0 = getD-take size (drop headerSize image) k 0 inside ∙ getD-drop headerSize image k 0 in
-      let first : storedIn size image ≡ codeOf kept = good-image size image number good in
-      let second : storedIn size changed ≡ codeOf (dataOf size changed) = good-image size changed number again in
-      let same : codeOf (set kept k byte) ≡ codeOf kept = sym (ap codeOf data-changed) ∙ sym second ∙ stored-kept ∙ first in
+      let first : storedIn size image ≡ dataCode kept = good-image size image number good in
+      let second : storedIn size changed ≡ dataCode (dataOf size changed) = good-image size changed number again in
+      let same : dataCode (set kept k byte) ≡ dataCode kept = sym (ap dataCode data-changed) ∙ sym second ∙ stored-kept ∙ first in
       apart (one-byte count kept bytes (long ∙ even) k byte l (rw long inside) same ∙ held)

@@ -14,7 +14,7 @@ use Rattle.paper.proofs.Cases.{byEq}
 use Rattle.words.specs.Words.{be16, word16At, Bytes}
 use Rattle.words.proofs.Digits.{be16-below}
 use Rattle.words.proofs.Places.{word16-drop}
-use Rattle.image.specs.Code.{Fits16, wordsOf, rotated, stepped, codeFrom, codeOf, complement}
+use Rattle.image.specs.Code.{Fits16, wordsOf, rotated, codeAfter, codeFrom, dataCode, complement}
 use Rattle.image.proofs.Xor.{xor-injective, xor-injective-left, xor-changes}
 
 -- one step
@@ -40,38 +40,38 @@ rotated-injective a b h l e =
     let digits = two-digits (a % 2 ^ 15) (a / 2 ^ 15) (b % 2 ^ 15) (b / 2 ^ 15) (omega arith) (omega arith) (rw (low, other) at e) in
     omega arith
 
-pub stepped-below : (code word : ℕ) → code < 2 ^ 16 → word < 2 ^ 16 → stepped code word < 2 ^ 16
-unfolding stepped
-stepped-below code word h l = xor-lt 16 (rotated code) word (rotated-below code h) l
+pub code-after-below : (code word : ℕ) → code < 2 ^ 16 → word < 2 ^ 16 → codeAfter code word < 2 ^ 16
+unfolding codeAfter
+code-after-below code word h l = xor-lt 16 (rotated code) word (rotated-below code h) l
 
-pub stepped-code : (a b word : ℕ) → a < 2 ^ 16 → b < 2 ^ 16 → stepped a word ≡ stepped b word → a ≡ b
-unfolding stepped
-stepped-code a b word h l e = rotated-injective a b h l (xor-injective-left (rotated a) (rotated b) word e)
+pub code-after-code : (a b word : ℕ) → a < 2 ^ 16 → b < 2 ^ 16 → codeAfter a word ≡ codeAfter b word → a ≡ b
+unfolding codeAfter
+code-after-code a b word h l e = rotated-injective a b h l (xor-injective-left (rotated a) (rotated b) word e)
 
-pub stepped-word : (code a b : ℕ) → stepped code a ≡ stepped code b → a ≡ b
-unfolding stepped
-stepped-word code a b e = xor-injective (rotated code) a b e
+pub code-after-word : (code a b : ℕ) → codeAfter code a ≡ codeAfter code b → a ≡ b
+unfolding codeAfter
+code-after-word code a b e = xor-injective (rotated code) a b e
 
 -- all words
 pub codeFrom-below : (code : ℕ) (words : List ℕ) → code < 2 ^ 16 → Fits16 words → codeFrom code words < 2 ^ 16
 unfolding codeFrom
 codeFrom-below code [] h fits = h
-codeFrom-below code (n ∷ words) h fits = codeFrom-below (stepped code n) words (stepped-below code n h (fits 0)) (λ k. fits (suc k))
+codeFrom-below code (n ∷ words) h fits = codeFrom-below (codeAfter code n) words (code-after-below code n h (fits 0)) (λ k. fits (suc k))
 
 pub codeFrom-injective :
     (a b : ℕ) (words : List ℕ) → a < 2 ^ 16 → b < 2 ^ 16 → Fits16 words → codeFrom a words ≡ codeFrom b words → a ≡ b
 unfolding codeFrom
 codeFrom-injective a b [] h l fits e = e
 codeFrom-injective a b (n ∷ words) h l fits e =
-    stepped-code a b n h l
-    (codeFrom-injective (stepped a n) (stepped b n) words (stepped-below a n h (fits 0)) (stepped-below b n l (fits 0)) (λ k. fits (suc k)) e)
+    code-after-code a b n h l
+    (codeFrom-injective (codeAfter a n) (codeAfter b n) words (code-after-below a n h (fits 0)) (code-after-below b n l (fits 0)) (λ k. fits (suc k)) e)
 
 -- the same code from another first word: it is no other word
 first-word :
     (code a b : ℕ) (words : List ℕ) →
-    code < 2 ^ 16 → a < 2 ^ 16 → b < 2 ^ 16 → Fits16 words → codeFrom (stepped code a) words ≡ codeFrom (stepped code b) words → a ≡ b
+    code < 2 ^ 16 → a < 2 ^ 16 → b < 2 ^ 16 → Fits16 words → codeFrom (codeAfter code a) words ≡ codeFrom (codeAfter code b) words → a ≡ b
 first-word code a b words h l m fits e =
-    stepped-word code a b (codeFrom-injective (stepped code a) (stepped code b) words (stepped-below code a h l) (stepped-below code b h m) fits e)
+    code-after-word code a b (codeFrom-injective (codeAfter code a) (codeAfter code b) words (code-after-below code a h l) (code-after-below code b h m) fits e)
 
 -- the same code from one word changed: it was not changed
 pub one-word :
@@ -81,7 +81,7 @@ unfolding codeFrom
 one-word code [] i word h fits l inside e = absurd (omega arith)
 one-word code (n ∷ words) zero word h fits l inside e = first-word code word n words h l (fits 0) (λ k. fits (suc k)) e
 one-word code (n ∷ words) (suc i) word h fits l inside e =
-    one-word (stepped code n) words i word (stepped-below code n h (fits 0)) (λ k. fits (suc k)) l (omega arith) e
+    one-word (codeAfter code n) words i word (code-after-below code n h (fits 0)) (λ k. fits (suc k)) l (omega arith) e
 
 -- lists of the same length that differ in exactly one word have different codes
 pub one-word-apart :
@@ -136,8 +136,8 @@ getD-wordsOf (suc count) (hi ∷ lo ∷ bytes) (suc k) even =
     let next : 2 * suc k ≡ 2 + 2 * k = omega arith in
     getD-wordsOf count bytes k (omega arith) ∙ rw next (word16-drop 2 (hi ∷ lo ∷ bytes) (2 * k))
 
-pub codeOf-below : (bytes : List ℕ) → Bytes bytes → codeOf bytes < 2 ^ 16
-unfolding codeOf
+pub codeOf-below : (bytes : List ℕ) → Bytes bytes → dataCode bytes < 2 ^ 16
+unfolding dataCode
 codeOf-below bytes h = codeFrom-below startCode (wordsOf bytes) (omega arith) (wordsOf-below bytes h)
 
 -- the same code of data of which one byte is changed: it was not changed
@@ -160,16 +160,16 @@ one-byte-from code count (hi ∷ lo ∷ rest) (suc zero) byte h bytes even l ins
     omega arith
 one-byte-from code zero (hi ∷ lo ∷ rest) (suc (suc k)) byte h bytes even l inside e = absurd (omega arith)
 one-byte-from code (suc count) (hi ∷ lo ∷ rest) (suc (suc k)) byte h bytes even l inside e =
-    let below = stepped-below code (be16 hi lo) h (be16-below hi lo (bytes 0) (bytes 1)) in
-    one-byte-from (stepped code (be16 hi lo)) count rest k byte below (λ j. bytes (suc (suc j))) (omega arith) l (omega arith) e
+    let below = code-after-below code (be16 hi lo) h (be16-below hi lo (bytes 0) (bytes 1)) in
+    one-byte-from (codeAfter code (be16 hi lo)) count rest k byte below (λ j. bytes (suc (suc j))) (omega arith) l (omega arith) e
 
 module _ (count : ℕ) (bytes : List ℕ) (h : Bytes bytes) (even : length bytes ≡ 2 * count) where
-  pub one-byte : (k byte : ℕ) → byte < 256 → k < length bytes → codeOf (set bytes k byte) ≡ codeOf bytes → byte ≡ getD bytes k 0
-  unfolding codeOf
+  pub one-byte : (k byte : ℕ) → byte < 256 → k < length bytes → dataCode (set bytes k byte) ≡ dataCode bytes → byte ≡ getD bytes k 0
+  unfolding dataCode
   one-byte k byte l inside e = one-byte-from startCode count bytes k byte (omega arith) h even l inside e
 
   -- one bit turned over changes the code
-  pub one-bit : (k bit : ℕ) → bit < 8 → k < length bytes → codeOf (set bytes k (bitXor (getD bytes k 0) (2 ^ bit))) ≡ codeOf bytes → ⊥
+  pub one-bit : (k bit : ℕ) → bit < 8 → k < length bytes → dataCode (set bytes k (bitXor (getD bytes k 0) (2 ^ bit))) ≡ dataCode bytes → ⊥
   one-bit k bit low inside e =
       let below = xor-lt 8 (getD bytes k 0) (2 ^ bit) (h k) (pow-lt low) in
       let none : 2 ^ bit ≡ 0 = xor-changes (getD bytes k 0) (2 ^ bit) (one-byte k (bitXor (getD bytes k 0) (2 ^ bit)) below inside e) in
@@ -180,8 +180,8 @@ pub data-apart :
     (count : ℕ) (bytes others : List ℕ) (i : ℕ) →
     Bytes bytes → Bytes others → length bytes ≡ 2 * count → length others ≡ 2 * count → i < count →
     ((k : ℕ) → k < count → (k ≡ i → ⊥) → word16At bytes (2 * k) ≡ word16At others (2 * k)) →
-    (word16At bytes (2 * i) ≡ word16At others (2 * i) → ⊥) → codeOf bytes ≡ codeOf others → ⊥
-unfolding codeOf
+    (word16At bytes (2 * i) ≡ word16At others (2 * i) → ⊥) → dataCode bytes ≡ dataCode others → ⊥
+unfolding dataCode
 data-apart count bytes others i h l even long inside alike apart =
     one-word-apart startCode (wordsOf bytes) (wordsOf others) i (omega arith) (wordsOf-below bytes h) (wordsOf-below others l)
     (length-wordsOf count bytes even ∙ sym (length-wordsOf count others long))

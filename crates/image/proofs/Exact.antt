@@ -15,8 +15,8 @@ use Rattle.paper.proofs.Cases.{byEq, byLt}
 use Rattle.paper.proofs.Chain.{orElse-none, orElse-first, orElse-next}
 use Rattle.paper.proofs.Rows.{Tells, tells-not, tells-lt, row, rows, passed-shows, tells-eq}
 use Rattle.image.specs.Code.{complement}
-use Rattle.image.specs.Image.{copiesLeast, times, copies, Stands, headerOf, storedIn, foundIn, lengthFault, addressFault, codeFault, sectorFault, headerFault, imageFault, writeFault}
-use Rattle.image.specs.Judged.{LengthJudged, AddressJudged, SectorJudged, HeaderJudged, ImageJudged, WriteJudged}
+use Rattle.image.specs.Image.{copiesLeast, times, copies, Stands, headerOf, storedIn, foundIn, lengthFault, copiesFault, codeFault, contentsFault, headerFault, imageFault, writeFault}
+use Rattle.image.specs.Judged.{LengthJudged, CopiesJudged, ContentsJudged, HeaderJudged, ImageJudged, WriteJudged}
 use Rattle.image.proofs.Coding.{good-not-forced}
 use Rattle.image.proofs.Copies.{stands-header}
 
@@ -40,28 +40,28 @@ module _ (image : List ℕ) where
       held : ℕ
       held = times (headerOf image) (copies image)
 
-  pub address-exactly : Exactly (AddressJudged image) (addressFault image)
-  unfolding addressFault
+  pub address-exactly : Exactly (CopiesJudged image) (copiesFault image)
+  unfolding copiesFault
   address-exactly = row tells-no-address noAddress
 
   -- where 15 is not given the header's number stands
-  pub address-shows : addressFault image ≡ 0 → Stands image (headerOf image)
-  unfolding addressFault
+  pub address-shows : copiesFault image ≡ 0 → Stands image (headerOf image)
+  unfolding copiesFault
   address-shows none =
       byLt (times (headerOf image) (copies image)) copiesLeast
       (λ few. let given : noAddress ≡ 0 = rw (lt-ltb _ _ few) at none in absurd (omega arith))
       (λ enough. enough)
 
-  pub address-passes : (m : ℕ) → Stands image m → addressFault image ≡ 0
+  pub address-passes : (m : ℕ) → Stands image m → copiesFault image ≡ 0
   address-passes m stands = address-exactly .only 0 (When.passed (λ none. none m stands))
 
   module _ (size : ℕ) where
     pub header-exactly : Exactly (HeaderJudged size image) (headerFault size image)
     unfolding headerFault
-    header-exactly = rows (LengthJudged (size + imageExtra) image) (AddressJudged image) (length-exactly (size + imageExtra) image) address-exactly
+    header-exactly = rows (LengthJudged (size + imageExtra) image) (CopiesJudged image) (length-exactly (size + imageExtra) image) address-exactly
 
     -- of an image of the right length only the address is left to check
-    pub header-address : length image ≡ size + imageExtra → headerFault size image ≡ addressFault image
+    pub header-address : length image ≡ size + imageExtra → headerFault size image ≡ copiesFault image
     unfolding headerFault
     header-address long = orElse-none (lengthFault (size + imageExtra) image) _ (length-passes (size + imageExtra) image long)
 
@@ -72,61 +72,61 @@ module _ (image : List ℕ) where
 
   module _ (size number : ℕ) where
     -- the number for each row: no address, another block, and the code where the number stands
-    pub sector-no-address : ((m : ℕ) → Stands image m → ⊥) → sectorFault size image number ≡ noAddress
-    unfolding sectorFault
+    pub sector-no-address : ((m : ℕ) → Stands image m → ⊥) → contentsFault size image number ≡ noAddress
+    unfolding contentsFault
     sector-no-address none = rw (address-exactly .only noAddress (When.given none))
 
-    pub sector-other : (m : ℕ) → Stands image m → (m ≡ number → ⊥) → sectorFault size image number ≡ otherBlock
-    unfolding sectorFault
+    pub sector-other : (m : ℕ) → Stands image m → (m ≡ number → ⊥) → contentsFault size image number ≡ otherBlock
+    unfolding contentsFault
     sector-other m stands other = rw (address-passes m stands, stands-header image m stands, ne-eqb m number other)
 
-    pub sector-named : Stands image number → sectorFault size image number ≡ codeFault (storedIn size image) (foundIn size image)
-    unfolding sectorFault
+    pub sector-named : Stands image number → contentsFault size image number ≡ codeFault (storedIn size image) (foundIn size image)
+    unfolding contentsFault
     sector-named stands = rw (address-passes number stands, stands-header image number stands, eq-eqb number number refl)
 
-    pub sector-exactly : Exactly (SectorJudged size image number) (sectorFault size image number)
+    pub sector-exactly : Exactly (ContentsJudged size image number) (contentsFault size image number)
     sector-exactly = record { judged = judged; only = only }
       where
-        by-code : Stands image number → SectorJudged size image number (sectorFault size image number)
+        by-code : Stands image number → ContentsJudged size image number (contentsFault size image number)
         by-code stands =
             rw (sector-named stands)
             (byEq (storedIn size image) (foundIn size image)
-            (λ same. rw (eq-eqb _ _ same) (SectorJudged.good stands same))
+            (λ same. rw (eq-eqb _ _ same) (ContentsJudged.good stands same))
             (λ other.
             rw (ne-eqb _ _ other)
             (byEq (storedIn size image) (complement (foundIn size image))
-            (λ same. rw (eq-eqb _ _ same) (SectorJudged.forced stands same))
-            (λ neither. rw (ne-eqb _ _ neither) (SectorJudged.neither stands other neither)))))
+            (λ same. rw (eq-eqb _ _ same) (ContentsJudged.forced stands same))
+            (λ neither. rw (ne-eqb _ _ neither) (ContentsJudged.neither stands other neither)))))
 
-        judged : SectorJudged size image number (sectorFault size image number)
+        judged : ContentsJudged size image number (contentsFault size image number)
         judged =
             byLt (times (headerOf image) (copies image)) copiesLeast
             (λ few.
             let none : (m : ℕ) → Stands image m → ⊥ = tells-no-address .holds (lt-ltb _ _ few) in
-            rw (sector-no-address none) (SectorJudged.no-address none))
+            rw (sector-no-address none) (ContentsJudged.no-address none))
             (λ enough.
             byEq (headerOf image) number
             (λ same. by-code (rw same at enough))
-            (λ other. rw (sector-other (headerOf image) enough other) (SectorJudged.other-block (headerOf image) enough other)))
+            (λ other. rw (sector-other (headerOf image) enough other) (ContentsJudged.other-block (headerOf image) enough other)))
 
-        only : (k : ℕ) → SectorJudged size image number k → sectorFault size image number ≡ k
-        only k (SectorJudged.no-address none) = sector-no-address none
-        only k (SectorJudged.other-block m stands other) = sector-other m stands other
-        only k (SectorJudged.good stands same) = sector-named stands ∙ rw (eq-eqb _ _ same)
-        only k (SectorJudged.forced stands same) =
+        only : (k : ℕ) → ContentsJudged size image number k → contentsFault size image number ≡ k
+        only k (ContentsJudged.no-address none) = sector-no-address none
+        only k (ContentsJudged.other-block m stands other) = sector-other m stands other
+        only k (ContentsJudged.good stands same) = sector-named stands ∙ rw (eq-eqb _ _ same)
+        only k (ContentsJudged.forced stands same) =
             sector-named stands ∙ rw (ne-eqb _ _ (λ e. good-not-forced (storedIn size image) (foundIn size image) e same), eq-eqb _ _ same)
-        only k (SectorJudged.neither stands other neither) = sector-named stands ∙ rw (ne-eqb _ _ other, ne-eqb _ _ neither)
+        only k (ContentsJudged.neither stands other neither) = sector-named stands ∙ rw (ne-eqb _ _ other, ne-eqb _ _ neither)
 
     -- an image has one verdict: good, forced and the others exclude each other
-    pub sector-one : (j k : ℕ) → SectorJudged size image number j → SectorJudged size image number k → j ≡ k
+    pub sector-one : (j k : ℕ) → ContentsJudged size image number j → ContentsJudged size image number k → j ≡ k
     sector-one j k first second = sym (sector-exactly .only j first) ∙ sector-exactly .only k second
 
     pub judge-exactly : Exactly (ImageJudged size image number) (imageFault size image number)
     unfolding imageFault
-    judge-exactly = rows (LengthJudged (size + imageExtra) image) (SectorJudged size image number) (length-exactly (size + imageExtra) image) sector-exactly
+    judge-exactly = rows (LengthJudged (size + imageExtra) image) (ContentsJudged size image number) (length-exactly (size + imageExtra) image) sector-exactly
 
     -- of an image of the right length the verdict is that on the sector
-    pub image-sector : length image ≡ size + imageExtra → imageFault size image number ≡ sectorFault size image number
+    pub image-sector : length image ≡ size + imageExtra → imageFault size image number ≡ contentsFault size image number
     unfolding imageFault
     image-sector long = orElse-none (lengthFault (size + imageExtra) image) _ (length-passes (size + imageExtra) image long)
 

@@ -16,9 +16,9 @@ use Rattle.words.proofs.Digits.{length-bytes16, word16-bytes16}
 use Rattle.words.proofs.Places.{word16-second}
 use Rattle.words.proofs.Runs.{length-bytesOf, entriesAt-bytesOf}
 use Rattle.words.proofs.Stores.{sets-append}
-use Rattle.image.specs.Code.{codeOf, complement, carried}
-use Rattle.image.specs.Image.{copiesMade, headerSize, copies, Stands, headerOf, dataOf, storedIn, foundIn, imageOf, imageIn, sectorFault}
-use Rattle.image.specs.Judged.{SectorJudged}
+use Rattle.image.specs.Code.{dataCode, complement, carried}
+use Rattle.image.specs.Image.{copiesMade, headerSize, copies, Stands, headerOf, dataOf, storedIn, foundIn, imageOf, imageIn, contentsFault}
+use Rattle.image.specs.Judged.{ContentsJudged}
 use Rattle.image.proofs.Coding.{codeOf-below}
 use Rattle.image.proofs.Copies.{times-all, stands-header}
 use Rattle.image.proofs.Exact.{sector-exactly}
@@ -124,14 +124,14 @@ module _ (number : ℕ) where
 
   module _ (bytes : List ℕ) (fits : number < 2 ^ 32) (h : Bytes bytes) where
     -- an image that is written good is good, and one that is written forced is a forced error
-    pub written-good : sectorFault (length bytes) (imageOf number bytes false) number ≡ 0
+    pub written-good : contentsFault (length bytes) (imageOf number bytes false) number ≡ 0
     unfolding foundIn carried
     written-good =
         sector-exactly (imageOf number bytes false) (length bytes) number .only 0
-        (SectorJudged.good (written-stands bytes false fits) (written-code bytes false h ∙ sym (ap codeOf (written-data bytes false))))
+        (ContentsJudged.good (written-stands bytes false fits) (written-code bytes false h ∙ sym (ap dataCode (written-data bytes false))))
 
-    pub written-forced : sectorFault (length bytes) (imageOf number bytes true) number ≡ forcedError
+    pub written-forced : contentsFault (length bytes) (imageOf number bytes true) number ≡ forcedError
     unfolding foundIn carried
     written-forced =
         sector-exactly (imageOf number bytes true) (length bytes) number .only forcedError
-        (SectorJudged.forced (written-stands bytes true fits) (written-code bytes true h ∙ sym (ap (λ (found : List ℕ). complement (codeOf found)) (written-data bytes true))))
+        (ContentsJudged.forced (written-stands bytes true fits) (written-code bytes true h ∙ sym (ap (λ (found : List ℕ). complement (dataCode found)) (written-data bytes true))))

@@ -1,7 +1,6 @@
 pub mod Xor
 pub mod Coding
 pub mod Copies
-pub mod Says
 pub mod Exact
 pub mod Images
 pub mod Changed

@@ -7,19 +7,32 @@ use mathlib.Core.List.{List, []}
 use native.Mathlib.Omega.{arith}
 use lib.ListN.{length, take, drop}
 use denote.Ref.{RefT}
+use Rattle.paper.specs.Checks.{answer}
 use Rattle.paper.specs.Limits.{imageExtra}
 use Rattle.paper.specs.Refusals.{forcedError}
 use Rattle.paper.proofs.Cases.{byFault}
 use Rattle.paper.proofs.Chain.{answer-refused, answer-accepted}
 use Rattle.words.specs.Words.{Bytes}
+use Rattle.image.specs.declared.Head.{Head}
 use Rattle.image.specs.declared.Head.the-variants.{Number, Refused as NoHead}
+use Rattle.image.specs.declared.Verdict.{Verdict}
 use Rattle.image.specs.declared.Verdict.the-variants.{Good, Refused as NotGood}
 use Rattle.image.specs.Image.{headerSize, Stands, headerOf, dataOf, imageOf, imageIn, headerFault, imageFault, writeFault}
-use Rattle.image.specs.Promises.{roomAfter, headed, verdict, DataSized}
+use Rattle.image.specs.Promises.{DataSized}
 use Rattle.image.proofs.Copies.{stands-header}
 use Rattle.image.proofs.Exact.{address-shows, address-passes, header-address, header-length, image-sector, write-shows}
 use Rattle.image.proofs.Lent.{refused-empty, accepted-data, accepted-lies}
 use Rattle.image.proofs.Images.{length-image, image-first, image-rest, image-data, written-stands, written-data, written-good, written-forced}
+
+-- what the header's reader and the verdict answer, and the room that the writer leaves
+abbrev pub headed : ℕ → List ℕ → Head
+headed size image = answer (headerFault size image) NoHead (Number (headerOf image))
+
+abbrev pub verdict : ℕ → List ℕ → ℕ → Verdict
+verdict size image number = answer (imageFault size image number) NotGood Good
+
+abbrev pub roomAfter : ℕ → ℕ → List ℕ → Bool → List ℕ → List ℕ
+roomAfter size number bytes forced room = answer (writeFault size bytes room) (λ fault. room) (imageIn number bytes forced room)
 
 -- the header's reader answers a number exactly where the image has its length and the number stands in three of the four copies
 pub header-answers : (size : ℕ) (image : List ℕ) (m : ℕ) → length image ≡ size + imageExtra → Stands image m → headed size image ≡ Number m

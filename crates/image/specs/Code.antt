@@ -22,17 +22,17 @@ unfoldable pub rotated : ℕ → ℕ
 rotated code = code * 2 % 2 ^ 16 + code / 2 ^ 15
 
 -- the code after one word more: rotated, then the exclusive or with the word
-unfoldable pub stepped : ℕ → ℕ → ℕ
-stepped code word = bitXor (rotated code) word
+unfoldable pub codeAfter : ℕ → ℕ → ℕ
+codeAfter code word = bitXor (rotated code) word
 
 -- the code after all words of a list, from a code on
 unfoldable pub codeFrom : ℕ → List ℕ → ℕ
 codeFrom code [] = code
-codeFrom code (word ∷ words) = codeFrom (stepped code word) words
+codeFrom code (word ∷ words) = codeFrom (codeAfter code word) words
 
 -- the code of data
-unfoldable pub codeOf : List ℕ → ℕ
-codeOf bytes = codeFrom startCode (wordsOf bytes)
+unfoldable pub dataCode : List ℕ → ℕ
+dataCode bytes = codeFrom startCode (wordsOf bytes)
 
 -- every one of the sixteen bits is the other one
 abbrev pub complement : ℕ → ℕ
@@ -40,4 +40,4 @@ complement code = 0xffff - code
 
 -- the code that an image carries: that of its data, or its complement where the data was bad when it was written
 unfoldable pub carried : Bool → List ℕ → ℕ
-carried forced bytes = pick forced (complement (codeOf bytes)) (codeOf bytes)
+carried forced bytes = pick forced (complement (dataCode bytes)) (dataCode bytes)

@@ -8,7 +8,7 @@ use Rattle.paper.specs.Checks.{pick, refuse, _orElse_}
 use Rattle.paper.specs.Limits.{imageExtra}
 use Rattle.paper.specs.Refusals.{noRoom, wrongLength, noAddress, otherBlock, forcedError, badCode}
 use Rattle.words.specs.Words.{bytes16, word16At, word32At, bytesOf, entriesAt}
-use Rattle.image.specs.Code.{codeOf, complement, carried}
+use Rattle.image.specs.Code.{dataCode, complement, carried}
 
 -- copies of the number in a header
 abbrev pub copiesMade : ℕ
@@ -53,7 +53,7 @@ storedIn size image = word16At image (headerSize + size)
 
 -- the code that its data has
 unfoldable pub foundIn : ℕ → List ℕ → ℕ
-foundIn size image = codeOf (dataOf size image)
+foundIn size image = dataCode (dataOf size image)
 
 -- the bytes of an image: four copies of the number, the data, and the code or its complement
 unfoldable pub imageOf : ℕ → List ℕ → Bool → List ℕ
@@ -68,27 +68,27 @@ abbrev pub lengthFault : ℕ → List ℕ → ℕ
 lengthFault long bytes = refuse (not (eqb (length bytes) long)) wrongLength
 
 -- 15 for a header in which no number stands
-unfoldable pub addressFault : List ℕ → ℕ
-addressFault image = refuse (ltb (times (headerOf image) (copies image)) copiesLeast) noAddress
+unfoldable pub copiesFault : List ℕ → ℕ
+copiesFault image = refuse (ltb (times (headerOf image) (copies image)) copiesLeast) noAddress
 
 -- 17 for a stored code that is the complement of the one found, 18 for any other but that one
 abbrev pub codeFault : ℕ → ℕ → ℕ
 codeFault stored found = pick (eqb stored found) 0 (pick (eqb stored (complement found)) forcedError badCode)
 
 -- 15, 16, then the code, of an image of the right length that is to name the number
-unfoldable pub sectorFault : ℕ → List ℕ → ℕ → ℕ
-sectorFault size image number =
-    addressFault image
+unfoldable pub contentsFault : ℕ → List ℕ → ℕ → ℕ
+contentsFault size image number =
+    copiesFault image
     orElse (refuse (not (eqb (headerOf image) number)) otherBlock
     orElse codeFault (storedIn size image) (foundIn size image))
 
 -- 14, 15: checks of a header
 unfoldable pub headerFault : ℕ → List ℕ → ℕ
-headerFault size image = lengthFault (size + imageExtra) image orElse addressFault image
+headerFault size image = lengthFault (size + imageExtra) image orElse copiesFault image
 
 -- 14 to 18: checks of an image
 unfoldable pub imageFault : ℕ → List ℕ → ℕ → ℕ
-imageFault size image number = lengthFault (size + imageExtra) image orElse sectorFault size image number
+imageFault size image number = lengthFault (size + imageExtra) image orElse contentsFault size image number
 
 -- 14, 7: checks of the writer
 unfoldable pub writeFault : ℕ → List ℕ → List ℕ → ℕ

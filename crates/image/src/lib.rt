@@ -5,8 +5,8 @@ ghost use lib.ListN.{length, replicate};
 ghost use lib.Seq.{sets};
 ghost use Rattle.paper.specs.Limits.{imageExtra};
 ghost use Rattle.words.specs.Words.{bytesOf};
-ghost use Rattle.image.specs.Code.{stepped, codeOf, carried};
-ghost use Rattle.image.specs.Image.{copiesMade, headerSize, alike, times, copies, headerOf, imageIn, addressFault, codeFault, sectorFault, headerFault, imageFault, writeFault};
+ghost use Rattle.image.specs.Code.{codeAfter, dataCode, carried};
+ghost use Rattle.image.specs.Image.{copiesMade, headerSize, alike, times, copies, headerOf, imageIn, copiesFault, codeFault, contentsFault, headerFault, imageFault, writeFault};
 ghost use Rattle.image.specs.Promises.{WriteSized, HeaderSized, JudgeSized, DataSized, Write, Header, Judge, Data};
 use paper::BAD_CODE;
 use paper::DATA_SIZE;
@@ -38,20 +38,20 @@ pub enum Verdict {
 }
 
 // The code after one word more.
-fn stepped(code: u16, word: u16) -> u16
-    ensures { λ r. ⌜ r ≡ stepped code word ⌝ }
+fn code_after(code: u16, word: u16) -> u16
+    ensures { λ result. ⌜ result ≡ codeAfter code word ⌝ }
 {
     ((code << 1) | (code >> 15)) ^ word
 }
 
 // The code of data; an odd last byte is no word. Only other crates call this.
-pub fn code_of(bytes: &[u8]) -> u16
-    ensures { λ r. ⌜ r ≡ codeOf (now (bytes .entry)) ⌝ }
+pub fn data_code(bytes: &[u8]) -> u16
+    ensures { λ result. ⌜ result ≡ dataCode (now (bytes .entry)) ⌝ }
 {
     let mut code = START_CODE;
     let mut i = 0;
     while i + 2 <= bytes.len() {
-        code = stepped(code, words::word16_at(bytes, i));
+        code = code_after(code, words::word16_at(bytes, i));
         i += 2;
     }
     code
@@ -59,9 +59,9 @@ pub fn code_of(bytes: &[u8]) -> u16
 
 // The code that an image of the data carries.
 fn carried(bytes: &[u8], forced: bool) -> u16
-    ensures { λ r. ⌜ r ≡ carried forced (now (bytes .entry)) ⌝ }
+    ensures { λ result. ⌜ result ≡ carried forced (now (bytes .entry)) ⌝ }
 {
-    let code = code_of(bytes);
+    let code = data_code(bytes);
     if forced {
         return CODE_MOST - code;
     }
@@ -70,7 +70,7 @@ fn carried(bytes: &[u8], forced: bool) -> u16
 
 // 1 for a copy that is the number, else 0.
 fn alike(copy: u32, number: u32) -> u32
-    ensures { λ r. ⌜ r ≡ alike copy number ⌝ }
+    ensures { λ result. ⌜ result ≡ alike copy number ⌝ }
 {
     if copy == number {
         return 1;
@@ -81,7 +81,7 @@ fn alike(copy: u32, number: u32) -> u32
 // How many of the four copies are the number.
 fn times(image: &[u8], number: u32) -> u32
     requires { ⌜ headerSize ≤ length (now image) ⌝ }
-    ensures { λ r. ⌜ r ≡ times number (copies (now (image .entry))) ⌝ }
+    ensures { λ result. ⌜ result ≡ times number (copies (now (image .entry))) ⌝ }
 {
     let first = alike(words::word32_at(image, 0), number);
     let second = alike(words::word32_at(image, 4), number);
@@ -93,7 +93,7 @@ fn times(image: &[u8], number: u32) -> u32
 // The number of a header in which one stands three times. Only other crates call this.
 pub fn header_of(image: &[u8]) -> u32
     requires { ⌜ headerSize ≤ length (now image) ⌝ }
-    ensures { λ r. ⌜ r ≡ headerOf (now (image .entry)) ⌝ }
+    ensures { λ result. ⌜ result ≡ headerOf (now (image .entry)) ⌝ }
 {
     let first = words::word32_at(image, 0);
     if times(image, first) < COPIES_LEAST {
@@ -103,9 +103,9 @@ pub fn header_of(image: &[u8]) -> u32
 }
 
 // 15 for a header in which no number stands three times, else 0. Only other crates call this.
-pub fn address_fault(image: &[u8]) -> u32
+pub fn copies_fault(image: &[u8]) -> u32
     requires { ⌜ headerSize ≤ length (now image) ⌝ }
-    ensures { λ r. ⌜ r ≡ addressFault (now (image .entry)) ⌝ }
+    ensures { λ result. ⌜ result ≡ copiesFault (now (image .entry)) ⌝ }
 {
     if times(image, header_of(image)) < COPIES_LEAST {
         return NO_ADDRESS;
@@ -115,7 +115,7 @@ pub fn address_fault(image: &[u8]) -> u32
 
 // 0 for the code that was found, 17 for its complement, else 18.
 fn code_fault(stored: u16, found: u16) -> u32
-    ensures { λ r. ⌜ r ≡ codeFault stored found ⌝ }
+    ensures { λ result. ⌜ result ≡ codeFault stored found ⌝ }
 {
     if stored == found {
         return 0;
@@ -127,11 +127,11 @@ fn code_fault(stored: u16, found: u16) -> u32
 }
 
 // 15, 16, 17 or 18 for an image of the right length, else 0. Only other crates call this.
-pub fn sector_fault(size: usize, image: &[u8], number: u32) -> u32
+pub fn contents_fault(size: usize, image: &[u8], number: u32) -> u32
     requires { ⌜ length (now image) ≡ size + imageExtra ⌝ }
-    ensures { λ r. ⌜ r ≡ sectorFault size (now (image .entry)) number ⌝ }
+    ensures { λ result. ⌜ result ≡ contentsFault size (now (image .entry)) number ⌝ }
 {
-    let fault = address_fault(image);
+    let fault = copies_fault(image);
     if fault != 0 {
         return fault;
     }
@@ -139,36 +139,36 @@ pub fn sector_fault(size: usize, image: &[u8], number: u32) -> u32
         return OTHER_BLOCK;
     }
     let stored = words::word16_at(image, HEADER_SIZE + size);
-    let found = code_of(&image[HEADER_SIZE..HEADER_SIZE + size]);
+    let found = data_code(&image[HEADER_SIZE..HEADER_SIZE + size]);
     code_fault(stored, found)
 }
 
 // 14 or 15 for an image, else 0. Only other crates call this.
 pub fn header_fault(size: usize, image: &[u8]) -> u32
     requires { ⌜ size + imageExtra < 2 ^ 32 ⌝ }
-    ensures { λ r. ⌜ r ≡ headerFault size (now (image .entry)) ⌝ }
+    ensures { λ result. ⌜ result ≡ headerFault size (now (image .entry)) ⌝ }
 {
     if image.len() != size + IMAGE_EXTRA {
         return WRONG_LENGTH;
     }
-    address_fault(image)
+    copies_fault(image)
 }
 
 // 14 to 18 for an image, else 0. Only other crates call this.
 pub fn image_fault(size: usize, image: &[u8], number: u32) -> u32
     requires { ⌜ size + imageExtra < 2 ^ 32 ⌝ }
-    ensures { λ r. ⌜ r ≡ imageFault size (now (image .entry)) number ⌝ }
+    ensures { λ result. ⌜ result ≡ imageFault size (now (image .entry)) number ⌝ }
 {
     if image.len() != size + IMAGE_EXTRA {
         return WRONG_LENGTH;
     }
-    sector_fault(size, image, number)
+    contents_fault(size, image, number)
 }
 
 // 14 or 7 for the data to write and the room for its image, else 0.
 fn write_fault(size: usize, bytes: &[u8], room: &[u8]) -> u32
     requires { ⌜ size + imageExtra < 2 ^ 32 ⌝ }
-    ensures { λ r. ⌜ r ≡ writeFault size (now (bytes .entry)) (now (room .entry)) ⌝ }
+    ensures { λ result. ⌜ result ≡ writeFault size (now (bytes .entry)) (now (room .entry)) ⌝ }
 {
     if bytes.len() != size {
         return WRONG_LENGTH;
@@ -182,7 +182,7 @@ fn write_fault(size: usize, bytes: &[u8], room: &[u8]) -> u32
 // Writes the four copies of a number.
 fn put_header(room: &mut [u8], number: u32)
     requires { ⌜ headerSize ≤ length (now room) ⌝ }
-    ensures { λ r. ⌜ now (room .exit) ≡ sets (now (room .entry)) 0 (bytesOf (replicate copiesMade number)) ⌝ }
+    ensures { λ result. ⌜ now (room .exit) ≡ sets (now (room .entry)) 0 (bytesOf (replicate copiesMade number)) ⌝ }
 {
     words::put32(room, 0, number);
     words::put32(room, 4, number);
@@ -193,7 +193,7 @@ fn put_header(room: &mut [u8], number: u32)
 // Writes bytes at a place. Only other crates call this.
 pub fn put_bytes(room: &mut [u8], at: usize, bytes: &[u8])
     requires { ⌜ at + length (now bytes) ≤ length (now room) ⌝ }
-    ensures { λ r. ⌜ now (room .exit) ≡ sets (now (room .entry)) at (now (bytes .entry)) ⌝ }
+    ensures { λ result. ⌜ now (room .exit) ≡ sets (now (room .entry)) at (now (bytes .entry)) ⌝ }
 {
     let mut i = 0;
     while i < bytes.len() {
@@ -205,7 +205,7 @@ pub fn put_bytes(room: &mut [u8], at: usize, bytes: &[u8])
 // Writes the image of data into the first places of a room.
 fn put_image(number: u32, bytes: &[u8], forced: bool, room: &mut [u8])
     requires { ⌜ length (now bytes) + imageExtra ≤ length (now room) ⌝ }
-    ensures { λ r. ⌜ now (room .exit) ≡ imageIn number (now (bytes .entry)) forced (now (room .entry)) ⌝ }
+    ensures { λ result. ⌜ now (room .exit) ≡ imageIn number (now (bytes .entry)) forced (now (room .entry)) ⌝ }
 {
     let code = carried(bytes, forced);
     put_header(room, number);
@@ -216,7 +216,7 @@ fn put_image(number: u32, bytes: &[u8], forced: bool, room: &mut [u8])
 // Writes the image of data of a size. Checks 14, 7. Only other crates call this.
 pub fn write_sized(size: usize, number: u32, bytes: &[u8], forced: bool, room: &mut [u8]) -> Written
     requires { ⌜ size + imageExtra < 2 ^ 32 ⌝ }
-    ensures { λ r. ⌜ WriteSized size number (now (bytes .entry)) forced (now (room .entry)) r (now (room .exit)) ⌝ }
+    ensures { λ result. ⌜ WriteSized size number (now (bytes .entry)) forced (now (room .entry)) result (now (room .exit)) ⌝ }
 {
     let fault = write_fault(size, bytes, room);
     if fault != 0 {
@@ -229,7 +229,7 @@ pub fn write_sized(size: usize, number: u32, bytes: &[u8], forced: bool, room: &
 // The number that the header of an image carries. Checks 14, 15. Only other crates call this.
 pub fn header_sized(size: usize, image: &[u8]) -> Head
     requires { ⌜ size + imageExtra < 2 ^ 32 ⌝ }
-    ensures { λ r. ⌜ HeaderSized size (now (image .entry)) r ⌝ }
+    ensures { λ result. ⌜ HeaderSized size (now (image .entry)) result ⌝ }
 {
     let fault = header_fault(size, image);
     if fault != 0 {
@@ -241,7 +241,7 @@ pub fn header_sized(size: usize, image: &[u8]) -> Head
 // The verdict on an image that is to name a number. Checks 14, 15, 16, then the code. Only other crates call this.
 pub fn judge_sized(size: usize, image: &[u8], number: u32) -> Verdict
     requires { ⌜ size + imageExtra < 2 ^ 32 ⌝ }
-    ensures { λ r. ⌜ JudgeSized size (now (image .entry)) number r ⌝ }
+    ensures { λ result. ⌜ JudgeSized size (now (image .entry)) number result ⌝ }
 {
     let fault = image_fault(size, image, number);
     if fault != 0 {
@@ -253,7 +253,7 @@ pub fn judge_sized(size: usize, image: &[u8], number: u32) -> Verdict
 // The data of a good image where it lies, else the empty part at the image's start. Only other crates call this.
 pub fn data_sized(size: usize, image: &[u8], number: u32) -> &[u8]
     requires { ⌜ size + imageExtra < 2 ^ 32 ⌝ }
-    ensures { λ r. ⌜ DataSized size (image .entry) number r ⌝ }
+    ensures { λ result. ⌜ DataSized size (image .entry) number result ⌝ }
 {
     let fault = image_fault(size, image, number);
     if fault != 0 {
@@ -264,28 +264,28 @@ pub fn data_sized(size: usize, image: &[u8], number: u32) -> &[u8]
 
 // Writes the image of a block's data, good or forced. Checks 14, 7.
 pub fn write(block: u32, data: &[u8], forced: bool, room: &mut [u8]) -> Written
-    ensures { λ r. ⌜ Write block (now («data» .entry)) forced (now (room .entry)) r (now (room .exit)) ⌝ }
+    ensures { λ result. ⌜ Write block (now («data» .entry)) forced (now (room .entry)) result (now (room .exit)) ⌝ }
 {
     write_sized(DATA_SIZE, block, data, forced, room)
 }
 
 // The number that the header of an image carries. Checks 14, 15.
 pub fn header(image: &[u8]) -> Head
-    ensures { λ r. ⌜ Header (now (image .entry)) r ⌝ }
+    ensures { λ result. ⌜ Header (now (image .entry)) result ⌝ }
 {
     header_sized(DATA_SIZE, image)
 }
 
 // The verdict on the image of a block. Checks 14, 15, 16, then 17 or 18.
 pub fn judge(image: &[u8], block: u32) -> Verdict
-    ensures { λ r. ⌜ Judge (now (image .entry)) block r ⌝ }
+    ensures { λ result. ⌜ Judge (now (image .entry)) block result ⌝ }
 {
     judge_sized(DATA_SIZE, image, block)
 }
 
 // The 512 bytes of a good image of a block where they lie; the empty part at the image's start exactly when the verdict refuses.
 pub fn data(image: &[u8], block: u32) -> &[u8]
-    ensures { λ r. ⌜ Data (image .entry) block r ⌝ }
+    ensures { λ result. ⌜ Data (image .entry) block result ⌝ }
 {
     data_sized(DATA_SIZE, image, block)
 }

@@ -7,17 +7,17 @@ use native.Mathlib.Omega.{arith}
 use Rattle.shape.specs.declared.Shape.{Shape}
 use Rattle.shape.specs.Shapes.{Shaped, sizeOf}
 use Rattle.shape.proofs.Bounds.{size-fits}
-use Rattle.layout.specs.Layouts.{Drives, Laid, layoutOf, sectorsOf}
+use Rattle.layout.specs.Layouts.{Spared, Laid, driveOf, sectorsPerTrack}
 
-module _ {shape : Shape} {r : ℕ} (drives : Drives shape r) where
+module _ {shape : Shape} {r : ℕ} (drives : Spared shape r) where
   -- homes and spares of a track are its sectors, and those of all tracks the drive's
-  pub track-whole : sectorsOf (layoutOf shape r) ≡ shape .sectors
+  pub track-whole : sectorsPerTrack (driveOf shape r) ≡ shape .sectors
   track-whole = omega arith
 
-  pub drive-whole : layoutOf shape r .tracks * sectorsOf (layoutOf shape r) ≡ sizeOf shape
+  pub drive-whole : driveOf shape r .tracks * sectorsPerTrack (driveOf shape r) ≡ sizeOf shape
   drive-whole = rw track-whole
 
-pub laid : {shape : Shape} {r : ℕ} → Shaped shape → Drives shape r → Laid (layoutOf shape r)
+pub laid : {shape : Shape} {r : ℕ} → Shaped shape → Spared shape r → Laid (driveOf shape r)
 laid {shape} {r} shaped drives =
     record {
       heads-some = shaped .heads .0;

@@ -4,7 +4,7 @@ use mathlib.Core.Bool.{Bool, _&&_, _||_}
 use mathlib.Core.Path.{_≡_}
 use mathlib.Core.Logic.{_⊎_}
 use lib.Dec.{eqb}
-use Rattle.layout.specs.declared.Layout.{Layout}
+use Rattle.layout.specs.declared.Drive.{Drive}
 
 -- the codes
 abbrev pub free : ℕ
@@ -36,8 +36,8 @@ abbrev pub numberOf : ℕ → ℕ
 numberOf word = word % codeUnit
 
 -- the place that a block is given first: (b / l) × r
-abbrev pub primary : Layout → ℕ → ℕ
-primary g b = b / g .home * g .spare
+abbrev pub primary : Drive → ℕ → ℕ
+primary drive b = b / drive .l * drive .r
 
 -- a word that names a block: allocated at the primary or elsewhere
 abbrev pub Allocated : ℕ → Type 0

@@ -2,7 +2,7 @@
 ghost use mathlib.Core.Path.{_≡_};
 ghost use Prim.Native.Nat.{_<_};
 ghost use Rattle.shape.specs.Shapes.{Shaped};
-ghost use Rattle.layout.specs.Layouts.{Drives, driveFault, layoutOf, Laid, homeSector, spareSector, homeCylinder, spareCylinder};
+ghost use Rattle.layout.specs.Layouts.{Spared, driveFault, driveOf, Laid, homeSector, spareSector, homeCylinder, spareCylinder};
 ghost use Rattle.layout.specs.Descriptors.{free, atPrimary, elsewhere, unusable, null, codeUnit, codeOf, numberOf, primary, isAllocated, names};
 use paper::OUT_OF_RANGE;
 use paper::SPARES_MOST;
@@ -23,27 +23,27 @@ pub const CODE_UNIT: u32 = 268_435_456;
 
 // Each code and the code's unit are those of the definitions.
 fn codes_agree()
-    ensures { λ r. do ⌜ (← ⟦FREE⟧ .entry) ≡ free ⌝ }
-    ensures { λ r. do ⌜ (← ⟦AT_PRIMARY⟧ .entry) ≡ atPrimary ⌝ }
-    ensures { λ r. do ⌜ (← ⟦ELSEWHERE⟧ .entry) ≡ elsewhere ⌝ }
-    ensures { λ r. do ⌜ (← ⟦UNUSABLE⟧ .entry) ≡ unusable ⌝ }
-    ensures { λ r. do ⌜ (← ⟦NULL⟧ .entry) ≡ null ⌝ }
-    ensures { λ r. do ⌜ (← ⟦CODE_UNIT⟧ .entry) ≡ codeUnit ⌝ }
+    ensures { λ result. do ⌜ (← ⟦FREE⟧ .entry) ≡ free ⌝ }
+    ensures { λ result. do ⌜ (← ⟦AT_PRIMARY⟧ .entry) ≡ atPrimary ⌝ }
+    ensures { λ result. do ⌜ (← ⟦ELSEWHERE⟧ .entry) ≡ elsewhere ⌝ }
+    ensures { λ result. do ⌜ (← ⟦UNUSABLE⟧ .entry) ≡ unusable ⌝ }
+    ensures { λ result. do ⌜ (← ⟦NULL⟧ .entry) ≡ null ⌝ }
+    ensures { λ result. do ⌜ (← ⟦CODE_UNIT⟧ .entry) ≡ codeUnit ⌝ }
 {}
 
-// The numbers of a revectored drive that everything below the check of its shape needs.
-pub struct Layout {
+// A revectored drive in the paper's letters: T tracks, H heads, l home sectors and r spares of a track, all its spares and all its blocks.
+pub struct Drive {
     pub tracks: u32,
     pub heads: u32,
-    pub home: u32,
-    pub spare: u32,
+    pub l: u32,
+    pub r: u32,
     pub spares: u32,
     pub blocks: u32,
 }
 
 // Refusal 1 for a shape, an r or a number of spares outside its range, else 0. Only other crates call this.
 pub fn drive_fault(shape: Shape, r: u32) -> u32
-    ensures { λ fault. ⌜ fault ≡ driveFault shape r ⌝ }
+    ensures { λ result. ⌜ result ≡ driveFault shape r ⌝ }
 {
     let fault = shape::shape_fault(shape);
     if fault != 0 {
@@ -62,17 +62,17 @@ pub fn drive_fault(shape: Shape, r: u32) -> u32
 }
 
 // The layout of a drive that passes its check. Only other crates call this.
-pub fn layout_of(shape: Shape, r: u32) -> Layout
+pub fn drive_of(shape: Shape, r: u32) -> Drive
     requires { ⌜ Shaped shape ⌝ }
-    requires { ⌜ Drives shape r ⌝ }
-    ensures { λ g. ⌜ g ≡ layoutOf shape r ⌝ }
+    requires { ⌜ Spared shape r ⌝ }
+    ensures { λ result. ⌜ result ≡ driveOf shape r ⌝ }
 {
     let tracks = shape.cylinders * shape.heads;
-    Layout {
+    Drive {
         tracks,
         heads: shape.heads,
-        home: shape.sectors - r,
-        spare: r,
+        l: shape.sectors - r,
+        r,
         spares: tracks * r,
         blocks: tracks * (shape.sectors - r),
     }
@@ -80,21 +80,21 @@ pub fn layout_of(shape: Shape, r: u32) -> Layout
 
 // The code of a descriptor. Only other crates call this.
 pub fn code_of(word: u32) -> u32
-    ensures { λ r. ⌜ r ≡ codeOf word ⌝ }
+    ensures { λ result. ⌜ result ≡ codeOf word ⌝ }
 {
     word / CODE_UNIT
 }
 
 // The number of a descriptor. Only other crates call this.
 pub fn number_of(word: u32) -> u32
-    ensures { λ r. ⌜ r ≡ numberOf word ⌝ }
+    ensures { λ result. ⌜ result ≡ numberOf word ⌝ }
 {
     word % CODE_UNIT
 }
 
 // Whether a descriptor names a block. Only other crates call this.
 pub fn is_allocated(word: u32) -> bool
-    ensures { λ r. ⌜ r ≡ isAllocated word ⌝ }
+    ensures { λ result. ⌜ result ≡ isAllocated word ⌝ }
 {
     let code = code_of(word);
     if code == AT_PRIMARY {
@@ -105,7 +105,7 @@ pub fn is_allocated(word: u32) -> bool
 
 // Whether a descriptor names this block: the number is compared first, since few are equal. Only other crates call this.
 pub fn names(word: u32, block: u32) -> bool
-    ensures { λ r. ⌜ r ≡ names word block ⌝ }
+    ensures { λ result. ⌜ result ≡ names word block ⌝ }
 {
     if number_of(word) != block {
         return false;
@@ -114,44 +114,44 @@ pub fn names(word: u32, block: u32) -> bool
 }
 
 // The place that a block is given first. Only other crates call this.
-pub fn primary(g: Layout, block: u32) -> u32
-    requires { ⌜ Laid g ⌝ }
-    requires { ⌜ block < g .blocks ⌝ }
-    ensures { λ r. ⌜ r ≡ primary g block ⌝ }
+pub fn primary(drive: Drive, block: u32) -> u32
+    requires { ⌜ Laid drive ⌝ }
+    requires { ⌜ block < drive .blocks ⌝ }
+    ensures { λ result. ⌜ result ≡ primary drive block ⌝ }
 {
-    block / g.home * g.spare
+    block / drive.l * drive.r
 }
 
 // The home of a block. Only other crates call this.
-pub fn home_sector(g: Layout, block: u32) -> u32
-    requires { ⌜ Laid g ⌝ }
-    requires { ⌜ block < g .blocks ⌝ }
-    ensures { λ r. ⌜ r ≡ homeSector g block ⌝ }
+pub fn home_sector(drive: Drive, block: u32) -> u32
+    requires { ⌜ Laid drive ⌝ }
+    requires { ⌜ block < drive .blocks ⌝ }
+    ensures { λ result. ⌜ result ≡ homeSector drive block ⌝ }
 {
-    block / g.home * (g.home + g.spare) + block % g.home
+    block / drive.l * (drive.l + drive.r) + block % drive.l
 }
 
 // The sector of a spare. Only other crates call this.
-pub fn spare_sector(g: Layout, place: u32) -> u32
-    requires { ⌜ Laid g ⌝ }
-    requires { ⌜ place < g .spares ⌝ }
-    ensures { λ r. ⌜ r ≡ spareSector g place ⌝ }
+pub fn spare_sector(drive: Drive, place: u32) -> u32
+    requires { ⌜ Laid drive ⌝ }
+    requires { ⌜ place < drive .spares ⌝ }
+    ensures { λ result. ⌜ result ≡ spareSector drive place ⌝ }
 {
-    place / g.spare * (g.home + g.spare) + (g.home + place % g.spare)
+    place / drive.r * (drive.l + drive.r) + (drive.l + place % drive.r)
 }
 
 // The cylinder of a block's home. Only other crates call this.
-pub fn home_cylinder(g: Layout, block: u32) -> u32
-    requires { ⌜ Laid g ⌝ }
-    ensures { λ r. ⌜ r ≡ homeCylinder g block ⌝ }
+pub fn home_cylinder(drive: Drive, block: u32) -> u32
+    requires { ⌜ Laid drive ⌝ }
+    ensures { λ result. ⌜ result ≡ homeCylinder drive block ⌝ }
 {
-    block / g.home / g.heads
+    block / drive.l / drive.heads
 }
 
 // The cylinder of a spare. Only other crates call this.
-pub fn spare_cylinder(g: Layout, place: u32) -> u32
-    requires { ⌜ Laid g ⌝ }
-    ensures { λ r. ⌜ r ≡ spareCylinder g place ⌝ }
+pub fn spare_cylinder(drive: Drive, place: u32) -> u32
+    requires { ⌜ Laid drive ⌝ }
+    ensures { λ result. ⌜ result ≡ spareCylinder drive place ⌝ }
 {
-    place / g.spare / g.heads
+    place / drive.r / drive.heads
 }

@@ -8,7 +8,7 @@ use native.Mathlib.Omega.{arith}
 use lib.ListN.{length, getD, length-append, List·getD-append}
 use borrow.Author.Tests.{lt-ltb, le-ltb}
 use Rattle.paper.proofs.Cases.{byLt}
-use Rattle.listing_text.specs.Decimal.{digitZero, digit, digitsIn, decimal, saidAfter, numberOf}
+use Rattle.listing_text.specs.Decimal.{digitZero, digit, digitsIn, decimal, saidAfter, saidBy}
 
 -- more steps than the number has digits change nothing
 steps-enough : (steps more n : ℕ) → n < steps → n < more → digitsIn steps n ≡ digitsIn more n
@@ -42,14 +42,14 @@ said-next before [] d = refl
 said-next before (e ∷ text) d = said-next (before * 10 + (e - digitZero)) text d
 
 -- the digits of a number say the number
-pub reads-back : (n : ℕ) → numberOf (decimal n) ≡ n
+pub reads-back : (n : ℕ) → saidBy (decimal n) ≡ n
 unfolding saidAfter
-reads-back = by-digits (λ n. numberOf (decimal n) ≡ n) one more
+reads-back = by-digits (λ n. saidBy (decimal n) ≡ n) one more
   where
-    one : (n : ℕ) → n < 10 → numberOf (decimal n) ≡ n
+    one : (n : ℕ) → n < 10 → saidBy (decimal n) ≡ n
     one n small = rw (decimal-one n small) (omega arith)
 
-    more : (n : ℕ) → 10 ≤ n → numberOf (decimal (n / 10)) ≡ n / 10 → numberOf (decimal n) ≡ n
+    more : (n : ℕ) → 10 ≤ n → saidBy (decimal (n / 10)) ≡ n / 10 → saidBy (decimal n) ≡ n
     more n large before = rw (decimal-more n large, said-next 0 (decimal (n / 10)) (digit (n % 10)), before) (omega arith)
 
 -- the last digit counts one

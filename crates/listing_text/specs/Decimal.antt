@@ -26,5 +26,5 @@ saidAfter before [] = before
 saidAfter before (d ∷ text) = saidAfter (before * 10 + (d - digitZero)) text
 
 -- the number that digits say
-abbrev pub numberOf : List ℕ → ℕ
-numberOf text = saidAfter 0 text
+abbrev pub saidBy : List ℕ → ℕ
+saidBy text = saidAfter 0 text

@@ -9,7 +9,7 @@ use Rattle.paper.specs.Checks.{refuse, _orElse_, answer}
 use Rattle.paper.specs.Refusals.{badPage}
 use Rattle.paper.specs.Limits.{listingMost, pageFrame, entrySize}
 use Rattle.paper.specs.Exactly.{When, _andThen_}
-use Rattle.lists.specs.Union.{written}
+use Rattle.paper.specs.Promise.{written}
 use Rattle.page.specs.Layout.{kindOf, unitsOf, entriesOf}
 use Rattle.page.specs.Pages.{pageFault, PageJudged}
 use Rattle.listing_text.specs.Decimal.{decimal}

@@ -50,22 +50,22 @@ pub const LISTING_ROOM: usize = SECTORS_SIZE
 
 // Each size and byte of the code is that of the definitions.
 fn sizes_agree()
-    ensures { λ r. do ⌜ (← ⟦SECTORS_SIZE⟧ .entry) ≡ length sectorsWord ⌝ }
-    ensures { λ r. do ⌜ (← ⟦BLOCKS_SIZE⟧ .entry) ≡ length blocksWord ⌝ }
-    ensures { λ r. do ⌜ (← ⟦BAD_SIZE⟧ .entry) ≡ length badWord ⌝ }
-    ensures { λ r. do ⌜ (← ⟦REFUSED_SIZE⟧ .entry) ≡ length refusedWord ⌝ }
-    ensures { λ r. do ⌜ (← ⟦SPACE⟧ .entry) ≡ space ⌝ }
-    ensures { λ r. do ⌜ (← ⟦LINE_END⟧ .entry) ≡ lineEnd ⌝ }
-    ensures { λ r. do ⌜ (← ⟦DIGIT_ZERO⟧ .entry) ≡ digitZero ⌝ }
-    ensures { λ r. do ⌜ (← ⟦DIGITS_MOST⟧ .entry) ≡ digitsMost ⌝ }
-    ensures { λ r. do ⌜ (← ⟦LISTED_MOST⟧ .entry) ≡ listedMost ⌝ }
-    ensures { λ r. do ⌜ (← ⟦LISTING_ROOM⟧ .entry) ≡ listingRoom ⌝ }
+    ensures { λ result. do ⌜ (← ⟦SECTORS_SIZE⟧ .entry) ≡ length sectorsWord ⌝ }
+    ensures { λ result. do ⌜ (← ⟦BLOCKS_SIZE⟧ .entry) ≡ length blocksWord ⌝ }
+    ensures { λ result. do ⌜ (← ⟦BAD_SIZE⟧ .entry) ≡ length badWord ⌝ }
+    ensures { λ result. do ⌜ (← ⟦REFUSED_SIZE⟧ .entry) ≡ length refusedWord ⌝ }
+    ensures { λ result. do ⌜ (← ⟦SPACE⟧ .entry) ≡ space ⌝ }
+    ensures { λ result. do ⌜ (← ⟦LINE_END⟧ .entry) ≡ lineEnd ⌝ }
+    ensures { λ result. do ⌜ (← ⟦DIGIT_ZERO⟧ .entry) ≡ digitZero ⌝ }
+    ensures { λ result. do ⌜ (← ⟦DIGITS_MOST⟧ .entry) ≡ digitsMost ⌝ }
+    ensures { λ result. do ⌜ (← ⟦LISTED_MOST⟧ .entry) ≡ listedMost ⌝ }
+    ensures { λ result. do ⌜ (← ⟦LISTING_ROOM⟧ .entry) ≡ listingRoom ⌝ }
 {}
 
 // Writes a word at a place, and answers the place after it.
 fn put_word(room: &mut [u8], at: usize, word: &[u8]) -> usize
     requires { ⌜ at + length (now word) ≤ length (now room) ⌝ }
-    ensures { λ r. ⌜ Puts (now (word .entry)) at (now (room .entry)) r (now (room .exit)) ⌝ }
+    ensures { λ result. ⌜ Puts (now (word .entry)) at (now (room .entry)) result (now (room .exit)) ⌝ }
 {
     let mut i = 0;
     while i < word.len() {
@@ -78,7 +78,7 @@ fn put_word(room: &mut [u8], at: usize, word: &[u8]) -> usize
 // Writes a number at a place, and answers the place after it.
 fn put_number(room: &mut [u8], at: usize, number: u32) -> usize
     requires { ⌜ at + length (decimal number) ≤ length (now room) ⌝ }
-    ensures { λ r. ⌜ Puts (decimal number) at (now (room .entry)) r (now (room .exit)) ⌝ }
+    ensures { λ result. ⌜ Puts (decimal number) at (now (room .entry)) result (now (room .exit)) ⌝ }
 {
     if number < 10 {
         room[at] = DIGIT_ZERO + number as u8;
@@ -92,7 +92,7 @@ fn put_number(room: &mut [u8], at: usize, number: u32) -> usize
 // Writes a line at a place, and answers the place after it.
 fn put_line(room: &mut [u8], at: usize, word: &[u8], number: u32) -> usize
     requires { ⌜ at + length (line (now word) number) ≤ length (now room) ⌝ }
-    ensures { λ r. ⌜ Puts (line (now (word .entry)) number) at (now (room .entry)) r (now (room .exit)) ⌝ }
+    ensures { λ result. ⌜ Puts (line (now (word .entry)) number) at (now (room .entry)) result (now (room .exit)) ⌝ }
 {
     let gap = put_word(room, at, word);
     room[gap] = SPACE;
@@ -104,7 +104,7 @@ fn put_line(room: &mut [u8], at: usize, word: &[u8], number: u32) -> usize
 // Writes the line of a page's units at the start, in the word of its kind, and answers the place after it.
 fn put_units(room: &mut [u8], kind: u32, n: u32) -> usize
     requires { ⌜ length (line (unitsWord kind) n) ≤ length (now room) ⌝ }
-    ensures { λ r. ⌜ Puts (line (unitsWord kind) n) 0 (now (room .entry)) r (now (room .exit)) ⌝ }
+    ensures { λ result. ⌜ Puts (line (unitsWord kind) n) 0 (now (room .entry)) result (now (room .exit)) ⌝ }
 {
     put_line(room, 0, &SECTORS, n)
 }
@@ -112,7 +112,7 @@ fn put_units(room: &mut [u8], kind: u32, n: u32) -> usize
 // Writes the lines of a page's frame at the start, and answers the place after them.
 fn put_frame(room: &mut [u8], kind: u32, n: u32, entries: u32) -> usize
     requires { ⌜ (n ≤ unitsMost) × (entries ≤ n) × (frameMost ≤ length (now room)) ⌝ }
-    ensures { λ r. ⌜ Puts (frameText kind n entries) 0 (now (room .entry)) r (now (room .exit)) ⌝ }
+    ensures { λ result. ⌜ Puts (frameText kind n entries) 0 (now (room .entry)) result (now (room .exit)) ⌝ }
 {
     let blocks = put_units(room, kind, n);
     put_line(room, blocks, &BLOCKS, n - entries)
@@ -121,7 +121,7 @@ fn put_frame(room: &mut [u8], kind: u32, n: u32, entries: u32) -> usize
 // Writes a line for each of so many entries of a page, and answers the place after them.
 fn put_entries(room: &mut [u8], at: usize, page: &[u8], count: usize) -> usize
     requires { ⌜ (entriesPlace + entrySize * count ≤ length (now page)) × Inside unitsMost (entriesAt (now page) entriesPlace count) × (at + lineMost badWord * count ≤ length (now room)) ⌝ }
-    ensures { λ r. ⌜ Puts (entriesText (entriesAt (now (page .entry)) entriesPlace count)) at (now (room .entry)) r (now (room .exit)) ⌝ }
+    ensures { λ result. ⌜ Puts (entriesText (entriesAt (now (page .entry)) entriesPlace count)) at (now (room .entry)) result (now (room .exit)) ⌝ }
 {
     let mut next = at;
     let mut i = 0;
@@ -135,7 +135,7 @@ fn put_entries(room: &mut [u8], at: usize, page: &[u8], count: usize) -> usize
 // Writes the listing of a page that passes its checks, and answers how long it is.
 fn put_page(page: &[u8], room: &mut [u8]) -> usize
     requires { ⌜ (pageFault (now page) ≡ 0) × (length (now page) ≤ listingMost) × (listingRoom ≤ length (now room)) ⌝ }
-    ensures { λ r. ⌜ Puts (pageText (now (page .entry))) 0 (now (room .entry)) r (now (room .exit)) ⌝ }
+    ensures { λ result. ⌜ Puts (pageText (now (page .entry))) 0 (now (room .entry)) result (now (room .exit)) ⌝ }
 {
     let count = page::entry_count(page);
     let entries = put_frame(
@@ -149,7 +149,7 @@ fn put_page(page: &[u8], room: &mut [u8]) -> usize
 
 // The checks of a listing: 8 above its own limit, then those of the page.
 fn listing_fault(page: &[u8]) -> u32
-    ensures { λ r. ⌜ r ≡ listingFault (now (page .entry)) ⌝ }
+    ensures { λ result. ⌜ result ≡ listingFault (now (page .entry)) ⌝ }
 {
     if LISTING_MOST < page.len() {
         return BAD_PAGE;
@@ -159,7 +159,7 @@ fn listing_fault(page: &[u8]) -> u32
 
 // Writes the listing of a page, or the line of its refusal, into the first places of the room, and answers how long it is. Only other crates call this.
 pub fn put_listing(page: &[u8], room: &mut [u8; LISTING_ROOM]) -> usize
-    ensures { λ r. ⌜ Lists (now (page .entry)) (now (room .entry)) r (now (room .exit)) ⌝ }
+    ensures { λ result. ⌜ Lists (now (page .entry)) (now (room .entry)) result (now (room .exit)) ⌝ }
 {
     let fault = listing_fault(page);
     if fault != 0 {

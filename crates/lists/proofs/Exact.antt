@@ -16,7 +16,7 @@ use Rattle.paper.proofs.Cases.{byBool, byLt, byFault}
 use Rattle.paper.proofs.Chain.{orElse-first, orElse-next}
 use Rattle.paper.proofs.Rows.{Tells, row, rows, tells-lt, size-exactly, size-shows}
 use Rattle.seek.proofs.Firsts.{Lowest, fault-none, fault-clean, fault-at, fault-found}
-use Rattle.lists.specs.Proper.{Proper, risesAt, placeFault, placesFault, listFault, spaceFault, SoundAt, SoundBefore, LowestFault, ListJudged, SpaceJudged}
+use Rattle.lists.specs.Proper.{Proper, risesAt, faultAt, lowestFault, listFault, spaceFault, SoundAt, SoundBefore, LowestFault, ListJudged, SpaceJudged}
 
 -- the entry at a place is greater than the one before it, where there is one
 abbrev Rises : List ℕ → ℕ → Type 0
@@ -36,16 +36,16 @@ rises-tells a (suc i) =
     last = omega arith
 
 module _ (n : ℕ) (a : List ℕ) (i : ℕ) where
-  fault-falls : risesAt a i ≡ false → placeFault n a i ≡ notRising
+  fault-falls : risesAt a i ≡ false → faultAt n a i ≡ notRising
   fault-falls e = rw e
 
-  fault-strays : risesAt a i ≡ true → n ≤ getD a i 0 → placeFault n a i ≡ outside
+  fault-strays : risesAt a i ≡ true → n ≤ getD a i 0 → faultAt n a i ≡ outside
   fault-strays e h = rw (e, le-leb n (getD a i 0) h)
 
-  fault-sound : SoundAt n a i → placeFault n a i ≡ 0
+  fault-sound : SoundAt n a i → faultAt n a i ≡ 0
   fault-sound sound = rw (rises-tells a i .told (sound .rises), lt-leb n (getD a i 0) (sound .inside))
 
-  sound-fault : placeFault n a i ≡ 0 → SoundAt n a i
+  sound-fault : faultAt n a i ≡ 0 → SoundAt n a i
   sound-fault none =
       byBool (risesAt a i)
       (λ rises.
@@ -65,7 +65,7 @@ module _ (n : ℕ) (a : List ℕ) where
       rises : getD a i 0 < getD a (suc i) 0 → Rises a (suc i)
       rises less before one = let same : before ≡ i = omega arith in rw same less
 
-  lowest-at : (i : ℕ) → i < length a → SoundBefore n a i → (placeFault n a i ≡ 0 → ⊥) → LowestFault n a (placeFault n a i)
+  lowest-at : (i : ℕ) → i < length a → SoundBefore n a i → (faultAt n a i ≡ 0 → ⊥) → LowestFault n a (faultAt n a i)
   lowest-at i h before some =
       byBool (risesAt a i)
       (λ rises.
@@ -74,32 +74,32 @@ module _ (n : ℕ) (a : List ℕ) where
       (λ strays. rw (fault-strays n a i rises strays) (LowestFault.strays i h before (rises-tells a i .holds rises) strays)))
       (λ falls. rw (fault-falls n a i falls) (falls-at i h before falls))
 
-  lowest-judged : LowestFault n a (placesFault n a)
+  lowest-judged : LowestFault n a (lowestFault n a)
   lowest-judged =
-      byFault (placesFault n a)
-      (λ none. rw none (LowestFault.sound (λ j h. sound-fault n a j (fault-clean (placeFault n a) (length a) none j h))))
+      byFault (lowestFault n a)
+      (λ none. rw none (LowestFault.sound (λ j h. sound-fault n a j (fault-clean (faultAt n a) (length a) none j h))))
       (λ some.
-      let lowest : Lowest (placeFault n a) (length a) = fault-found (placeFault n a) (length a) some in
+      let lowest : Lowest (faultAt n a) (length a) = fault-found (faultAt n a) (length a) some in
       rw (lowest .here)
       (lowest-at (lowest .place) (lowest .below)
       (λ j h. sound-fault n a j (lowest .before j h))
       (λ none. some (lowest .here ∙ none))))
 
-  lowest-is : (i : ℕ) → i < length a → SoundBefore n a i → (k : ℕ) → (k ≡ 0 → ⊥) → placeFault n a i ≡ k → placesFault n a ≡ k
+  lowest-is : (i : ℕ) → i < length a → SoundBefore n a i → (k : ℕ) → (k ≡ 0 → ⊥) → faultAt n a i ≡ k → lowestFault n a ≡ k
   lowest-is i h before k some here =
-      fault-at (placeFault n a) (length a) i h (λ none. some (sym here ∙ none)) (λ j l. fault-sound n a j (before j l)) ∙ here
+      fault-at (faultAt n a) (length a) i h (λ none. some (sym here ∙ none)) (λ j l. fault-sound n a j (before j l)) ∙ here
 
-  lowest-only : (k : ℕ) → LowestFault n a k → placesFault n a ≡ k
+  lowest-only : (k : ℕ) → LowestFault n a k → lowestFault n a ≡ k
   lowest-only k (LowestFault.falls i h before more) =
       lowest-is (suc i) h before notRising (λ e. omega arith)
       (fault-falls n a (suc i)
       (byBool (risesAt a (suc i)) (λ e. absurd (omega (arith, rises-tells a (suc i) .holds e i refl))) (λ e. e)))
   lowest-only k (LowestFault.strays i h before rises strays) =
       lowest-is i h before outside (λ e. omega arith) (fault-strays n a i (rises-tells a i .told rises) strays)
-  lowest-only k (LowestFault.sound all) = fault-none (placeFault n a) (length a) (λ j h. fault-sound n a j (all j h))
+  lowest-only k (LowestFault.sound all) = fault-none (faultAt n a) (length a) (λ j h. fault-sound n a j (all j h))
 
   -- 3 and 4 are given for the places of a list exactly when the paper says so
-  pub places-exactly : Exactly (LowestFault n a) (placesFault n a)
+  pub places-exactly : Exactly (LowestFault n a) (lowestFault n a)
   places-exactly = record { judged = lowest-judged; only = lowest-only }
 
   -- 2, 3 and 4 are given for a list exactly when the paper says so
@@ -125,16 +125,16 @@ module _ (n : ℕ) (a : List ℕ) where
       sound : (i : ℕ) → i < length a → SoundAt n a i
       sound i h =
           sound-fault n a i
-          (fault-clean (placeFault n a) (length a) (orElse-next (refuse (ltb listMost (length a)) tooLong) (placesFault n a) none) i h)
+          (fault-clean (faultAt n a) (length a) (orElse-next (refuse (ltb listMost (length a)) tooLong) (lowestFault n a) none) i h)
 
   -- places with no fault rise and lie inside
-  pub places-show : placesFault n a ≡ 0 → (i : ℕ) → i < length a → SoundAt n a i
-  places-show none i h = sound-fault n a i (fault-clean (placeFault n a) (length a) none i h)
+  pub places-show : lowestFault n a ≡ 0 → (i : ℕ) → i < length a → SoundAt n a i
+  places-show none i h = sound-fault n a i (fault-clean (faultAt n a) (length a) none i h)
 
   pub list-passes : Proper n a → listFault n a ≡ 0
   list-passes proper =
       rw (le-ltb listMost (length a) (proper .short))
-      (fault-none (placeFault n a) (length a) (λ i h. fault-sound n a i (sound i h)))
+      (fault-none (faultAt n a) (length a) (λ i h. fault-sound n a i (sound i h)))
     where
       sound : (i : ℕ) → i < length a → SoundAt n a i
       sound i h =

@@ -7,7 +7,7 @@ use native.Mathlib.Omega.{arith}
 use native.Mathlib.Numerals.{add-one}
 use lib.ListN.{length, take, drop, set, length-set, take-append-drop}
 use lib.Seq.{take-suc-set, drop-set-lt, length-take-le, drop-drop}
-use Rattle.lists.specs.Union.{written}
+use Rattle.paper.specs.Promise.{written}
 
 -- `count` places hold the list up to what is `left` of it
 pub record Filled (list left before room : List ℕ) (count : ℕ) : Type 0 where

@@ -9,7 +9,8 @@ use Rattle.paper.specs.Checks.{refuse, _orElse_}
 use Rattle.paper.specs.Refusals.{tooLong, notRising, outside}
 use Rattle.paper.specs.Limits.{listMost, sizeFault, SizeJudged}
 use Rattle.paper.specs.Exactly.{When, _andThen_}
-use Rattle.seek.specs.First.{firstFault}
+use Rattle.paper.specs.Conditions.{TooLong}
+use Rattle.seek.specs.First.{faultBelow}
 
 -- each entry is greater than the one before
 abbrev pub Rising : List ℕ → Type 0
@@ -33,16 +34,16 @@ abbrev pub boundFault : ℕ → ℕ → ℕ
 boundFault n entry = refuse (leb n entry) outside
 
 -- what is wrong at a place: 3 before 4
-abbrev pub placeFault : ℕ → List ℕ → ℕ → ℕ
-placeFault n a i = refuse (not (risesAt a i)) notRising orElse boundFault n (getD a i 0)
+abbrev pub faultAt : ℕ → List ℕ → ℕ → ℕ
+faultAt n a i = refuse (not (risesAt a i)) notRising orElse boundFault n (getD a i 0)
 
 -- the fault of the lowest place at fault
-abbrev pub placesFault : ℕ → List ℕ → ℕ
-placesFault n a = firstFault (placeFault n a) (length a)
+abbrev pub lowestFault : ℕ → List ℕ → ℕ
+lowestFault n a = faultBelow (faultAt n a) (length a)
 
 -- the check of a list: its length, then the lowest place at fault
 abbrev pub listFault : ℕ → List ℕ → ℕ
-listFault n a = refuse (ltb listMost (length a)) tooLong orElse placesFault n a
+listFault n a = refuse (ltb listMost (length a)) tooLong orElse lowestFault n a
 
 -- N, then a list over N
 abbrev pub spaceFault : ℕ → List ℕ → ℕ
@@ -64,7 +65,7 @@ pub data LowestFault (n : ℕ) (a : List ℕ) : ℕ → Type 0 where
 
 -- exactly when 2, 3 and 4 are given for a list
 abbrev pub ListJudged : ℕ → List ℕ → ℕ → Type 0
-ListJudged n a = When tooLong (listMost < length a) andThen LowestFault n a
+ListJudged n a = When tooLong (TooLong a) andThen LowestFault n a
 
 -- exactly when 1 to 4 are given for N and a list over it
 abbrev pub SpaceJudged : ℕ → List ℕ → ℕ → Type 0

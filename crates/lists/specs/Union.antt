@@ -1,8 +1,7 @@
--- The union of two lists, each entry once, and the places of a room that a list fills. An entry is in a list by a test.
+-- The union of two lists, each entry once. An entry is in a list by a test.
 use Prim.Native.Nat.{ℕ}
 use mathlib.Core.Bool.{Bool, false, _||_}
-use mathlib.Core.List.{List, [], _∷_, _++_}
-use lib.ListN.{length, drop}
+use mathlib.Core.List.{List, [], _∷_}
 use lib.Dec.{eqb, ltb}
 use Rattle.paper.specs.Checks.{pick}
 
@@ -20,7 +19,3 @@ into x rest (y ∷ b) = pick (ltb x y) (x ∷ rest (y ∷ b)) (pick (eqb x y) (x
 unfoldable pub union : List ℕ → List ℕ → List ℕ
 union [] b = b
 union (x ∷ a) b = into x (union a) b
-
--- a room whose first places hold a list, and the rest what it held
-abbrev pub written : List ℕ → List ℕ → List ℕ
-written list room = list ++ drop (length list) room

@@ -2,8 +2,9 @@
 ghost use mathlib.Core.Path.{_≡_};
 ghost use Prim.Native.Nat.{_+_, _<_, _≤_};
 ghost use lib.ListN.{length};
-ghost use Rattle.lists.specs.Proper.{boundFault, placeFault, listFault, spaceFault};
-ghost use Rattle.lists.specs.Union.{union, written};
+ghost use Rattle.lists.specs.Proper.{boundFault, faultAt, listFault, spaceFault};
+ghost use Rattle.lists.specs.Union.{union};
+ghost use Rattle.paper.specs.Promise.{written};
 ghost use Rattle.lists.specs.Merging.{Takes};
 use paper::LIST_MOST;
 use paper::NOT_RISING;
@@ -12,7 +13,7 @@ use paper::TOO_LONG;
 
 // Refusal 4 for an entry that is no unit of its space, else 0.
 fn bound_fault(n: u32, entry: u32) -> u32
-    ensures { λ r. ⌜ r ≡ boundFault n entry ⌝ }
+    ensures { λ result. ⌜ result ≡ boundFault n entry ⌝ }
 {
     if n <= entry {
         return OUTSIDE;
@@ -21,9 +22,9 @@ fn bound_fault(n: u32, entry: u32) -> u32
 }
 
 // What is wrong at one place of a list: 3 before 4, 0 for nothing.
-fn place_fault(n: u32, list: &[u32], i: usize) -> u32
+fn fault_at(n: u32, list: &[u32], i: usize) -> u32
     requires { ⌜ i < length (now list) ⌝ }
-    ensures { λ r. ⌜ r ≡ placeFault n (now (list .entry)) i ⌝ }
+    ensures { λ result. ⌜ result ≡ faultAt n (now (list .entry)) i ⌝ }
 {
     if i == 0 {
         return bound_fault(n, list[i]);
@@ -36,14 +37,14 @@ fn place_fault(n: u32, list: &[u32], i: usize) -> u32
 
 // The list's check: 2, then the lowest place at fault, 3 before 4; 0 for a proper list. Only other crates call this.
 pub fn list_fault(n: u32, list: &[u32]) -> u32
-    ensures { λ r. ⌜ r ≡ listFault n (now (list .entry)) ⌝ }
+    ensures { λ result. ⌜ result ≡ listFault n (now (list .entry)) ⌝ }
 {
     if LIST_MOST < list.len() {
         return TOO_LONG;
     }
     let mut i = 0;
     while i < list.len() {
-        let fault = place_fault(n, list, i);
+        let fault = fault_at(n, list, i);
         if fault != 0 {
             return fault;
         }
@@ -54,7 +55,7 @@ pub fn list_fault(n: u32, list: &[u32]) -> u32
 
 // The size N and then a list over it: 1, then the list's own check. Only other crates call this.
 pub fn space_fault(n: u32, list: &[u32]) -> u32
-    ensures { λ r. ⌜ r ≡ spaceFault n (now (list .entry)) ⌝ }
+    ensures { λ result. ⌜ result ≡ spaceFault n (now (list .entry)) ⌝ }
 {
     let fault = paper::size_fault(n);
     if fault != 0 {
@@ -73,7 +74,7 @@ pub struct Taken {
 // One step of a merge: the smaller of the two entries that stand next, taken from both lists where it stands in both.
 fn take(a: &[u32], b: &[u32], i: usize, j: usize) -> Taken
     requires { ⌜ (i ≤ length (now a)) × (j ≤ length (now b)) × (i + j < length (now a) + length (now b)) ⌝ }
-    ensures { λ r. ⌜ Takes (now (a .entry)) (now (b .entry)) i j r ⌝ }
+    ensures { λ result. ⌜ Takes (now (a .entry)) (now (b .entry)) i j result ⌝ }
 {
     if i == a.len() {
         return Taken {
@@ -114,7 +115,7 @@ fn take(a: &[u32], b: &[u32], i: usize, j: usize) -> Taken
 
 // How many entries the union of two lists has. Only other crates call this.
 pub fn union_length(a: &[u32], b: &[u32]) -> usize
-    ensures { λ r. ⌜ r ≡ length (union (now (a .entry)) (now (b .entry))) ⌝ }
+    ensures { λ result. ⌜ result ≡ length (union (now (a .entry)) (now (b .entry))) ⌝ }
 {
     let mut i = 0;
     let mut j = 0;
@@ -131,7 +132,7 @@ pub fn union_length(a: &[u32], b: &[u32]) -> usize
 // Writes the union of two lists into the first places of the room, which has that many, and leaves the rest. Only other crates call this.
 pub fn merge(a: &[u32], b: &[u32], room: &mut [u32])
     requires { ⌜ length (union (now a) (now b)) ≤ length (now room) ⌝ }
-    ensures { λ r. ⌜ now (room .exit) ≡ written (union (now (a .entry)) (now (b .entry))) (now (room .entry)) ⌝ }
+    ensures { λ result. ⌜ now (room .exit) ≡ written (union (now (a .entry)) (now (b .entry))) (now (room .entry)) ⌝ }
 {
     let mut i = 0;
     let mut j = 0;

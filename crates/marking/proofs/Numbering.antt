@@ -9,8 +9,8 @@ use lib.Arith.{digits-div, digits-mod}
 use borrow.Author.Tests.{ltb-true, ltb-false, lt-ltb, le-ltb, not-true}
 use Rattle.paper.specs.Limits.{sparesMost}
 use Rattle.paper.proofs.Cases.{byLt}
-use Rattle.layout.specs.declared.Layout.{Layout}
-use Rattle.layout.specs.Layouts.{Laid, sectorsOf, homeSector, spareSector}
+use Rattle.layout.specs.declared.Drive.{Drive}
+use Rattle.layout.specs.Layouts.{Laid, sectorsPerTrack, homeSector, spareSector}
 use Rattle.layout.proofs.Sectors.{home-offset, home-block, spare-offset, spare-place, block-below, place-below}
 use Rattle.table.specs.Rules.{tableLength}
 use Rattle.table.proofs.Obeying.{spares-in-table, table-few}
@@ -36,53 +36,53 @@ at-rises each sectors first some fits a b h =
     let sectors-same : a / each * sectors ≡ b / each * sectors = ap (λ (k : ℕ). k * sectors) same in
     omega arith))
 
-module _ {g : Layout} (laid : Laid g) where
+module _ {drive : Drive} (laid : Laid drive) where
   -- every sector is a home or a spare, and a home is no spare
-  pub home-is-home : (b : ℕ) → isHome g (homeSector g b) ≡ true
-  home-is-home b = lt-ltb (homeSector g b % sectorsOf g) (g .home) (rw (home-offset laid b) (mod-lt b (laid .home-some)))
+  pub home-is-home : (b : ℕ) → isHome drive (homeSector drive b) ≡ true
+  home-is-home b = lt-ltb (homeSector drive b % sectorsPerTrack drive) (drive .l) (rw (home-offset laid b) (mod-lt b (laid .home-some)))
 
-  pub spare-no-home : (q : ℕ) → isHome g (spareSector g q) ≡ false
-  spare-no-home q = le-ltb (spareSector g q % sectorsOf g) (g .home) (rw (spare-offset laid q) (omega arith))
+  pub spare-no-home : (q : ℕ) → isHome drive (spareSector drive q) ≡ false
+  spare-no-home q = le-ltb (spareSector drive q % sectorsPerTrack drive) (drive .l) (rw (spare-offset laid q) (omega arith))
 
-  pub home-of : (s : ℕ) → isHome g s ≡ true → homeSector g (blockAt g s) ≡ s
+  pub home-of : (s : ℕ) → isHome drive s ≡ true → homeSector drive (blockAt drive s) ≡ s
   home-of s e =
-      let h : s % sectorsOf g < g .home = ltb-true (s % sectorsOf g) (g .home) e in
-      rw (digits-div (s / sectorsOf g) h, digits-mod (s / sectorsOf g) h) (div-add-mod' s (sectorsOf g))
+      let h : s % sectorsPerTrack drive < drive .l = ltb-true (s % sectorsPerTrack drive) (drive .l) e in
+      rw (digits-div (s / sectorsPerTrack drive) h, digits-mod (s / sectorsPerTrack drive) h) (div-add-mod' s (sectorsPerTrack drive))
 
-  pub spare-of : (s : ℕ) → isHome g s ≡ false → spareSector g (spareAt g s) ≡ s
+  pub spare-of : (s : ℕ) → isHome drive s ≡ false → spareSector drive (spareAt drive s) ≡ s
   spare-of s e =
-      let h : g .home ≤ s % sectorsOf g = ltb-false (s % sectorsOf g) (g .home) e in
-      let some : 0 < sectorsOf g = omega arith in
-      let after : s % sectorsOf g - g .home < g .spare = omega (arith, mod-lt s some) in
-      let back : g .home + (s % sectorsOf g - g .home) ≡ s % sectorsOf g = omega arith in
-      rw (digits-div (s / sectorsOf g) after, digits-mod (s / sectorsOf g) after, back) (div-add-mod' s (sectorsOf g))
+      let h : drive .l ≤ s % sectorsPerTrack drive = ltb-false (s % sectorsPerTrack drive) (drive .l) e in
+      let some : 0 < sectorsPerTrack drive = omega arith in
+      let after : s % sectorsPerTrack drive - drive .l < drive .r = omega (arith, mod-lt s some) in
+      let back : drive .l + (s % sectorsPerTrack drive - drive .l) ≡ s % sectorsPerTrack drive = omega arith in
+      rw (digits-div (s / sectorsPerTrack drive) after, digits-mod (s / sectorsPerTrack drive) after, back) (div-add-mod' s (sectorsPerTrack drive))
 
-  pub block-in : (s : ℕ) → s < g .tracks * sectorsOf g → isHome g s ≡ true → blockAt g s < g .blocks
-  block-in s h e = block-below laid h (ltb-true (s % sectorsOf g) (g .home) e)
+  pub block-in : (s : ℕ) → s < drive .tracks * sectorsPerTrack drive → isHome drive s ≡ true → blockAt drive s < drive .blocks
+  block-in s h e = block-below laid h (ltb-true (s % sectorsPerTrack drive) (drive .l) e)
 
-  pub spare-in : (s : ℕ) → s < g .tracks * sectorsOf g → isHome g s ≡ false → spareAt g s < g .spares
-  spare-in s h e = place-below laid h (ltb-false (s % sectorsOf g) (g .home) e)
+  pub spare-in : (s : ℕ) → s < drive .tracks * sectorsPerTrack drive → isHome drive s ≡ false → spareAt drive s < drive .spares
+  spare-in s h e = place-below laid h (ltb-false (s % sectorsPerTrack drive) (drive .l) e)
 
   -- the place of a spare is one of the table, which is short
-  pub spare-placed : (s : ℕ) → s < g .tracks * sectorsOf g → isHome g s ≡ false → (spareAt g s < tableLength g) × (tableLength g ≤ sparesMost)
-  spare-placed s h e = (omega (arith, spare-in s h e, spares-in-table g), table-few laid)
+  pub spare-placed : (s : ℕ) → s < drive .tracks * sectorsPerTrack drive → isHome drive s ≡ false → (spareAt drive s < tableLength drive) × (tableLength drive ≤ sparesMost)
+  spare-placed s h e = (omega (arith, spare-in s h e, spares-in-table drive), table-few laid)
 
-  pub homes-numbered : Numbered (isHome g) (blockAt g) (homeSector g) (g .blocks) (g .tracks * sectorsOf g)
+  pub homes-numbered : Numbered (isHome drive) (blockAt drive) (homeSector drive) (drive .blocks) (drive .tracks * sectorsPerTrack drive)
   homes-numbered =
       record {
-        rises = λ a b h. omega (arith, at-rises (g .home) (sectorsOf g) 0 (laid .home-some) (omega arith) a b h);
+        rises = λ a b h. omega (arith, at-rises (drive .l) (sectorsPerTrack drive) 0 (laid .home-some) (omega arith) a b h);
         kind-of = home-is-home;
         number-of = home-block laid;
         sector-of = home-of;
         below = block-in;
       }
 
-  pub spares-numbered : Numbered (λ s. not (isHome g s)) (spareAt g) (spareSector g) (g .spares) (g .tracks * sectorsOf g)
+  pub spares-numbered : Numbered (λ s. not (isHome drive s)) (spareAt drive) (spareSector drive) (drive .spares) (drive .tracks * sectorsPerTrack drive)
   spares-numbered =
       record {
-        rises = at-rises (g .spare) (sectorsOf g) (g .home) (laid .spare-some) (omega arith);
+        rises = at-rises (drive .r) (sectorsPerTrack drive) (drive .l) (laid .spare-some) (omega arith);
         kind-of = λ q. rw (spare-no-home q);
         number-of = spare-place laid;
-        sector-of = λ s e. spare-of s (not-true (isHome g s) e);
-        below = λ s h e. spare-in s h (not-true (isHome g s) e);
+        sector-of = λ s e. spare-of s (not-true (isHome drive s) e);
+        below = λ s h e. spare-in s h (not-true (isHome drive s) e);
       }

@@ -22,10 +22,10 @@ use Rattle.marking.specs.Marks.{passing}
 
 -- two tests that tell conditions which follow from each other are equal
 pub tells-alike : {s t : Bool} {F G : Type 0} → Tells s F → Tells t G → (F → G) → (G → F) → s ≡ t
-tells-alike {s} {t} f g there back =
+tells-alike {s} {t} f drive there back =
     byBool s
-    (λ e. e ∙ sym (g .told (there (f .holds e))))
-    (λ e. byBool t (λ h. absurd (true≢false (sym (f .told (back (g .holds h))) ∙ e))) (λ h. e ∙ sym h))
+    (λ e. e ∙ sym (drive .told (there (f .holds e))))
+    (λ e. byBool t (λ h. absurd (true≢false (sym (f .told (back (drive .holds h))) ∙ e))) (λ h. e ∙ sym h))
 
 -- an entry of a list is its first entry or one of the others
 pub in-shows : (x : ℕ) (a : List ℕ) (s : ℕ) {G : Type 0} → isIn (x ∷ a) s ≡ true → (x ≡ s → G) → (isIn a s ≡ true → G) → G

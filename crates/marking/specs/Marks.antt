@@ -9,7 +9,7 @@ use Rattle.paper.specs.Checks.{pick}
 use Rattle.seek.specs.Count.{countBelow}
 use Rattle.seek.specs.Search.{rising}
 use Rattle.lists.specs.Union.{isIn}
-use Rattle.layout.specs.declared.Layout.{Layout}
+use Rattle.layout.specs.declared.Drive.{Drive}
 use Rattle.layout.specs.Layouts.{homeSector, spareSector}
 use Rattle.layout.specs.Descriptors.{free, unusable, null, wordOf}
 use Rattle.table.specs.Rules.{tableLength}
@@ -22,44 +22,44 @@ passing test [] = []
 passing test (x ∷ xs) = pick (test x) (x ∷ passing test xs) (passing test xs)
 
 -- a spare, or a home block, is bad where its sector is in the list
-abbrev pub isBadSpare : Layout → List ℕ → ℕ → Bool
-isBadSpare g list q = isIn list (spareSector g q)
+abbrev pub isBadSpare : Drive → List ℕ → ℕ → Bool
+isBadSpare drive list q = isIn list (spareSector drive q)
 
-abbrev pub isBadHome : Layout → List ℕ → ℕ → Bool
-isBadHome g list b = isIn list (homeSector g b)
+abbrev pub isBadHome : Drive → List ℕ → ℕ → Bool
+isBadHome drive list b = isIn list (homeSector drive b)
 
 -- how many spares are bad
-unfoldable pub badSpares : Layout → List ℕ → ℕ
-badSpares g list = countBelow (isBadSpare g list) (g .spares)
+unfoldable pub badSpares : Drive → List ℕ → ℕ
+badSpares drive list = countBelow (isBadSpare drive list) (drive .spares)
 
 -- the bad home blocks, rising
-unfoldable pub badHomes : Layout → List ℕ → List ℕ
-badHomes g list = passing (isBadHome g list) (rising 0 (g .blocks))
+unfoldable pub badHomes : Drive → List ℕ → List ℕ
+badHomes drive list = passing (isBadHome drive list) (rising 0 (drive .blocks))
 
 -- how many spares are left for them
-abbrev pub goodSpares : Layout → List ℕ → ℕ
-goodSpares g list = g .spares - badSpares g list
+abbrev pub goodSpares : Drive → List ℕ → ℕ
+goodSpares drive list = drive .spares - badSpares drive list
 
 -- the descriptor of a place before any block is replaced: null beyond the spares, a bad spare unusable, any other free
-abbrev pub markedWord : Layout → List ℕ → ℕ → ℕ
-markedWord g list q = pick (leb (g .spares) q) (wordOf null 0) (pick (isBadSpare g list q) (wordOf unusable 0) (wordOf free 0))
+abbrev pub markedWord : Drive → List ℕ → ℕ → ℕ
+markedWord drive list q = pick (leb (drive .spares) q) (wordOf null 0) (pick (isBadSpare drive list q) (wordOf unusable 0) (wordOf free 0))
 
 -- the table before any block is replaced
-unfoldable pub marked : Layout → List ℕ → List ℕ
-marked g list = map (markedWord g list) (rising 0 (tableLength g))
+unfoldable pub marked : Drive → List ℕ → List ℕ
+marked drive list = map (markedWord drive list) (rising 0 (tableLength drive))
 
 -- a table with one more bad sector: its spare is marked, and a home sector alters nothing
-abbrev pub markedAlso : Layout → ℕ → List ℕ → List ℕ
-markedAlso g s t = pick (isHome g s) t (set t (spareAt g s) (wordOf unusable 0))
+abbrev pub markedAlso : Drive → ℕ → List ℕ → List ℕ
+markedAlso drive s t = pick (isHome drive s) t (set t (spareAt drive s) (wordOf unusable 0))
 
 -- the counts with one more bad sector
-abbrev pub countedAlso : Layout → ℕ → Bad → Bad
-countedAlso g s bad =
-    pick (isHome g s)
+abbrev pub countedAlso : Drive → ℕ → Bad → Bad
+countedAlso drive s bad =
+    pick (isHome drive s)
     (record { homes = bad .homes + 1; spares = bad .spares })
     (record { homes = bad .homes; spares = bad .spares + 1 })
 
 -- the counts of a list
-pub record Counts (g : Layout) (list : List ℕ) (bad : Bad) : Type 0 where
-  pub are-homes : bad .homes ≡ length (badHomes g list)
-  pub are-spares : bad .spares ≡ badSpares g list
+pub record CountsBad (drive : Drive) (list : List ℕ) (bad : Bad) : Type 0 where
+  pub are-homes : bad .homes ≡ length (badHomes drive list)
+  pub are-spares : bad .spares ≡ badSpares drive list

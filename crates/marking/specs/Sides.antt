@@ -2,17 +2,17 @@
 use Prim.Native.Nat.{ℕ, _+_, _-_, _*_, _/_, _%_}
 use mathlib.Core.Bool.{Bool}
 use lib.Dec.{ltb}
-use Rattle.layout.specs.declared.Layout.{Layout}
-use Rattle.layout.specs.Layouts.{sectorsOf}
+use Rattle.layout.specs.declared.Drive.{Drive}
+use Rattle.layout.specs.Layouts.{sectorsPerTrack}
 
 -- a track has its homes first and then its spares
-abbrev pub isHome : Layout → ℕ → Bool
-isHome g s = ltb (s % sectorsOf g) (g .home)
+abbrev pub isHome : Drive → ℕ → Bool
+isHome drive s = ltb (s % sectorsPerTrack drive) (drive .l)
 
 -- the block whose home a sector is
-abbrev pub blockAt : Layout → ℕ → ℕ
-blockAt g s = s / sectorsOf g * g .home + s % sectorsOf g
+abbrev pub blockAt : Drive → ℕ → ℕ
+blockAt drive s = s / sectorsPerTrack drive * drive .l + s % sectorsPerTrack drive
 
 -- the place of the spare that a sector is
-abbrev pub spareAt : Layout → ℕ → ℕ
-spareAt g s = s / sectorsOf g * g .spare + (s % sectorsOf g - g .home)
+abbrev pub spareAt : Drive → ℕ → ℕ
+spareAt drive s = s / sectorsPerTrack drive * drive .r + (s % sectorsPerTrack drive - drive .l)

@@ -5,14 +5,14 @@ ghost use Prim.Native.Nat.{_*_, _<_, _≤_};
 ghost use lib.ListN.{length};
 ghost use Rattle.paper.specs.Limits.{listMost};
 ghost use Rattle.lists.specs.Proper.{Proper};
-ghost use Rattle.lists.specs.Union.{written};
-ghost use Rattle.layout.specs.Layouts.{Laid, sectorsOf};
+ghost use Rattle.paper.specs.Promise.{written};
+ghost use Rattle.layout.specs.Layouts.{Laid, sectorsPerTrack};
 ghost use Rattle.table.specs.Rules.{tableLength};
 ghost use Rattle.marking.specs.Sides.{isHome, blockAt};
-ghost use Rattle.marking.specs.Marks.{markedWord, marked, markedAlso, countedAlso, Counts};
+ghost use Rattle.marking.specs.Marks.{markedWord, marked, markedAlso, countedAlso, CountsBad};
 use layout::CODE_UNIT;
+use layout::Drive;
 use layout::FREE;
-use layout::Layout;
 use layout::NULL;
 use layout::UNUSABLE;
 
@@ -23,84 +23,84 @@ pub struct Bad {
 }
 
 // Whether a sector is the home of a block, and not a spare. Only other crates call this.
-pub fn is_home(g: Layout, sector: u32) -> bool
-    requires { ⌜ Laid g ⌝ }
-    ensures { λ r. ⌜ r ≡ isHome g sector ⌝ }
+pub fn is_home(drive: Drive, sector: u32) -> bool
+    requires { ⌜ Laid drive ⌝ }
+    ensures { λ result. ⌜ result ≡ isHome drive sector ⌝ }
 {
-    sector % (g.home + g.spare) < g.home
+    sector % (drive.l + drive.r) < drive.l
 }
 
 // The block whose home a sector is. Only other crates call this.
-pub fn block_at(g: Layout, sector: u32) -> u32
-    requires { ⌜ Laid g ⌝ }
-    requires { ⌜ sector < g .tracks * sectorsOf g ⌝ }
-    ensures { λ r. ⌜ r ≡ blockAt g sector ⌝ }
+pub fn block_at(drive: Drive, sector: u32) -> u32
+    requires { ⌜ Laid drive ⌝ }
+    requires { ⌜ sector < drive .tracks * sectorsPerTrack drive ⌝ }
+    ensures { λ result. ⌜ result ≡ blockAt drive sector ⌝ }
 {
-    let sectors = g.home + g.spare;
-    sector / sectors * g.home + sector % sectors
+    let sectors = drive.l + drive.r;
+    sector / sectors * drive.l + sector % sectors
 }
 
 // Marks the spare that a bad sector is; a home sector alters nothing.
-fn mark_one(g: Layout, sector: u32, room: &mut [u32])
-    requires { ⌜ Laid g ⌝ }
-    requires { ⌜ sector < g .tracks * sectorsOf g ⌝ }
-    requires { ⌜ tableLength g ≤ length (now room) ⌝ }
-    ensures { λ r. ⌜ now (room .exit) ≡ markedAlso g sector (now (room .entry)) ⌝ }
+fn mark_one(drive: Drive, sector: u32, room: &mut [u32])
+    requires { ⌜ Laid drive ⌝ }
+    requires { ⌜ sector < drive .tracks * sectorsPerTrack drive ⌝ }
+    requires { ⌜ tableLength drive ≤ length (now room) ⌝ }
+    ensures { λ result. ⌜ now (room .exit) ≡ markedAlso drive sector (now (room .entry)) ⌝ }
 {
-    if is_home(g, sector) {
+    if is_home(drive, sector) {
         return;
     }
-    let sectors = g.home + g.spare;
-    let place = sector / sectors * g.spare + (sector % sectors - g.home);
+    let sectors = drive.l + drive.r;
+    let place = sector / sectors * drive.r + (sector % sectors - drive.l);
     room[place as usize] = UNUSABLE * CODE_UNIT;
 }
 
 // The descriptor of a place of a table with no bad spare.
-fn clear_word(g: Layout, place: usize) -> u32
-    ensures { λ r. ⌜ r ≡ markedWord g [] place ⌝ }
+fn clear_word(drive: Drive, place: usize) -> u32
+    ensures { λ result. ⌜ result ≡ markedWord drive [] place ⌝ }
 {
-    if g.spares as usize <= place {
+    if drive.spares as usize <= place {
         return NULL * CODE_UNIT;
     }
     FREE * CODE_UNIT
 }
 
 // Writes the table with no bad spare into the first places of the room, and leaves the rest.
-fn clear(g: Layout, room: &mut [u32])
-    requires { ⌜ Laid g ⌝ }
-    requires { ⌜ tableLength g ≤ length (now room) ⌝ }
-    ensures { λ r. ⌜ now (room .exit) ≡ written (marked g []) (now (room .entry)) ⌝ }
+fn clear(drive: Drive, room: &mut [u32])
+    requires { ⌜ Laid drive ⌝ }
+    requires { ⌜ tableLength drive ≤ length (now room) ⌝ }
+    ensures { λ result. ⌜ now (room .exit) ≡ written (marked drive []) (now (room .entry)) ⌝ }
 {
-    let length = table::table_length(g);
+    let length = table::table_length(drive);
     let mut place = 0;
     while place < length {
-        room[place] = clear_word(g, place);
+        room[place] = clear_word(drive, place);
         place += 1;
     }
 }
 
 // Writes the table before any block is replaced into the first places of the room, and leaves the rest. Only other crates call this.
-pub fn mark(g: Layout, list: &[u32], room: &mut [u32])
-    requires { ⌜ Laid g ⌝ }
-    requires { ⌜ Proper (g .tracks * sectorsOf g) (now list) ⌝ }
-    requires { ⌜ tableLength g ≤ length (now room) ⌝ }
-    ensures { λ r. ⌜ now (room .exit) ≡ written (marked g (now (list .entry))) (now (room .entry)) ⌝ }
+pub fn mark(drive: Drive, list: &[u32], room: &mut [u32])
+    requires { ⌜ Laid drive ⌝ }
+    requires { ⌜ Proper (drive .tracks * sectorsPerTrack drive) (now list) ⌝ }
+    requires { ⌜ tableLength drive ≤ length (now room) ⌝ }
+    ensures { λ result. ⌜ now (room .exit) ≡ written (marked drive (now (list .entry))) (now (room .entry)) ⌝ }
 {
-    clear(g, room);
+    clear(drive, room);
     let mut i = 0;
     while i < list.len() {
-        mark_one(g, list[i], room);
+        mark_one(drive, list[i], room);
         i += 1;
     }
 }
 
 // The counts with one more bad sector.
-fn count_one(g: Layout, sector: u32, bad: Bad) -> Bad
-    requires { ⌜ Laid g ⌝ }
+fn count_one(drive: Drive, sector: u32, bad: Bad) -> Bad
+    requires { ⌜ Laid drive ⌝ }
     requires { ⌜ (bad .homes < listMost) × (bad .spares < listMost) ⌝ }
-    ensures { λ r. ⌜ r ≡ countedAlso g sector bad ⌝ }
+    ensures { λ result. ⌜ result ≡ countedAlso drive sector bad ⌝ }
 {
-    if is_home(g, sector) {
+    if is_home(drive, sector) {
         return Bad {
             homes: bad.homes + 1,
             spares: bad.spares,
@@ -113,10 +113,10 @@ fn count_one(g: Layout, sector: u32, bad: Bad) -> Bad
 }
 
 // How many home blocks and how many spares the list names. Only other crates call this.
-pub fn count_bad(g: Layout, list: &[u32]) -> Bad
-    requires { ⌜ Laid g ⌝ }
-    requires { ⌜ Proper (g .tracks * sectorsOf g) (now list) ⌝ }
-    ensures { λ r. ⌜ Counts g (now (list .entry)) r ⌝ }
+pub fn count_bad(drive: Drive, list: &[u32]) -> Bad
+    requires { ⌜ Laid drive ⌝ }
+    requires { ⌜ Proper (drive .tracks * sectorsPerTrack drive) (now list) ⌝ }
+    ensures { λ result. ⌜ CountsBad drive (now (list .entry)) result ⌝ }
 {
     let mut bad = Bad {
         homes: 0,
@@ -124,7 +124,7 @@ pub fn count_bad(g: Layout, list: &[u32]) -> Bad
     };
     let mut i = 0;
     while i < list.len() {
-        bad = count_one(g, list[i], bad);
+        bad = count_one(drive, list[i], bad);
         i += 1;
     }
     bad

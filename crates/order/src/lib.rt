@@ -18,12 +18,12 @@ const TURNS: u32 = 2 * TABLE_BLOCK as u32 - 1;
 
 // The number of turns of the code is that of the definitions.
 fn turns_agree()
-    ensures { λ r. do ⌜ (← ⟦TURNS⟧ .entry) ≡ turns ⌝ }
+    ensures { λ result. do ⌜ (← ⟦TURNS⟧ .entry) ≡ turns ⌝ }
 {}
 
 // Whether a descriptor stops the search.
 fn is_free(word: u32) -> bool
-    ensures { λ r. ⌜ r ≡ isFree word ⌝ }
+    ensures { λ result. ⌜ result ≡ isFree word ⌝ }
 {
     word == FREE
 }
@@ -31,7 +31,7 @@ fn is_free(word: u32) -> bool
 // The signed offset that a turn of the outward search tries: 0, +1, −1, +2, −2 and so on.
 fn offset_of(turn: u32) -> i32
     requires { ⌜ turn < turns ⌝ }
-    ensures { λ r. ⌜ r ≡ offsetOf turn ⌝ }
+    ensures { λ result. ⌜ result ≡ offsetOf turn ⌝ }
 {
     let distance = ((turn + 1) / 2) as i32;
     if turn % 2 == 0 {
@@ -44,7 +44,7 @@ fn offset_of(turn: u32) -> i32
 fn place_in(o: u32, k: i32) -> u32
     requires { ⌜ o < tableBlock ⌝ }
     requires { ⌜ natAbs k ≤ tableBlock ⌝ }
-    ensures { λ r. ⌜ r ≡ placeIn (pos o +ℤ k) ⌝ }
+    ensures { λ result. ⌜ result ≡ placeIn (pos o +ℤ k) ⌝ }
 {
     let place = o as i32 + k;
     if place < 0 {
@@ -59,7 +59,7 @@ fn place_in(o: u32, k: i32) -> u32
 // The table block that starts at a place, held as a value: null at first, then filled from the lent table.
 fn hold(table: &[u32], start: usize) -> [u32; TABLE_BLOCK]
     requires { do ⌜ start + tableBlock ≤ (← ⟦table.len()⟧) ⌝ }
-    ensures { λ r. ⌜ r ≡ take tableBlock (drop start (now (table .entry))) ⌝ }
+    ensures { λ result. ⌜ result ≡ take tableBlock (drop start (now (table .entry))) ⌝ }
 {
     let mut held = [NULL; TABLE_BLOCK];
     let mut i = 0;
@@ -73,7 +73,7 @@ fn hold(table: &[u32], start: usize) -> [u32; TABLE_BLOCK]
 // The first free place of a held table block outward from o, or the block's length where none is free.
 fn search_block(held: [u32; TABLE_BLOCK], o: u32) -> u32
     requires { ⌜ o < tableBlock ⌝ }
-    ensures { λ r. ⌜ r ≡ firstOr tableBlock (freeAt held) (blockOrder o) ⌝ }
+    ensures { λ result. ⌜ result ≡ firstOr tableBlock (freeAt held) (blockOrder o) ⌝ }
 {
     let mut turn = 0;
     while turn < TURNS {
@@ -94,9 +94,9 @@ fn search_block(held: [u32; TABLE_BLOCK], o: u32) -> u32
 fn search_at(table: &[u32], start: usize, o: u32) -> usize
     requires { do ⌜ start + tableBlock ≤ (← ⟦table.len()⟧) ⌝ }
     requires { ⌜ o < tableBlock ⌝ }
-    ensures { λ r. do
+    ensures { λ result. do
       n ← ⟦table.len()⟧ .entry
-      ⌜ r ≡ firstOr n (freeAt (now (table .entry))) (map (λ offset. start + offset) (blockOrder o)) ⌝ }
+      ⌜ result ≡ firstOr n (freeAt (now (table .entry))) (map (λ offset. start + offset) (blockOrder o)) ⌝ }
 {
     let place = search_block(hold(table, start), o);
     if place < TABLE_BLOCK as u32 {
@@ -110,9 +110,9 @@ fn search_rising(table: &[u32], from: usize, to: usize) -> usize
     requires { do ⌜ to ≤ (← ⟦table.len()⟧) ⌝ }
     requires { ⌜ from % tableBlock ≡ 0 ⌝ }
     requires { ⌜ to % tableBlock ≡ 0 ⌝ }
-    ensures { λ r. do
+    ensures { λ result. do
       n ← ⟦table.len()⟧ .entry
-      ⌜ r ≡ firstOr n (freeAt (now (table .entry))) (rising from (to - from)) ⌝ }
+      ⌜ result ≡ firstOr n (freeAt (now (table .entry))) (rising from (to - from)) ⌝ }
 {
     let mut start = from;
     while start < to {
@@ -129,7 +129,7 @@ fn search_rising(table: &[u32], from: usize, to: usize) -> usize
 pub fn search(table: &[u32], primary: usize) -> usize
     requires { do ⌜ (← ⟦table.len()⟧) % tableBlock ≡ 0 ⌝ }
     requires { do ⌜ primary < (← ⟦table.len()⟧) ⌝ }
-    ensures { λ r. ⌜ r ≡ firstFree (now (table .entry)) primary ⌝ }
+    ensures { λ result. ⌜ result ≡ firstFree (now (table .entry)) primary ⌝ }
 {
     let start = primary / TABLE_BLOCK * TABLE_BLOCK;
     let next = start + TABLE_BLOCK;

@@ -15,10 +15,11 @@ use Rattle.paper.specs.Limits.{listMost, kindMost, unitsMost, Within}
 use Rattle.paper.specs.declared.Written.{Written}
 use Rattle.paper.specs.declared.Written.the-variants.{Length}
 use Rattle.paper.proofs.Cases.{byLt}
+use Rattle.paper.proofs.Kept.{gives-number, fills-gives}
 use Rattle.paper.proofs.Chain.{orElse-first, orElse-next}
 use Rattle.paper.proofs.Rows.{size-passes}
-use Rattle.lists.specs.Proper.{Proper, placesFault}
-use Rattle.lists.specs.Union.{written}
+use Rattle.lists.specs.Proper.{Proper, lowestFault}
+use Rattle.paper.specs.Promise.{written}
 use Rattle.lists.proofs.Exact.{list-passes, list-shows}
 use Rattle.words.specs.Words.{bytes32, bytesOf, word32At, Bytes, Fits32}
 use Rattle.words.proofs.Digits.{length-bytes32, word32-bytes32}
@@ -115,7 +116,7 @@ module _ (n kind : ℕ) (list : List ℕ) where
         record {
           passes =
               rw (tells-laid-out (pageBytes n kind list) .told bytes-laid-out, bytes-units (units .1), bytes-list fits)
-              (orElse-next (refuse (ltb listMost (length list)) tooLong) (placesFault n list) (list-passes n list proper));
+              (orElse-next (refuse (ltb listMost (length list)) tooLong) (lowestFault n list) (list-passes n list proper));
           says-units = bytes-units (units .1);
           says-kind = bytes-kind;
           says-list = bytes-list fits;
@@ -140,7 +141,7 @@ module _ (page : List ℕ) (passes : pageFault page ≡ 0) where
   read-proper =
       list-shows (unitsOf page) (entriesOf page)
       (rw (le-ltb listMost (length (entriesOf page)) (omega (arith, same-length, laid .long .1)))
-      (orElse-next (refuse (not (laidOut page)) badPage) (placesFault (unitsOf page) (entriesOf page)) passes))
+      (orElse-next (refuse (not (laidOut page)) badPage) (lowestFault (unitsOf page) (entriesOf page)) passes))
 
   module _ (bytes : Bytes page) where
     -- each part stored where it was read changes nothing
@@ -186,7 +187,7 @@ pub write-then-read :
     length list ≤ length other → Reads (take long after) other result filled →
     (result ≡ Page kind n (length list)) × (filled ≡ written list other)
 write-then-read n kind list room after long wrote other filled result fits read =
-    let none : writeFault n kind list room ≡ 0 = sym (ap (λ (said : ℕ × ℕ). said .0) (wrote .says)) in
+    let none : writeFault n kind list room ≡ 0 = sym (gives-number (fills-gives wrote) (λ said. said .0) (λ k. refl) refl) in
     let told : long ≡ pageLength (length list) = rw none at (ap (λ (said : ℕ × ℕ). said .1) (wrote .says)) in
     let holds : after ≡ written (pageBytes n kind list) room = rw none at (wrote .holds) in
     let page : take long after ≡ pageBytes n kind list = rw holds (take-at (pageBytes n kind list) _ long (length-pageBytes n kind list ∙ sym told)) in
@@ -203,7 +204,7 @@ pub read-then-write :
     length page ≤ length other → Writes n kind (take entries after) other result filled →
     (result ≡ Length (length page)) × (filled ≡ written page other)
 read-then-write page room after kind n entries bytes read other filled result fits wrote =
-    let none : readFault page room ≡ 0 = sym (ap (λ (said : ℕ × ℕ × ℕ × ℕ). said .0) (read .says)) in
+    let none : readFault page room ≡ 0 = sym (gives-number (fills-gives read) (λ said. said .0) (λ k. refl) refl) in
     let passes : pageFault page ≡ 0 = orElse-first (pageFault page) _ none in
     let told-kind : kind ≡ kindOf page = rw none at (ap (λ (said : ℕ × ℕ × ℕ × ℕ). said .1) (read .says)) in
     let told-units : n ≡ unitsOf page = rw none at (ap (λ (said : ℕ × ℕ × ℕ × ℕ). said .2) (read .says)) in

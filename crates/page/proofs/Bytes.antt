@@ -7,7 +7,7 @@ use native.Mathlib.Nat.{zero-add}
 use native.Mathlib.Omega.{arith}
 use lib.ListN.{length, set, length-append}
 use lib.Seq.{sets, sets-eq}
-use Rattle.lists.specs.Union.{written}
+use Rattle.paper.specs.Promise.{written}
 use Rattle.words.specs.Words.{bytes32, bytesOf}
 use Rattle.words.proofs.Stores.{sets-append}
 use Rattle.words.proofs.Runs.{length-bytesOf}

@@ -14,7 +14,7 @@ use Rattle.paper.specs.Limits.{pageFrame, entrySize, pageMost, kindMost, unitsM
 use Rattle.paper.specs.Exactly.{Exactly}
 use Rattle.paper.proofs.Chain.{orElse-first, orElse-next}
 use Rattle.paper.proofs.Rows.{Tells, tells-false, tells-not, tells-both, tells-lt, tells-le, tells-within, passed-shows, row, rows, size-exactly, size-shows, tells-eq, not-over}
-use Rattle.lists.specs.Proper.{Proper, placesFault, listFault}
+use Rattle.lists.specs.Proper.{Proper, lowestFault, listFault}
 use Rattle.lists.proofs.Exact.{places-exactly, list-exactly, list-shows}
 use Rattle.page.specs.Layout.{lengthOf, version, versionOf, kindOf, unitsOf, entryCount, entriesOf, endOf, allOnes, Broken, LaidOut, laidOut}
 use Rattle.page.specs.Pages.{pageFault, readFault, writeFault, pageLength, PageJudged, ReadJudged, WriteJudged}
@@ -120,7 +120,7 @@ module _ (page : List ℕ) where
 
   -- a page that passes
   pub page-laid-out : pageFault page ≡ 0 → LaidOut page
-  page-laid-out none = passed-shows tells-laid-out badPage (omega arith) (orElse-first (refuse (not (laidOut page)) badPage) (placesFault (unitsOf page) (entriesOf page)) none)
+  page-laid-out none = passed-shows tells-laid-out badPage (omega arith) (orElse-first (refuse (not (laidOut page)) badPage) (lowestFault (unitsOf page) (entriesOf page)) none)
 
 -- what is known where writing is not refused
 pub record Writable (n kind : ℕ) (list room : List ℕ) : Type 0 where

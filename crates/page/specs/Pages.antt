@@ -9,13 +9,14 @@ use Rattle.paper.specs.Checks.{refuse, _orElse_}
 use Rattle.paper.specs.Refusals.{badPage, noRoom}
 use Rattle.paper.specs.Limits.{pageFrame, entrySize, kindMost, sizeFault, SizeJudged}
 use Rattle.paper.specs.Exactly.{When, _andThen_}
+use Rattle.paper.specs.Conditions.{NoRoom}
 use Rattle.words.specs.Words.{bytes32, bytesOf}
-use Rattle.lists.specs.Proper.{placesFault, listFault, LowestFault, ListJudged}
+use Rattle.lists.specs.Proper.{lowestFault, listFault, LowestFault, ListJudged}
 use Rattle.page.specs.Layout.{version, Broken, laidOut, kindOf, unitsOf, entriesOf}
 
 -- the checks of a page: 8, then 3 and 4 by place
 abbrev pub pageFault : List ℕ → ℕ
-pageFault page = refuse (not (laidOut page)) badPage orElse placesFault (unitsOf page) (entriesOf page)
+pageFault page = refuse (not (laidOut page)) badPage orElse lowestFault (unitsOf page) (entriesOf page)
 
 -- the checks of `page::read`: those of the page, then 7
 abbrev pub readFault : List ℕ → List ℕ → ℕ
@@ -51,7 +52,7 @@ PageJudged page = When badPage (Broken page) andThen LowestFault (unitsOf page) 
 
 -- exactly when `page::read` gives each number
 abbrev pub ReadJudged : List ℕ → List ℕ → ℕ → Type 0
-ReadJudged page room = PageJudged page andThen When noRoom (length room < length (entriesOf page))
+ReadJudged page room = PageJudged page andThen When noRoom (NoRoom (length (entriesOf page)) room)
 
 -- exactly when `page::write` gives each number
 abbrev pub WriteJudged : ℕ → ℕ → List ℕ → List ℕ → ℕ → Type 0
@@ -59,7 +60,7 @@ WriteJudged n kind list room =
     SizeJudged n
     andThen When badPage (kindMost < kind)
     andThen ListJudged n list
-    andThen When noRoom (length room < pageLength (length list))
+    andThen When noRoom (NoRoom (pageLength (length list)) room)
 
 -- a page passes its checks, and its kind, N and list are these
 pub record Carries (page : List ℕ) (n kind : ℕ) (list : List ℕ) : Type 0 where

@@ -5,7 +5,7 @@ ghost use lib.ListN.{length};
 ghost use lib.Seq.{sets};
 ghost use Rattle.paper.specs.Limits.{pageFrame, entrySize};
 ghost use Rattle.words.specs.Words.{word32At, entriesAt, bytesOf};
-ghost use Rattle.lists.specs.Proper.{risesAt, placeFault, placesFault};
+ghost use Rattle.lists.specs.Proper.{risesAt, faultAt, lowestFault};
 ghost use Rattle.page.specs.Layout.{lengthPlace, versionPlace, kindPlace, unitsPlace, entriesPlace, endSize, version, allOnes, kindOf, unitsOf, laidOut, entryCount};
 ghost use Rattle.page.specs.Pages.{pageFault, writeFault, headBytes};
 ghost use Rattle.page.specs.Promises.{Reads, Writes};
@@ -38,15 +38,15 @@ const ALL_ONES: u32 = 0xFFFF_FFFF;
 
 // Each place and number of the code is that of the definitions, and the places make up the frame.
 fn places_agree()
-    ensures { λ r. do ⌜ (← ⟦LENGTH_PLACE⟧ .entry) ≡ lengthPlace ⌝ }
-    ensures { λ r. do ⌜ (← ⟦VERSION_PLACE⟧ .entry) ≡ versionPlace ⌝ }
-    ensures { λ r. do ⌜ (← ⟦KIND_PLACE⟧ .entry) ≡ kindPlace ⌝ }
-    ensures { λ r. do ⌜ (← ⟦UNITS_PLACE⟧ .entry) ≡ unitsPlace ⌝ }
-    ensures { λ r. do ⌜ (← ⟦ENTRIES_PLACE⟧ .entry) ≡ entriesPlace ⌝ }
-    ensures { λ r. do ⌜ (← ⟦END_SIZE⟧ .entry) ≡ endSize ⌝ }
-    ensures { λ r. do ⌜ (← ⟦VERSION⟧ .entry) ≡ version ⌝ }
-    ensures { λ r. do ⌜ (← ⟦ALL_ONES⟧ .entry) ≡ allOnes ⌝ }
-    ensures { λ r. ⌜ pageFrame ≡ entriesPlace + endSize ⌝ }
+    ensures { λ result. do ⌜ (← ⟦LENGTH_PLACE⟧ .entry) ≡ lengthPlace ⌝ }
+    ensures { λ result. do ⌜ (← ⟦VERSION_PLACE⟧ .entry) ≡ versionPlace ⌝ }
+    ensures { λ result. do ⌜ (← ⟦KIND_PLACE⟧ .entry) ≡ kindPlace ⌝ }
+    ensures { λ result. do ⌜ (← ⟦UNITS_PLACE⟧ .entry) ≡ unitsPlace ⌝ }
+    ensures { λ result. do ⌜ (← ⟦ENTRIES_PLACE⟧ .entry) ≡ entriesPlace ⌝ }
+    ensures { λ result. do ⌜ (← ⟦END_SIZE⟧ .entry) ≡ endSize ⌝ }
+    ensures { λ result. do ⌜ (← ⟦VERSION⟧ .entry) ≡ version ⌝ }
+    ensures { λ result. do ⌜ (← ⟦ALL_ONES⟧ .entry) ≡ allOnes ⌝ }
+    ensures { λ result. ⌜ pageFrame ≡ entriesPlace + endSize ⌝ }
 {}
 
 // A page as it was read: kind, N, entries.
@@ -58,7 +58,7 @@ pub enum Paged {
 // The kind that a page says. Only other crates call this.
 pub fn kind_of(page: &[u8]) -> u32
     requires { ⌜ pageFrame ≤ length (now page) ⌝ }
-    ensures { λ r. ⌜ r ≡ kindOf (now (page .entry)) ⌝ }
+    ensures { λ result. ⌜ result ≡ kindOf (now (page .entry)) ⌝ }
 {
     page[KIND_PLACE] as u32
 }
@@ -66,14 +66,14 @@ pub fn kind_of(page: &[u8]) -> u32
 // N as a page says it. Only other crates call this.
 pub fn units_of(page: &[u8]) -> u32
     requires { ⌜ pageFrame ≤ length (now page) ⌝ }
-    ensures { λ r. ⌜ r ≡ unitsOf (now (page .entry)) ⌝ }
+    ensures { λ result. ⌜ result ≡ unitsOf (now (page .entry)) ⌝ }
 {
     words::word32_at(page, UNITS_PLACE)
 }
 
 // Whether a page keeps its layout.
 fn laid_out(page: &[u8]) -> bool
-    ensures { λ r. ⌜ r ≡ laidOut (now (page .entry)) ⌝ }
+    ensures { λ result. ⌜ result ≡ laidOut (now (page .entry)) ⌝ }
 {
     if page.len() < PAGE_FRAME {
         return false;
@@ -105,7 +105,7 @@ fn laid_out(page: &[u8]) -> bool
 // How many entries a page has. Only other crates call this.
 pub fn entry_count(page: &[u8]) -> usize
     requires { ⌜ pageFrame ≤ length (now page) ⌝ }
-    ensures { λ r. ⌜ r ≡ entryCount (now (page .entry)) ⌝ }
+    ensures { λ result. ⌜ result ≡ entryCount (now (page .entry)) ⌝ }
 {
     (page.len() - PAGE_FRAME) / ENTRY_SIZE
 }
@@ -113,7 +113,7 @@ pub fn entry_count(page: &[u8]) -> usize
 // The entry at a place of the list, as it stands in the page. Only other crates call this.
 pub fn entry_at(page: &[u8], i: usize) -> u32
     requires { ⌜ entriesPlace + entrySize * i + entrySize ≤ length (now page) ⌝ }
-    ensures { λ r. ⌜ r ≡ word32At (now (page .entry)) (entriesPlace + entrySize * i) ⌝ }
+    ensures { λ result. ⌜ result ≡ word32At (now (page .entry)) (entriesPlace + entrySize * i) ⌝ }
 {
     words::word32_at(page, ENTRIES_PLACE + ENTRY_SIZE * i)
 }
@@ -121,7 +121,7 @@ pub fn entry_at(page: &[u8], i: usize) -> u32
 // Whether the entry at a place stands first or is greater than the one before, among so many entries.
 fn rises_at(page: &[u8], count: usize, i: usize) -> bool
     requires { ⌜ (entriesPlace + entrySize * count ≤ length (now page)) × (i < count) ⌝ }
-    ensures { λ r. ⌜ r ≡ risesAt (entriesAt (now (page .entry)) entriesPlace count) i ⌝ }
+    ensures { λ result. ⌜ result ≡ risesAt (entriesAt (now (page .entry)) entriesPlace count) i ⌝ }
 {
     if i == 0 {
         return true;
@@ -130,9 +130,9 @@ fn rises_at(page: &[u8], count: usize, i: usize) -> bool
 }
 
 // What is wrong at one place of the entries: 3 before 4, 0 for nothing.
-fn place_fault(n: u32, page: &[u8], count: usize, i: usize) -> u32
+fn fault_at(n: u32, page: &[u8], count: usize, i: usize) -> u32
     requires { ⌜ (entriesPlace + entrySize * count ≤ length (now page)) × (i < count) ⌝ }
-    ensures { λ r. ⌜ r ≡ placeFault n (entriesAt (now (page .entry)) entriesPlace count) i ⌝ }
+    ensures { λ result. ⌜ result ≡ faultAt n (entriesAt (now (page .entry)) entriesPlace count) i ⌝ }
 {
     if !rises_at(page, count, i) {
         return NOT_RISING;
@@ -144,13 +144,13 @@ fn place_fault(n: u32, page: &[u8], count: usize, i: usize) -> u32
 }
 
 // The fault of the lowest place at fault, for so many entries as they stand in the page.
-fn places_fault(n: u32, page: &[u8], count: usize) -> u32
+fn lowest_fault(n: u32, page: &[u8], count: usize) -> u32
     requires { ⌜ entriesPlace + entrySize * count ≤ length (now page) ⌝ }
-    ensures { λ r. ⌜ r ≡ placesFault n (entriesAt (now (page .entry)) entriesPlace count) ⌝ }
+    ensures { λ result. ⌜ result ≡ lowestFault n (entriesAt (now (page .entry)) entriesPlace count) ⌝ }
 {
     let mut i = 0;
     while i < count {
-        let fault = place_fault(n, page, count, i);
+        let fault = fault_at(n, page, count, i);
         if fault != 0 {
             return fault;
         }
@@ -161,18 +161,18 @@ fn places_fault(n: u32, page: &[u8], count: usize) -> u32
 
 // The page's own checks, whatever the room: 8, then 3 and 4 by place. Only other crates call this.
 pub fn page_fault(page: &[u8]) -> u32
-    ensures { λ r. ⌜ r ≡ pageFault (now (page .entry)) ⌝ }
+    ensures { λ result. ⌜ result ≡ pageFault (now (page .entry)) ⌝ }
 {
     if !laid_out(page) {
         return BAD_PAGE;
     }
-    places_fault(units_of(page), page, entry_count(page))
+    lowest_fault(units_of(page), page, entry_count(page))
 }
 
 // Copies so many entries into the first places of the room.
 fn copy_entries(page: &[u8], count: usize, room: &mut [u32])
     requires { ⌜ (entriesPlace + entrySize * count ≤ length (now page)) × (count ≤ length (now room)) ⌝ }
-    ensures { λ r. ⌜ now (room .exit) ≡ sets (now (room .entry)) 0 (entriesAt (now (page .entry)) entriesPlace count) ⌝ }
+    ensures { λ result. ⌜ now (room .exit) ≡ sets (now (room .entry)) 0 (entriesAt (now (page .entry)) entriesPlace count) ⌝ }
 {
     let mut i = 0;
     while i < count {
@@ -183,7 +183,7 @@ fn copy_entries(page: &[u8], count: usize, room: &mut [u32])
 
 // Reads a page: its kind, N and number of entries, and the entries into the first places of the room. Checks 8, 3 and 4, 7.
 pub fn read(page: &[u8], room: &mut [u32]) -> Paged
-    ensures { λ r. ⌜ Reads (now (page .entry)) (now (room .entry)) r (now (room .exit)) ⌝ }
+    ensures { λ result. ⌜ Reads (now (page .entry)) (now (room .entry)) result (now (room .exit)) ⌝ }
 {
     let fault = page_fault(page);
     if fault != 0 {
@@ -199,7 +199,7 @@ pub fn read(page: &[u8], room: &mut [u32]) -> Paged
 
 // The checks of a page to write into a room: 1, 8, the list's, 7.
 fn write_fault(n: u32, kind: u32, list: &[u32], room: &[u8]) -> u32
-    ensures { λ r. ⌜ r ≡ writeFault n kind (now (list .entry)) (now (room .entry)) ⌝ }
+    ensures { λ result. ⌜ result ≡ writeFault n kind (now (list .entry)) (now (room .entry)) ⌝ }
 {
     let fault = paper::size_fault(n);
     if fault != 0 {
@@ -221,7 +221,7 @@ fn write_fault(n: u32, kind: u32, list: &[u32], room: &[u8]) -> u32
 // Writes what stands before the entries.
 fn put_head(room: &mut [u8], long: u32, kind: u8, n: u32)
     requires { ⌜ entriesPlace ≤ length (now room) ⌝ }
-    ensures { λ r. ⌜ now (room .exit) ≡ sets (now (room .entry)) 0 (headBytes long kind n) ⌝ }
+    ensures { λ result. ⌜ now (room .exit) ≡ sets (now (room .entry)) 0 (headBytes long kind n) ⌝ }
 {
     words::put32(room, LENGTH_PLACE, long);
     room[VERSION_PLACE] = VERSION;
@@ -232,7 +232,7 @@ fn put_head(room: &mut [u8], long: u32, kind: u8, n: u32)
 // Writes the entries.
 fn put_entries(list: &[u32], room: &mut [u8])
     requires { ⌜ entriesPlace + entrySize * length (now list) ≤ length (now room) ⌝ }
-    ensures { λ r. ⌜ now (room .exit) ≡ sets (now (room .entry)) entriesPlace (bytesOf (now (list .entry))) ⌝ }
+    ensures { λ result. ⌜ now (room .exit) ≡ sets (now (room .entry)) entriesPlace (bytesOf (now (list .entry))) ⌝ }
 {
     let mut i = 0;
     while i < list.len() {
@@ -243,7 +243,7 @@ fn put_entries(list: &[u32], room: &mut [u8])
 
 // Writes the page of N, a kind and a list into the first places of the room. Checks 1, 8, the list's, 7.
 pub fn write(n: u32, kind: u32, list: &[u32], room: &mut [u8]) -> Written
-    ensures { λ r. ⌜ Writes n kind (now (list .entry)) (now (room .entry)) r (now (room .exit)) ⌝ }
+    ensures { λ result. ⌜ Writes n kind (now (list .entry)) (now (room .entry)) result (now (room .exit)) ⌝ }
 {
     let fault = write_fault(n, kind, list, room);
     if fault != 0 {

@@ -1,14 +1,9 @@
--- The laws of a chain of checks: which number it gives, what it answers, and the numbers that the answer says.
+-- The laws of a chain of checks: which number it gives, and what it answers.
 -- Assumes nothing.
 use Prim.Native.Nat.{ℕ, zero, suc}
 use mathlib.Core.Path.{_≡_, refl}
 use native.Mathlib.Omega.{arith}
-use mathlib.Core.Bool.{Bool, true, false}
-use Rattle.paper.specs.Checks.{pick, _orElse_, answer, given}
-use Rattle.paper.specs.Answers.{saidPlaced, saidNamed, saidWritten}
-use Rattle.paper.specs.declared.Placed.the-variants.{At, Refused as NotPlaced}
-use Rattle.paper.specs.declared.Named.the-variants.{Block, NoBlock, Refused as NotNamed}
-use Rattle.paper.specs.declared.Written.the-variants.{Length, Refused as NotWritten}
+use Rattle.paper.specs.Checks.{_orElse_, answer, given}
 
 pub orElse-some : (fault next : ℕ) → (fault ≡ 0 → ⊥) → (fault orElse next) ≡ fault
 orElse-some zero next some = absurd (some refl)
@@ -38,24 +33,12 @@ module _ {ℓ} {X : Type ℓ} where
   pub answer-accepted : (fault : ℕ) (refused : ℕ → X) (accepted : X) → fault ≡ 0 → answer fault refused accepted ≡ accepted
   answer-accepted fault refused accepted none = rw none
 
+-- a chain's number is what its answer says where the number is all that it says
+pub answer-number : (fault : ℕ) → answer fault (λ k. k) 0 ≡ fault
+answer-number zero = refl
+answer-number (suc fault) = refl
+
 -- a number of a call that refuses is 0
 pub given-refused : (fault number : ℕ) → (fault ≡ 0 → ⊥) → given fault number ≡ 0
 given-refused zero number some = absurd (some refl)
 given-refused (suc fault) number some = refl
-
--- what an answer says
-pub placed-says : (fault sector : ℕ) → saidPlaced (answer fault NotPlaced (At sector)) ≡ (fault, given fault sector)
-placed-says zero sector = refl
-placed-says (suc fault) sector = refl
-
-pub written-says : (fault length : ℕ) → saidWritten (answer fault NotWritten (Length length)) ≡ (fault, given fault length)
-written-says zero length = refl
-written-says (suc fault) length = refl
-
--- the block that lies on a unit, or none where the unit is passed over
-pub named-says :
-    (fault : ℕ) (none : Bool) (block : ℕ) →
-    saidNamed (answer fault NotNamed (pick none NoBlock (Block block))) ≡ (fault, given fault (pick none 0 1), given fault (pick none 0 block))
-named-says zero true block = refl
-named-says zero false block = refl
-named-says (suc fault) none block = refl

@@ -7,6 +7,10 @@ abbrev pub pick {ℓ} : {X : Type ℓ} → Bool → X → X → X
 pick true x y = x
 pick false x y = y
 
+-- 1 where the test holds, else 0
+abbrev pub oneIf : Bool → ℕ
+oneIf test = pick test 1 0
+
 -- one check: its number where the test holds
 abbrev pub refuse : Bool → ℕ → ℕ
 refuse test number = pick test number 0

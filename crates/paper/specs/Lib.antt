@@ -2,5 +2,6 @@ pub mod Refusals
 pub mod Checks
 pub mod Exactly
 pub mod Limits
-pub mod Answers
+pub mod Conditions
 pub mod Promise
+pub mod Answers

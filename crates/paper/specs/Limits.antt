@@ -39,6 +39,10 @@ tableBlock = 128
 abbrev pub dataSize : ℕ
 dataSize = 512
 
+-- header of a sector image in bytes, and so where the data begins
+abbrev pub headerSize : ℕ
+headerSize = 16
+
 -- header and code of a sector image, in bytes
 abbrev pub imageExtra : ℕ
 imageExtra = 18
@@ -55,6 +59,13 @@ entrySize = 4
 abbrev pub pageMost : ℕ
 pageMost = pageFrame + entrySize * listMost
 
+-- the highest option and the highest space of Format
+abbrev pub optionMost : ℕ
+optionMost = 7
+
+abbrev pub spaceMost : ℕ
+spaceMost = 3
+
 -- the highest kind of a page
 abbrev pub kindMost : ℕ
 kindMost = 1
@@ -63,7 +74,7 @@ kindMost = 1
 abbrev pub listingMost : ℕ
 listingMost = 16398
 
--- where the code of a sector starts
+-- the code before any word of the data
 abbrev pub startCode : ℕ
 startCode = 0x5a3c
 

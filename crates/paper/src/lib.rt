@@ -1,8 +1,9 @@
 // The paper's numbers: refusals, limits and sizes, the range of N, and the answers that several crates give.
 ghost use mathlib.Core.Path.{_≡_};
-ghost use Prim.Native.Nat.{_+_, _*_};
+ghost use Prim.Native.Nat.{_+_, _*_, _≤_};
+ghost use Rattle.paper.specs.Checks.{oneIf};
 ghost use Rattle.paper.specs.Refusals.{outOfRange, tooLong, notRising, outside, noSuchBlock, noSuchSector, noRoom, badPage, strayCursor, badOption, badTable, alreadyReplaced, noSpare, wrongLength, noAddress, otherBlock, forcedError, badCode};
-ghost use Rattle.paper.specs.Limits.{unitsMost, cylindersMost, headsMost, sectorsLeast, sectorsMost, listMost, sparesMost, tableBlock, dataSize, imageExtra, pageFrame, entrySize, pageMost, kindMost, listingMost, startCode, within, sizeFault};
+ghost use Rattle.paper.specs.Limits.{unitsMost, cylindersMost, headsMost, sectorsLeast, sectorsMost, listMost, sparesMost, tableBlock, dataSize, headerSize, imageExtra, pageFrame, entrySize, pageMost, optionMost, spaceMost, kindMost, listingMost, startCode, within, sizeFault};
 
 pub const OUT_OF_RANGE: u32 = 1;
 
@@ -58,6 +59,8 @@ pub const TABLE_BLOCK: usize = 128;
 
 pub const DATA_SIZE: usize = 512;
 
+pub const HEADER_SIZE: usize = 16;
+
 pub const IMAGE_EXTRA: usize = 18;
 
 pub const PAGE_FRAME: usize = 14;
@@ -65,6 +68,10 @@ pub const PAGE_FRAME: usize = 14;
 pub const ENTRY_SIZE: usize = 4;
 
 pub const PAGE_MOST: usize = PAGE_FRAME + ENTRY_SIZE * LIST_MOST;
+
+pub const OPTION_MOST: u32 = 7;
+
+pub const SPACE_MOST: u32 = 3;
 
 pub const KIND_MOST: u32 = 1;
 
@@ -74,44 +81,47 @@ pub const START_CODE: u16 = 0x5A3C;
 
 // Each refusal number of the code is that of the definitions.
 fn refusals_agree()
-    ensures { λ r. do ⌜ (← ⟦OUT_OF_RANGE⟧ .entry) ≡ outOfRange ⌝ }
-    ensures { λ r. do ⌜ (← ⟦TOO_LONG⟧ .entry) ≡ tooLong ⌝ }
-    ensures { λ r. do ⌜ (← ⟦NOT_RISING⟧ .entry) ≡ notRising ⌝ }
-    ensures { λ r. do ⌜ (← ⟦OUTSIDE⟧ .entry) ≡ outside ⌝ }
-    ensures { λ r. do ⌜ (← ⟦NO_SUCH_BLOCK⟧ .entry) ≡ noSuchBlock ⌝ }
-    ensures { λ r. do ⌜ (← ⟦NO_SUCH_SECTOR⟧ .entry) ≡ noSuchSector ⌝ }
-    ensures { λ r. do ⌜ (← ⟦NO_ROOM⟧ .entry) ≡ noRoom ⌝ }
-    ensures { λ r. do ⌜ (← ⟦BAD_PAGE⟧ .entry) ≡ badPage ⌝ }
-    ensures { λ r. do ⌜ (← ⟦STRAY_CURSOR⟧ .entry) ≡ strayCursor ⌝ }
-    ensures { λ r. do ⌜ (← ⟦BAD_OPTION⟧ .entry) ≡ badOption ⌝ }
-    ensures { λ r. do ⌜ (← ⟦BAD_TABLE⟧ .entry) ≡ badTable ⌝ }
-    ensures { λ r. do ⌜ (← ⟦ALREADY_REPLACED⟧ .entry) ≡ alreadyReplaced ⌝ }
-    ensures { λ r. do ⌜ (← ⟦NO_SPARE⟧ .entry) ≡ noSpare ⌝ }
-    ensures { λ r. do ⌜ (← ⟦WRONG_LENGTH⟧ .entry) ≡ wrongLength ⌝ }
-    ensures { λ r. do ⌜ (← ⟦NO_ADDRESS⟧ .entry) ≡ noAddress ⌝ }
-    ensures { λ r. do ⌜ (← ⟦OTHER_BLOCK⟧ .entry) ≡ otherBlock ⌝ }
-    ensures { λ r. do ⌜ (← ⟦FORCED_ERROR⟧ .entry) ≡ forcedError ⌝ }
-    ensures { λ r. do ⌜ (← ⟦BAD_CODE⟧ .entry) ≡ badCode ⌝ }
+    ensures { λ result. do ⌜ (← ⟦OUT_OF_RANGE⟧ .entry) ≡ outOfRange ⌝ }
+    ensures { λ result. do ⌜ (← ⟦TOO_LONG⟧ .entry) ≡ tooLong ⌝ }
+    ensures { λ result. do ⌜ (← ⟦NOT_RISING⟧ .entry) ≡ notRising ⌝ }
+    ensures { λ result. do ⌜ (← ⟦OUTSIDE⟧ .entry) ≡ outside ⌝ }
+    ensures { λ result. do ⌜ (← ⟦NO_SUCH_BLOCK⟧ .entry) ≡ noSuchBlock ⌝ }
+    ensures { λ result. do ⌜ (← ⟦NO_SUCH_SECTOR⟧ .entry) ≡ noSuchSector ⌝ }
+    ensures { λ result. do ⌜ (← ⟦NO_ROOM⟧ .entry) ≡ noRoom ⌝ }
+    ensures { λ result. do ⌜ (← ⟦BAD_PAGE⟧ .entry) ≡ badPage ⌝ }
+    ensures { λ result. do ⌜ (← ⟦STRAY_CURSOR⟧ .entry) ≡ strayCursor ⌝ }
+    ensures { λ result. do ⌜ (← ⟦BAD_OPTION⟧ .entry) ≡ badOption ⌝ }
+    ensures { λ result. do ⌜ (← ⟦BAD_TABLE⟧ .entry) ≡ badTable ⌝ }
+    ensures { λ result. do ⌜ (← ⟦ALREADY_REPLACED⟧ .entry) ≡ alreadyReplaced ⌝ }
+    ensures { λ result. do ⌜ (← ⟦NO_SPARE⟧ .entry) ≡ noSpare ⌝ }
+    ensures { λ result. do ⌜ (← ⟦WRONG_LENGTH⟧ .entry) ≡ wrongLength ⌝ }
+    ensures { λ result. do ⌜ (← ⟦NO_ADDRESS⟧ .entry) ≡ noAddress ⌝ }
+    ensures { λ result. do ⌜ (← ⟦OTHER_BLOCK⟧ .entry) ≡ otherBlock ⌝ }
+    ensures { λ result. do ⌜ (← ⟦FORCED_ERROR⟧ .entry) ≡ forcedError ⌝ }
+    ensures { λ result. do ⌜ (← ⟦BAD_CODE⟧ .entry) ≡ badCode ⌝ }
 {}
 
 // Each limit and size of the code is that of the definitions.
 fn limits_agree()
-    ensures { λ r. do ⌜ (← ⟦UNITS_MOST⟧ .entry) ≡ unitsMost ⌝ }
-    ensures { λ r. do ⌜ (← ⟦CYLINDERS_MOST⟧ .entry) ≡ cylindersMost ⌝ }
-    ensures { λ r. do ⌜ (← ⟦HEADS_MOST⟧ .entry) ≡ headsMost ⌝ }
-    ensures { λ r. do ⌜ (← ⟦SECTORS_LEAST⟧ .entry) ≡ sectorsLeast ⌝ }
-    ensures { λ r. do ⌜ (← ⟦SECTORS_MOST⟧ .entry) ≡ sectorsMost ⌝ }
-    ensures { λ r. do ⌜ (← ⟦LIST_MOST⟧ .entry) ≡ listMost ⌝ }
-    ensures { λ r. do ⌜ (← ⟦SPARES_MOST⟧ .entry) ≡ sparesMost ⌝ }
-    ensures { λ r. do ⌜ (← ⟦TABLE_BLOCK⟧ .entry) ≡ tableBlock ⌝ }
-    ensures { λ r. do ⌜ (← ⟦DATA_SIZE⟧ .entry) ≡ dataSize ⌝ }
-    ensures { λ r. do ⌜ (← ⟦IMAGE_EXTRA⟧ .entry) ≡ imageExtra ⌝ }
-    ensures { λ r. do ⌜ (← ⟦PAGE_FRAME⟧ .entry) ≡ pageFrame ⌝ }
-    ensures { λ r. do ⌜ (← ⟦ENTRY_SIZE⟧ .entry) ≡ entrySize ⌝ }
-    ensures { λ r. do ⌜ (← ⟦PAGE_MOST⟧ .entry) ≡ pageMost ⌝ }
-    ensures { λ r. do ⌜ (← ⟦KIND_MOST⟧ .entry) ≡ kindMost ⌝ }
-    ensures { λ r. do ⌜ (← ⟦LISTING_MOST⟧ .entry) ≡ listingMost ⌝ }
-    ensures { λ r. do ⌜ (← ⟦START_CODE⟧ .entry) ≡ startCode ⌝ }
+    ensures { λ result. do ⌜ (← ⟦UNITS_MOST⟧ .entry) ≡ unitsMost ⌝ }
+    ensures { λ result. do ⌜ (← ⟦CYLINDERS_MOST⟧ .entry) ≡ cylindersMost ⌝ }
+    ensures { λ result. do ⌜ (← ⟦HEADS_MOST⟧ .entry) ≡ headsMost ⌝ }
+    ensures { λ result. do ⌜ (← ⟦SECTORS_LEAST⟧ .entry) ≡ sectorsLeast ⌝ }
+    ensures { λ result. do ⌜ (← ⟦SECTORS_MOST⟧ .entry) ≡ sectorsMost ⌝ }
+    ensures { λ result. do ⌜ (← ⟦LIST_MOST⟧ .entry) ≡ listMost ⌝ }
+    ensures { λ result. do ⌜ (← ⟦SPARES_MOST⟧ .entry) ≡ sparesMost ⌝ }
+    ensures { λ result. do ⌜ (← ⟦TABLE_BLOCK⟧ .entry) ≡ tableBlock ⌝ }
+    ensures { λ result. do ⌜ (← ⟦DATA_SIZE⟧ .entry) ≡ dataSize ⌝ }
+    ensures { λ result. do ⌜ (← ⟦HEADER_SIZE⟧ .entry) ≡ headerSize ⌝ }
+    ensures { λ result. do ⌜ (← ⟦IMAGE_EXTRA⟧ .entry) ≡ imageExtra ⌝ }
+    ensures { λ result. do ⌜ (← ⟦PAGE_FRAME⟧ .entry) ≡ pageFrame ⌝ }
+    ensures { λ result. do ⌜ (← ⟦ENTRY_SIZE⟧ .entry) ≡ entrySize ⌝ }
+    ensures { λ result. do ⌜ (← ⟦PAGE_MOST⟧ .entry) ≡ pageMost ⌝ }
+    ensures { λ result. do ⌜ (← ⟦OPTION_MOST⟧ .entry) ≡ optionMost ⌝ }
+    ensures { λ result. do ⌜ (← ⟦SPACE_MOST⟧ .entry) ≡ spaceMost ⌝ }
+    ensures { λ result. do ⌜ (← ⟦KIND_MOST⟧ .entry) ≡ kindMost ⌝ }
+    ensures { λ result. do ⌜ (← ⟦LISTING_MOST⟧ .entry) ≡ listingMost ⌝ }
+    ensures { λ result. do ⌜ (← ⟦START_CODE⟧ .entry) ≡ startCode ⌝ }
 {}
 
 // Where a block lies, as a sector number.
@@ -120,7 +130,7 @@ pub enum Placed {
     Refused(u32),
 }
 
-// The block that lies on a sector; none where the sector is passed over.
+// The block that lies on a sector; none where the sector is passed over, is a spare that holds no block, or is the home of a replaced block.
 pub enum Named {
     Block(u32),
     NoBlock,
@@ -133,9 +143,20 @@ pub enum Written {
     Refused(u32),
 }
 
+// 1 where a test holds, else 0. Only other crates call this.
+pub fn one_if(test: bool) -> u32
+    ensures { λ result. ⌜ result ≡ oneIf test ⌝ }
+    ensures { λ result. ⌜ result ≤ 1 ⌝ }
+{
+    if test {
+        return 1;
+    }
+    0
+}
+
 // Whether a number lies in a range, both ends included. Only other crates call this.
 pub fn within(least: u32, most: u32, number: u32) -> bool
-    ensures { λ r. ⌜ r ≡ within least most number ⌝ }
+    ensures { λ result. ⌜ result ≡ within least most number ⌝ }
 {
     if number < least {
         return false;
@@ -145,7 +166,7 @@ pub fn within(least: u32, most: u32, number: u32) -> bool
 
 // Refusal 1 for an N outside its range, else 0. Only other crates call this.
 pub fn size_fault(n: u32) -> u32
-    ensures { λ r. ⌜ r ≡ sizeFault n ⌝ }
+    ensures { λ result. ⌜ result ≡ sizeFault n ⌝ }
 {
     if !within(1, UNITS_MOST, n) {
         return OUT_OF_RANGE;

@@ -12,12 +12,14 @@ use Rattle.paper.specs.Limits.{imageExtra}
 use Rattle.paper.proofs.Cases.{byBool, byLt}
 use Rattle.words.proofs.Stores.{getD-sets-before, getD-sets-after}
 use Rattle.shape.specs.declared.Shape.{Shape}
-use Rattle.layout.specs.Layouts.{layoutOf}
+use Rattle.layout.specs.Layouts.{driveOf}
 use Rattle.table.specs.Lookup.{Replaced, isReplaced}
 use Rattle.table.proofs.Lookups.{tells-replaced}
+use Rattle.image.specs.declared.Verdict.the-variants.{Good, Refused as NotGood}
 use Rattle.reading.specs.Tracks.{trackOf, sectorIn, bytesIn, imageAt, Agree}
-use Rattle.reading.specs.Faults.{lentFault, readFault}
-use Rattle.reading.specs.Promises.{spotted, verdict, DataSized}
+use Rattle.reading.specs.Faults.{lentFault, blockReadFault}
+use Rattle.reading.specs.Promises.{DataSized}
+use Rattle.reading.proofs.Spots.{spotted}
 use Rattle.reading.proofs.Tracks.{image-inside}
 
 module _ (size : ℕ) where
@@ -55,12 +57,13 @@ module _ (size : ℕ) where
 
 module _ (size : ℕ) (shape : Shape) (r : ℕ) (t : List ℕ) (b : ℕ) where
   -- images that agree are judged alike, and their data begins at the same spot
-  module _ {home spare home′ spare′ : List ℕ} (agree : Agree size (layoutOf shape r) t b home spare home′ spare′) where
-    pub read-alike : readFault size shape r t b home spare ≡ readFault size shape r t b home′ spare′
-    unfolding readFault lentFault
+  module _ {home spare home′ spare′ : List ℕ} (agree : Agree size (driveOf shape r) t b home spare home′ spare′) where
+    pub read-alike : blockReadFault size shape r t b home spare ≡ blockReadFault size shape r t b home′ spare′
+    unfolding blockReadFault lentFault
     read-alike = rw (agree .home-alike, agree .spare-alike, agree .lies-alike)
 
-    pub verdict-alike : verdict size shape r t b home spare ≡ verdict size shape r t b home′ spare′
+    pub verdict-alike :
+        answer (blockReadFault size shape r t b home spare) NotGood Good ≡ answer (blockReadFault size shape r t b home′ spare′) NotGood Good
     verdict-alike = rw read-alike
 
     pub spot-alike : spotted size shape r t b home spare ≡ spotted size shape r t b home′ spare′
@@ -73,7 +76,7 @@ module _ (size : ℕ) (shape : Shape) (r : ℕ) (t : List ℕ) (b : ℕ) where
   -- the parts hold the same, and lie at the same place where the images do
   module _
       (home spare home′ spare′ part part′ : RefT (List ℕ))
-      (agree : Agree size (layoutOf shape r) t b (home .now) (spare .now) (home′ .now) (spare′ .now))
+      (agree : Agree size (driveOf shape r) t b (home .now) (spare .now) (home′ .now) (spare′ .now))
       (first : DataSized size shape r t b home spare part)
       (second : DataSized size shape r t b home′ spare′ part′)
     where
@@ -82,19 +85,19 @@ module _ (size : ℕ) (shape : Shape) (r : ℕ) (t : List ℕ) (b : ℕ) where
 
       pub part-placed : home .ptr ≡ home′ .ptr → spare .ptr ≡ spare′ .ptr → part .ptr ≡ part′ .ptr
       part-placed homes spares =
-          let fault = readFault size shape r t b (home .now) (spare .now) in
-          let fault′ = readFault size shape r t b (home′ .now) (spare′ .now) in
+          let fault = blockReadFault size shape r t b (home .now) (spare .now) in
+          let fault′ = blockReadFault size shape r t b (home′ .now) (spare′ .now) in
           let one : answer fault (λ refused. home) (trackOf t b home spare) .ptr ≡ answer fault′ (λ refused. home′) (trackOf t b home′ spare′) .ptr =
           lent-ptr fault home spare ∙ rw (homes, spares, read-alike agree) (sym (lent-ptr fault′ home′ spare′)) in
           first .lies ∙ rw (one, read-alike agree) (sym (second .lies))
 
   -- the other image may hold anything of its length
   module _ (home spare other : List ℕ) where
-    pub home-unread : Replaced t b → length home ≡ length other → Agree size (layoutOf shape r) t b home spare other spare
+    pub home-unread : Replaced t b → length home ≡ length other → Agree size (driveOf shape r) t b home spare other spare
     home-unread replaced long =
         record { home-alike = long; spare-alike = refl; lies-alike = rw (tells-replaced t b .told replaced) }
 
-    pub spare-unread : (Replaced t b → ⊥) → length spare ≡ length other → Agree size (layoutOf shape r) t b home spare home other
+    pub spare-unread : (Replaced t b → ⊥) → length spare ≡ length other → Agree size (driveOf shape r) t b home spare home other
     spare-unread none long =
         record {
           home-alike = refl;
@@ -103,14 +106,14 @@ module _ (size : ℕ) (shape : Shape) (r : ℕ) (t : List ℕ) (b : ℕ) where
         }
 
   -- and so may any other sector of this one
-  module _ (home spare : List ℕ) (other : ℕ) (bytes : List ℕ) (apart : other ≡ sectorIn (layoutOf shape r) t b → ⊥) (long : length bytes ≡ size + imageExtra) where
-    pub sectors-unread : Agree size (layoutOf shape r) t b home spare (sets home (bytesIn size other) bytes) (sets spare (bytesIn size other) bytes)
+  module _ (home spare : List ℕ) (other : ℕ) (bytes : List ℕ) (apart : other ≡ sectorIn (driveOf shape r) t b → ⊥) (long : length bytes ≡ size + imageExtra) where
+    pub sectors-unread : Agree size (driveOf shape r) t b home spare (sets home (bytesIn size other) bytes) (sets spare (bytesIn size other) bytes)
     sectors-unread =
         record {
           home-alike = sym (length-sets home (bytesIn size other) bytes);
           spare-alike = sym (length-sets spare (bytesIn size other) bytes);
           lies-alike =
               byBool (isReplaced t b)
-              (λ e. rw e (sym (image-kept size (sectorIn (layoutOf shape r) t b) other spare bytes apart long)))
-              (λ e. rw e (sym (image-kept size (sectorIn (layoutOf shape r) t b) other home bytes apart long)));
+              (λ e. rw e (sym (image-kept size (sectorIn (driveOf shape r) t b) other spare bytes apart long)))
+              (λ e. rw e (sym (image-kept size (sectorIn (driveOf shape r) t b) other home bytes apart long)));
         }

@@ -15,47 +15,47 @@ use Rattle.paper.proofs.Chain.{orElse-assoc, orElse-first, orElse-next}
 use Rattle.paper.proofs.Rows.{Tells, tells-eq, tells-le, tells-not, row, rows, rows-passed, tells-either}
 use Rattle.shape.specs.declared.Shape.{Shape}
 use Rattle.shape.specs.Shapes.{Shaped}
-use Rattle.layout.specs.declared.Layout.{Layout}
-use Rattle.layout.specs.Layouts.{Drives, Laid, layoutOf, driveFault}
+use Rattle.layout.specs.declared.Drive.{Drive}
+use Rattle.layout.specs.Layouts.{Spared, Laid, driveOf, driveFault}
 use Rattle.layout.proofs.Exact.{drive-shows}
 use Rattle.table.specs.Rules.{Obeys, tableFault, TableJudged}
 use Rattle.table.proofs.Exact.{table-shows, table-exactly}
-use Rattle.image.specs.Image.{sectorFault}
+use Rattle.image.specs.Image.{contentsFault}
 use Rattle.image.proofs.Exact.{sector-exactly}
 use Rattle.reading.specs.Tracks.{trackOf, sectorIn, bytesIn, imageAt, imageFor, headerFor}
-use Rattle.reading.specs.Faults.{blockFault, otherLength, lentFault, readFault}
-use Rattle.reading.specs.Judged.{BlockJudged, LengthsJudged, LyingJudged, lies, ReadJudged}
+use Rattle.reading.specs.Faults.{blockFault, otherLength, lentFault, blockReadFault}
+use Rattle.reading.specs.Judged.{BlockJudged, LengthsJudged, LyingJudged, lies, BlockReadJudged}
 use Rattle.reading.proofs.Tracks.{seated, seated-only}
 
 -- a table without fault is that of a drive that passes its check
-pub table-drives : (shape : Shape) (r : ℕ) (t : List ℕ) → tableFault shape r t ≡ 0 → Shaped shape × Drives shape r
+pub table-drives : (shape : Shape) (r : ℕ) (t : List ℕ) → tableFault shape r t ≡ 0 → Shaped shape × Spared shape r
 table-drives shape r t none = drive-shows shape r (orElse-first (driveFault shape r) _ none)
 
 -- what is known of a drive, a table, a block and two images that pass 1, 11, 5 and 14
 pub record Lent (size : ℕ) (shape : Shape) (r : ℕ) (t : List ℕ) (b : ℕ) (home spare : List ℕ) : Type 0 where
   pub shaped : Shaped shape
-  pub drives : Drives shape r
-  pub laid : Laid (layoutOf shape r)
-  pub obeys : Obeys (layoutOf shape r) t
-  pub below : b < layoutOf shape r .blocks
+  pub drives : Spared shape r
+  pub laid : Laid (driveOf shape r)
+  pub obeys : Obeys (driveOf shape r) t
+  pub below : b < driveOf shape r .blocks
   pub home-long : length home ≡ bytesIn size (shape .sectors)
   pub spare-long : length spare ≡ bytesIn size (shape .sectors)
 
 -- of a table that obeys its rules the sector image where a block lies gives one number
 pub lying-exactly :
-    (size : ℕ) (g : Layout) (t : List ℕ) (b : ℕ) (home spare : List ℕ) → Obeys g t →
-    Exactly (LyingJudged size g t b home spare) (sectorFault size (imageFor size g t b home spare) (headerFor g t b))
-lying-exactly size g t b home spare o = record { judged = judged; only = only }
+    (size : ℕ) (drive : Drive) (t : List ℕ) (b : ℕ) (home spare : List ℕ) → Obeys drive t →
+    Exactly (LyingJudged size drive t b home spare) (contentsFault size (imageFor size drive t b home spare) (headerFor drive t b))
+lying-exactly size drive t b home spare o = record { judged = judged; only = only }
   where
-    judged : LyingJudged size g t b home spare (sectorFault size (imageFor size g t b home spare) (headerFor g t b))
+    judged : LyingJudged size drive t b home spare (contentsFault size (imageFor size drive t b home spare) (headerFor drive t b))
     judged =
-        lies (trackOf t b home spare) (sectorIn g t b) (seated g t b home spare)
-        (sector-exactly (imageFor size g t b home spare) size (headerFor g t b) .judged)
+        lies (trackOf t b home spare) (sectorIn drive t b) (seated drive t b home spare)
+        (sector-exactly (imageFor size drive t b home spare) size (headerFor drive t b) .judged)
 
-    only : (k : ℕ) → LyingJudged size g t b home spare k → sectorFault size (imageFor size g t b home spare) (headerFor g t b) ≡ k
+    only : (k : ℕ) → LyingJudged size drive t b home spare k → contentsFault size (imageFor size drive t b home spare) (headerFor drive t b) ≡ k
     only k (lies track sector seat found) =
-        let one = seated-only g t b home spare o seat in
-        rw (one .0, one .1) (sector-exactly (imageAt size (bytesIn size sector) track) size (headerFor g t b) .only k found)
+        let one = seated-only drive t b home spare o seat in
+        rw (one .0, one .1) (sector-exactly (imageAt size (bytesIn size sector) track) size (headerFor drive t b) .only k found)
 
 module _ (size : ℕ) (shape : Shape) (home spare : List ℕ) where
   tells-other-length : Tells (otherLength size shape home spare) ((length home ≡ bytesIn size (shape .sectors) → ⊥) ⊎ (length spare ≡ bytesIn size (shape .sectors) → ⊥))
@@ -76,9 +76,9 @@ module _ (size : ℕ) (shape : Shape) (home spare : List ℕ) where
       (λ other. let given : wrongLength ≡ 0 = rw (ne-eqb _ _ other) at none in absurd (omega arith))
 
 module _ (size : ℕ) (shape : Shape) (r : ℕ) (t : List ℕ) (b : ℕ) (home spare : List ℕ) where
-  block-shows : blockFault shape r b ≡ 0 → b < layoutOf shape r .blocks
+  block-shows : blockFault shape r b ≡ 0 → b < driveOf shape r .blocks
   block-shows none =
-      byLt b (layoutOf shape r .blocks) (λ h. h) (λ h. let given : noSuchBlock ≡ 0 = rw (le-leb _ _ h) at none in absurd (omega arith))
+      byLt b (driveOf shape r .blocks) (λ h. h) (λ h. let given : noSuchBlock ≡ 0 = rw (le-leb _ _ h) at none in absurd (omega arith))
 
   pub lent-shows : lentFault size shape r t b home spare ≡ 0 → Lent size shape r t b home spare
   unfolding lentFault
@@ -98,16 +98,16 @@ module _ (size : ℕ) (shape : Shape) (r : ℕ) (t : List ℕ) (b : ℕ) (home s
         spare-long = lengths .1;
       }
 
-  pub read-exactly : Exactly (ReadJudged size shape r t b home spare) (readFault size shape r t b home spare)
-  unfolding readFault lentFault
+  pub read-exactly : Exactly (BlockReadJudged size shape r t b home spare) (blockReadFault size shape r t b home spare)
+  unfolding blockReadFault lentFault
   read-exactly =
       rw (orElse-assoc (tableFault shape r t), orElse-assoc (blockFault shape r b))
       (rows-passed (TableJudged shape r t)
-      (BlockJudged shape r b andThen (LengthsJudged size shape home spare andThen LyingJudged size (layoutOf shape r) t b home spare))
+      (BlockJudged shape r b andThen (LengthsJudged size shape home spare andThen LyingJudged size (driveOf shape r) t b home spare))
       (table-exactly shape r t)
       (λ none.
-      rows (BlockJudged shape r b) (LengthsJudged size shape home spare andThen LyingJudged size (layoutOf shape r) t b home spare)
-      (row (tells-le (layoutOf shape r .blocks) b) noSuchBlock)
-      (rows (LengthsJudged size shape home spare) (LyingJudged size (layoutOf shape r) t b home spare)
+      rows (BlockJudged shape r b) (LengthsJudged size shape home spare andThen LyingJudged size (driveOf shape r) t b home spare)
+      (row (tells-le (driveOf shape r .blocks) b) noSuchBlock)
+      (rows (LengthsJudged size shape home spare) (LyingJudged size (driveOf shape r) t b home spare)
       (row (tells-other-length size shape home spare) wrongLength)
-      (lying-exactly size (layoutOf shape r) t b home spare (table-shows shape r t none .1)))))
+      (lying-exactly size (driveOf shape r) t b home spare (table-shows shape r t none .1)))))

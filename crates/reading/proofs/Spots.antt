@@ -14,47 +14,43 @@ use Rattle.paper.proofs.Cases.{byBool, byFault}
 use Rattle.paper.proofs.Chain.{orElse-some, orElse-none, orElse-first, answer-refused, given-refused}
 use Rattle.paper.proofs.Kept.{gives}
 use Rattle.shape.specs.declared.Shape.{Shape}
-use Rattle.layout.specs.declared.Layout.{Layout}
-use Rattle.layout.specs.Layouts.{layoutOf}
+use Rattle.layout.specs.declared.Drive.{Drive}
+use Rattle.layout.specs.Layouts.{driveOf}
 use Rattle.layout.proofs.Layings.{track-whole}
 use Rattle.table.specs.Lookup.{isReplaced}
-use Rattle.image.specs.Image.{sectorFault}
+use Rattle.image.specs.Image.{contentsFault}
 use Rattle.reading.specs.declared.Seat.{Seat}
 use Rattle.reading.specs.declared.answers.Spot.{Spot}
 use Rattle.reading.specs.declared.answers.Spot.the-variants.{InHome, InSpare, Refused as NotSpotted}
 use Rattle.reading.specs.Tracks.{trackOf, sectorIn, seatOf, bytesIn, startOf, dataStart, imageAt, headerFor}
-use Rattle.reading.specs.Faults.{lentFault, lyingFault, readFault}
-use Rattle.reading.specs.Promises.{saidSpot, spotOf, spotted, SpotSized, DataSized}
+use Rattle.reading.specs.Faults.{lentFault, lyingFault, blockReadFault}
+use Rattle.reading.specs.Promises.{saidSpot, spotOf, SpotSized, DataSized}
 use Rattle.reading.proofs.Tracks.{sector-below, track-now, track-length, image-inside, data-inside}
 use Rattle.reading.proofs.Exact.{Lent, lent-shows}
 
--- what a spot says
-pub spot-says :
-    (fault : ℕ) (replaced : Bool) (offset : ℕ) →
-    saidSpot (answer fault NotSpotted (pick replaced InSpare InHome offset)) ≡ (fault, given fault (pick replaced 1 0), given fault offset)
-spot-says zero true offset = refl
-spot-says zero false offset = refl
-spot-says (suc fault) replaced offset = refl
+-- what a read answers
+abbrev pub spotted : ℕ → Shape → ℕ → List ℕ → ℕ → List ℕ → List ℕ → Spot
+spotted size shape r t b home spare = answer (blockReadFault size shape r t b home spare) NotSpotted (spotOf size shape r t b)
 
 module _ {size : ℕ} {shape : Shape} {r : ℕ} {t : List ℕ} {b : ℕ} {home spare : List ℕ} (lent : Lent size shape r t b home spare) where
   -- the sector image of the block lies inside the image of its track
-  pub lies-inside : startOf size (layoutOf shape r) t b + (size + imageExtra) ≤ bytesIn size (shape .sectors)
+  pub lies-inside : startOf size (driveOf shape r) t b + (size + imageExtra) ≤ bytesIn size (shape .sectors)
   lies-inside =
-      image-inside size (sectorIn (layoutOf shape r) t b) (shape .sectors)
-      (rw (track-whole (lent .drives)) at (sector-below (layoutOf shape r) t b (lent .laid)))
+      image-inside size (sectorIn (driveOf shape r) t b) (shape .sectors)
+      (rw (track-whole (lent .drives)) at (sector-below (driveOf shape r) t b (lent .laid)))
 
   pub track-long : length (trackOf t b home spare) ≡ bytesIn size (shape .sectors)
   track-long = track-length t b home spare (bytesIn size (shape .sectors)) (lent .home-long) (lent .spare-long)
 
   -- where it ends fits 32 bits
-  pub end-fits : sectorsMost * (size + imageExtra) < 2 ^ 32 → startOf size (layoutOf shape r) t b + (size + imageExtra) < 2 ^ 32
+  pub end-fits : sectorsMost * (size + imageExtra) < 2 ^ 32 → startOf size (driveOf shape r) t b + (size + imageExtra) < 2 ^ 32
   end-fits fits = omega (arith, lies-inside, mul-le-mul-right (size + imageExtra) (lent .shaped .sectors .1))
 
 module _ (size : ℕ) (shape : Shape) (r : ℕ) (t : List ℕ) (b : ℕ) where
-  module _ {g : Layout} {seat : Seat} (drive : g ≡ layoutOf shape r) (found : seat ≡ seatOf g t b) where
+  module _ {drive : Drive} {seat : Seat} (is-drive : drive ≡ driveOf shape r) (found : seat ≡ seatOf drive t b) where
     -- a seat that was found on the layout of the drive
-    pub seat-sector : seat .sector ≡ sectorIn (layoutOf shape r) t b
-    seat-sector = ap (λ (s : Seat). s .sector) found ∙ ap (λ (h : Layout). sectorIn h t b) drive
+    pub seat-sector : seat .sector ≡ sectorIn (driveOf shape r) t b
+    seat-sector = ap (λ (s : Seat). s .sector) found ∙ ap (λ (h : Drive). sectorIn h t b) is-drive
 
     pub seat-replaced : seat .replaced ≡ isReplaced t b
     seat-replaced = ap (λ (s : Seat). s .replaced) found
@@ -68,73 +64,73 @@ module _ (size : ℕ) (shape : Shape) (r : ℕ) (t : List ℕ) (b : ℕ) where
           ∙ track-now t b home spare
 
       pub seat-fault :
-          {number fault : ℕ} → number ≡ headerFor g t b →
-          fault ≡ sectorFault size (imageAt size (seat .sector * (size + imageExtra)) (track .now)) number →
+          {number fault : ℕ} → number ≡ headerFor drive t b →
+          fault ≡ contentsFault size (imageAt size (seat .sector * (size + imageExtra)) (track .now)) number →
           fault ≡ lyingFault size shape r t b (home .now) (spare .now)
-      seat-fault header judged = judged ∙ rw (header, seat-track, seat-sector, drive)
+      seat-fault header judged = judged ∙ rw (header, seat-track, seat-sector, is-drive)
 
   module _ (home spare : List ℕ) where
-    pub read-lent : {fault : ℕ} → fault ≡ lentFault size shape r t b home spare → (fault ≡ 0 → ⊥) → readFault size shape r t b home spare ≡ fault
-    unfolding readFault
+    pub read-lent : {fault : ℕ} → fault ≡ lentFault size shape r t b home spare → (fault ≡ 0 → ⊥) → blockReadFault size shape r t b home spare ≡ fault
+    unfolding blockReadFault
     read-lent {fault} same some = orElse-some (lentFault size shape r t b home spare) _ (λ none. some (same ∙ none)) ∙ sym same
 
     -- where what is lent passes, the sector image decides
-    pub read-lying : lentFault size shape r t b home spare ≡ 0 → readFault size shape r t b home spare ≡ lyingFault size shape r t b home spare
-    unfolding readFault
+    pub read-lying : lentFault size shape r t b home spare ≡ 0 → blockReadFault size shape r t b home spare ≡ lyingFault size shape r t b home spare
+    unfolding blockReadFault
     read-lying none = orElse-none (lentFault size shape r t b home spare) _ none
 
     spot-gives : {spot : Spot} → spot ≡ spotted size shape r t b home spare → SpotSized size shape r t b home spare spot
-    spot-gives same = gives (spot-says (readFault size shape r t b home spare) (isReplaced t b) (dataStart size (layoutOf shape r) t b)) same
+    spot-gives same = gives (λ k. refl) same
 
-    pub spot-refused : {fault : ℕ} → readFault size shape r t b home spare ≡ fault → (fault ≡ 0 → ⊥) → SpotSized size shape r t b home spare (NotSpotted fault)
+    pub spot-refused : {fault : ℕ} → blockReadFault size shape r t b home spare ≡ fault → (fault ≡ 0 → ⊥) → SpotSized size shape r t b home spare (NotSpotted fault)
     spot-refused {fault} same some = spot-gives (rw same (sym (answer-refused fault _ _ some)))
 
-    pub spot-found : {spot : Spot} → readFault size shape r t b home spare ≡ 0 → spot ≡ spotOf size shape r t b → SpotSized size shape r t b home spare spot
+    pub spot-found : {spot : Spot} → blockReadFault size shape r t b home spare ≡ 0 → spot ≡ spotOf size shape r t b → SpotSized size shape r t b home spare spot
     spot-found none same = spot-gives (rw none same)
 
     -- a read without fault
-    pub read-shows : readFault size shape r t b home spare ≡ 0 → Lent size shape r t b home spare
-    unfolding readFault
+    pub read-shows : blockReadFault size shape r t b home spare ≡ 0 → Lent size shape r t b home spare
+    unfolding blockReadFault
     read-shows none = lent-shows size shape r t b home spare (orElse-first (lentFault size shape r t b home spare) _ none)
 
-    pub data-ends : readFault size shape r t b home spare ≡ 0 → dataStart size (layoutOf shape r) t b + size ≤ bytesIn size (shape .sectors)
+    pub data-ends : blockReadFault size shape r t b home spare ≡ 0 → dataStart size (driveOf shape r) t b + size ≤ bytesIn size (shape .sectors)
     data-ends none = omega (arith, lies-inside (read-shows none))
 
     -- what each spot tells
     pub home-told :
         {offset : ℕ} → spotted size shape r t b home spare ≡ InHome offset →
-        (readFault size shape r t b home spare ≡ 0) × ((isReplaced t b ≡ false) × (offset ≡ dataStart size (layoutOf shape r) t b))
+        (blockReadFault size shape r t b home spare ≡ 0) × ((isReplaced t b ≡ false) × (offset ≡ dataStart size (driveOf shape r) t b))
     home-told {offset} same =
-        byFault (readFault size shape r t b home spare)
+        byFault (blockReadFault size shape r t b home spare)
         (λ none.
         byBool (isReplaced t b)
-        (λ e. let clash : InSpare (dataStart size (layoutOf shape r) t b) ≡ InHome offset = rw (none, e) at same in let z : _≡_ {A = ℕ} 0 1 = cc in absurd (omega arith))
-        (λ e. let one : InHome (dataStart size (layoutOf shape r) t b) ≡ InHome offset = rw (none, e) at same in (none, (e, cc))))
-        (λ some. let clash = sym (answer-refused (readFault size shape r t b home spare) NotSpotted (spotOf size shape r t b) some) ∙ same in let z : _≡_ {A = ℕ} 0 1 = cc in absurd (omega arith))
+        (λ e. let clash : InSpare (dataStart size (driveOf shape r) t b) ≡ InHome offset = rw (none, e) at same in let z : _≡_ {A = ℕ} 0 1 = cc in absurd (omega arith))
+        (λ e. let one : InHome (dataStart size (driveOf shape r) t b) ≡ InHome offset = rw (none, e) at same in (none, (e, cc))))
+        (λ some. let clash = sym (answer-refused (blockReadFault size shape r t b home spare) NotSpotted (spotOf size shape r t b) some) ∙ same in let z : _≡_ {A = ℕ} 0 1 = cc in absurd (omega arith))
 
     pub spare-told :
         {offset : ℕ} → spotted size shape r t b home spare ≡ InSpare offset →
-        (readFault size shape r t b home spare ≡ 0) × ((isReplaced t b ≡ true) × (offset ≡ dataStart size (layoutOf shape r) t b))
+        (blockReadFault size shape r t b home spare ≡ 0) × ((isReplaced t b ≡ true) × (offset ≡ dataStart size (driveOf shape r) t b))
     spare-told {offset} same =
-        byFault (readFault size shape r t b home spare)
+        byFault (blockReadFault size shape r t b home spare)
         (λ none.
         byBool (isReplaced t b)
-        (λ e. let one : InSpare (dataStart size (layoutOf shape r) t b) ≡ InSpare offset = rw (none, e) at same in (none, (e, cc)))
-        (λ e. let clash : InHome (dataStart size (layoutOf shape r) t b) ≡ InSpare offset = rw (none, e) at same in let z : _≡_ {A = ℕ} 0 1 = cc in absurd (omega arith)))
-        (λ some. let clash = sym (answer-refused (readFault size shape r t b home spare) NotSpotted (spotOf size shape r t b) some) ∙ same in let z : _≡_ {A = ℕ} 0 1 = cc in absurd (omega arith))
+        (λ e. let one : InSpare (dataStart size (driveOf shape r) t b) ≡ InSpare offset = rw (none, e) at same in (none, (e, cc)))
+        (λ e. let clash : InHome (dataStart size (driveOf shape r) t b) ≡ InSpare offset = rw (none, e) at same in let z : _≡_ {A = ℕ} 0 1 = cc in absurd (omega arith)))
+        (λ some. let clash = sym (answer-refused (blockReadFault size shape r t b home spare) NotSpotted (spotOf size shape r t b) some) ∙ same in let z : _≡_ {A = ℕ} 0 1 = cc in absurd (omega arith))
 
     pub refused-told :
         {fault : ℕ} → spotted size shape r t b home spare ≡ NotSpotted fault →
-        (readFault size shape r t b home spare ≡ fault) × (fault ≡ 0 → ⊥)
+        (blockReadFault size shape r t b home spare ≡ fault) × (fault ≡ 0 → ⊥)
     refused-told {fault} same =
-        byFault (readFault size shape r t b home spare)
+        byFault (blockReadFault size shape r t b home spare)
         (λ none.
         byBool (isReplaced t b)
-        (λ e. let clash : InSpare (dataStart size (layoutOf shape r) t b) ≡ NotSpotted fault = rw (none, e) at same in let z : _≡_ {A = ℕ} 0 1 = cc in absurd (omega arith))
-        (λ e. let clash : InHome (dataStart size (layoutOf shape r) t b) ≡ NotSpotted fault = rw (none, e) at same in let z : _≡_ {A = ℕ} 0 1 = cc in absurd (omega arith)))
+        (λ e. let clash : InSpare (dataStart size (driveOf shape r) t b) ≡ NotSpotted fault = rw (none, e) at same in let z : _≡_ {A = ℕ} 0 1 = cc in absurd (omega arith))
+        (λ e. let clash : InHome (dataStart size (driveOf shape r) t b) ≡ NotSpotted fault = rw (none, e) at same in let z : _≡_ {A = ℕ} 0 1 = cc in absurd (omega arith)))
         (λ some.
-        let one : NotSpotted (readFault size shape r t b home spare) ≡ NotSpotted fault = sym (answer-refused (readFault size shape r t b home spare) NotSpotted (spotOf size shape r t b) some) ∙ same in
-        let number : readFault size shape r t b home spare ≡ fault = cc in
+        let one : NotSpotted (blockReadFault size shape r t b home spare) ≡ NotSpotted fault = sym (answer-refused (blockReadFault size shape r t b home spare) NotSpotted (spotOf size shape r t b) some) ∙ same in
+        let number : blockReadFault size shape r t b home spare ≡ fault = cc in
         (number, λ none. some (number ∙ none)))
 
   -- the part that is handed back for each spot
@@ -150,7 +146,7 @@ module _ (size : ℕ) (shape : Shape) (r : ℕ) (t : List ℕ) (b : ℕ) where
           holds =
               held
               ∙ rw (long, told .0, told .1 .0, told .1 .1)
-              (sym (data-inside size (startOf size (layoutOf shape r) t b) (home .now)));
+              (sym (data-inside size (startOf size (driveOf shape r) t b) (home .now)));
           lies = at ∙ rw (told .0, told .1 .0, told .1 .1);
         }
 
@@ -165,7 +161,7 @@ module _ (size : ℕ) (shape : Shape) (r : ℕ) (t : List ℕ) (b : ℕ) where
           holds =
               held
               ∙ rw (long, told .0, told .1 .0, told .1 .1)
-              (sym (data-inside size (startOf size (layoutOf shape r) t b) (spare .now)));
+              (sym (data-inside size (startOf size (driveOf shape r) t b) (spare .now)));
           lies = at ∙ rw (told .0, told .1 .0, told .1 .1);
         }
 
@@ -176,5 +172,5 @@ module _ (size : ℕ) (shape : Shape) (r : ℕ) (t : List ℕ) (b : ℕ) where
         let told = refused-told (home .now) (spare .now) same in
         record {
           holds = held ∙ rw (told .0) (sym (answer-refused fault (λ refused. []) _ (told .1)));
-          lies = at ∙ rw (told .0, answer-refused fault (λ refused. home) (trackOf t b home spare) (told .1), given-refused fault (dataStart size (layoutOf shape r) t b) (told .1));
+          lies = at ∙ rw (told .0, answer-refused fault (λ refused. home) (trackOf t b home spare) (told .1), given-refused fault (dataStart size (driveOf shape r) t b) (told .1));
         }

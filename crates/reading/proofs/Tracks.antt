@@ -13,8 +13,8 @@ use Rattle.paper.specs.Limits.{imageExtra}
 use Rattle.paper.proofs.Cases.{byBool}
 use Rattle.paper.proofs.Rows.{tells-lt, tells-false}
 use Rattle.image.specs.Image.{headerSize, dataOf}
-use Rattle.layout.specs.declared.Layout.{Layout}
-use Rattle.layout.specs.Layouts.{Laid, sectorsOf}
+use Rattle.layout.specs.declared.Drive.{Drive}
+use Rattle.layout.specs.Layouts.{Laid, sectorsPerTrack}
 use Rattle.layout.proofs.Words.{tells-names}
 use Rattle.layout.proofs.Sectors.{home-offset, spare-offset}
 use Rattle.table.specs.Rules.{Obeys}
@@ -22,10 +22,10 @@ use Rattle.table.specs.Lookup.{placeOf, isReplaced, liesOn}
 use Rattle.table.proofs.Lookups.{place-names, place-once, tells-replaced}
 use Rattle.reading.specs.Tracks.{Seated, at-home, on-spare, trackOf, sectorIn, bytesIn, imageAt}
 
-module _ (g : Layout) (t : List ℕ) (b : ℕ) where
+module _ (drive : Drive) (t : List ℕ) (b : ℕ) where
   module _ {Track : Type 0} (home spare : Track) where
     -- a block lies where the definitions say
-    pub seated : Seated g t b home spare (trackOf t b home spare) (sectorIn g t b)
+    pub seated : Seated drive t b home spare (trackOf t b home spare) (sectorIn drive t b)
     unfolding sectorIn
     seated =
         byBool (isReplaced t b)
@@ -36,8 +36,8 @@ module _ (g : Layout) (t : List ℕ) (b : ℕ) where
 
     -- and nowhere else
     pub seated-only :
-        {track : Track} {sector : ℕ} → Obeys g t → Seated g t b home spare track sector →
-        (trackOf t b home spare ≡ track) × (sectorIn g t b ≡ sector)
+        {track : Track} {sector : ℕ} → Obeys drive t → Seated drive t b home spare track sector →
+        (trackOf t b home spare ≡ track) × (sectorIn drive t b ≡ sector)
     unfolding sectorIn
     seated-only o (at-home none) =
         byBool (isReplaced t b) (λ e. absurd (none (tells-replaced t b .holds e))) (λ e. (rw e, rw e))
@@ -45,17 +45,17 @@ module _ (g : Layout) (t : List ℕ) (b : ℕ) where
         let place : placeOf t b ≡ q = place-once o q b h (tells-names _ b .told named) in
         (rw (place, lt-ltb q (length t) h), rw (place, lt-ltb q (length t) h))
 
-  module _ (laid : Laid g) where
+  module _ (laid : Laid drive) where
     -- it is the sector that the table's look-up answers, counted inside its track
-    pub sector-lies : sectorIn g t b ≡ liesOn g t b % sectorsOf g
+    pub sector-lies : sectorIn drive t b ≡ liesOn drive t b % sectorsPerTrack drive
     unfolding sectorIn
     sector-lies =
         byBool (isReplaced t b)
         (λ e. rw e (sym (spare-offset laid (placeOf t b))))
         (λ e. rw e (sym (home-offset laid b)))
 
-    pub sector-below : sectorIn g t b < sectorsOf g
-    sector-below = let some : 0 < sectorsOf g = omega (arith, laid .home-some) in rw sector-lies (mod-lt (liesOn g t b) some)
+    pub sector-below : sectorIn drive t b < sectorsPerTrack drive
+    sector-below = let some : 0 < sectorsPerTrack drive = omega (arith, laid .home-some) in rw sector-lies (mod-lt (liesOn drive t b) some)
 
 module _ (t : List ℕ) (b : ℕ) where
   -- what the image holds that a block lies in

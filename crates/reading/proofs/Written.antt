@@ -13,13 +13,13 @@ use Rattle.paper.specs.Refusals.{forcedError}
 use Rattle.words.specs.Words.{Bytes}
 use Rattle.words.proofs.Stores.{part-sets}
 use Rattle.shape.specs.declared.Shape.{Shape}
-use Rattle.layout.specs.Layouts.{layoutOf}
+use Rattle.layout.specs.Layouts.{driveOf}
 use Rattle.layout.specs.Descriptors.{Names}
 use Rattle.layout.proofs.Sectors.{blocks-few}
 use Rattle.image.specs.Image.{imageOf}
 use Rattle.image.proofs.Images.{length-image, written-data, written-good, written-forced}
 use Rattle.reading.specs.Tracks.{Seated, on-spare, bytesIn, imageAt, imageFor, headerFor}
-use Rattle.reading.specs.Faults.{lentFault, readFault}
+use Rattle.reading.specs.Faults.{lentFault, blockReadFault}
 use Rattle.reading.specs.Promises.{DataSized}
 use Rattle.reading.proofs.Tracks.{seated-only}
 use Rattle.reading.proofs.Exact.{Lent, lent-shows}
@@ -37,17 +37,17 @@ image-stored start track number bytes forced inside =
 
 module _ (size : ℕ) (shape : Shape) (r : ℕ) (t : List ℕ) (b : ℕ) where
   -- the header of a block fits its copies
-  pub header-fits : {home spare : List ℕ} → Lent size shape r t b home spare → headerFor (layoutOf shape r) t b < 2 ^ 32
+  pub header-fits : {home spare : List ℕ} → Lent size shape r t b home spare → headerFor (driveOf shape r) t b < 2 ^ 32
   unfolding headerFor
   header-fits lent = omega (arith, lent .below, blocks-few (lent .laid))
 
   -- the sector image where a block lies
   lies-there :
       {home spare track : List ℕ} {sector : ℕ} {image : List ℕ} → lentFault size shape r t b home spare ≡ 0 →
-      Seated (layoutOf shape r) t b home spare track sector → imageAt size (bytesIn size sector) track ≡ image →
-      imageFor size (layoutOf shape r) t b home spare ≡ image
+      Seated (driveOf shape r) t b home spare track sector → imageAt size (bytesIn size sector) track ≡ image →
+      imageFor size (driveOf shape r) t b home spare ≡ image
   lies-there {home} {spare} {track} {sector} none seat held =
-      let one = seated-only (layoutOf shape r) t b home spare (lent-shows size shape r t b home spare none .obeys) seat in
+      let one = seated-only (driveOf shape r) t b home spare (lent-shows size shape r t b home spare none .obeys) seat in
       rw (one .0, one .1) held
 
   module _ (bytes : List ℕ) (long : length bytes ≡ size) (h : Bytes bytes) where
@@ -55,19 +55,19 @@ module _ (size : ℕ) (shape : Shape) (r : ℕ) (t : List ℕ) (b : ℕ) where
         {home spare track : List ℕ}
         {sector : ℕ}
         (none : lentFault size shape r t b home spare ≡ 0)
-        (seat : Seated (layoutOf shape r) t b home spare track sector)
+        (seat : Seated (driveOf shape r) t b home spare track sector)
       where
         -- good as it was written
-        pub good-read : imageAt size (bytesIn size sector) track ≡ imageOf (headerFor (layoutOf shape r) t b) bytes false → readFault size shape r t b home spare ≡ 0
+        pub good-read : imageAt size (bytesIn size sector) track ≡ imageOf (headerFor (driveOf shape r) t b) bytes false → blockReadFault size shape r t b home spare ≡ 0
         good-read held =
             read-lying size shape r t b home spare none
-            ∙ rw (lies-there none seat held, ← long) (written-good (headerFor (layoutOf shape r) t b) bytes (header-fits (lent-shows size shape r t b home spare none)) h)
+            ∙ rw (lies-there none seat held, ← long) (written-good (headerFor (driveOf shape r) t b) bytes (header-fits (lent-shows size shape r t b home spare none)) h)
 
         -- or forced
-        pub forced-read : imageAt size (bytesIn size sector) track ≡ imageOf (headerFor (layoutOf shape r) t b) bytes true → readFault size shape r t b home spare ≡ forcedError
+        pub forced-read : imageAt size (bytesIn size sector) track ≡ imageOf (headerFor (driveOf shape r) t b) bytes true → blockReadFault size shape r t b home spare ≡ forcedError
         forced-read held =
             read-lying size shape r t b home spare none
-            ∙ rw (lies-there none seat held, ← long) (written-forced (headerFor (layoutOf shape r) t b) bytes (header-fits (lent-shows size shape r t b home spare none)) h)
+            ∙ rw (lies-there none seat held, ← long) (written-forced (headerFor (driveOf shape r) t b) bytes (header-fits (lent-shows size shape r t b home spare none)) h)
 
     module _
         (home spare part : RefT (List ℕ))
@@ -75,15 +75,15 @@ module _ (size : ℕ) (shape : Shape) (r : ℕ) (t : List ℕ) (b : ℕ) where
         {track : List ℕ}
         {sector : ℕ}
         (none : lentFault size shape r t b (home .now) (spare .now) ≡ 0)
-        (seat : Seated (layoutOf shape r) t b (home .now) (spare .now) track sector)
+        (seat : Seated (driveOf shape r) t b (home .now) (spare .now) track sector)
       where
         -- exactly the data comes back, or an empty part
-        pub good-part : imageAt size (bytesIn size sector) track ≡ imageOf (headerFor (layoutOf shape r) t b) bytes false → part .now ≡ bytes
+        pub good-part : imageAt size (bytesIn size sector) track ≡ imageOf (headerFor (driveOf shape r) t b) bytes false → part .now ≡ bytes
         good-part held =
             accepted-data size shape r t b home spare part given-part (good-read none seat held)
-            ∙ rw (lies-there none seat held, ← long) (written-data (headerFor (layoutOf shape r) t b) bytes false)
+            ∙ rw (lies-there none seat held, ← long) (written-data (headerFor (driveOf shape r) t b) bytes false)
 
-        pub forced-part : imageAt size (bytesIn size sector) track ≡ imageOf (headerFor (layoutOf shape r) t b) bytes true → part .now ≡ []
+        pub forced-part : imageAt size (bytesIn size sector) track ≡ imageOf (headerFor (driveOf shape r) t b) bytes true → part .now ≡ []
         forced-part held =
             refused-empty size shape r t b home spare part given-part
             (λ passed. let same : forcedError ≡ 0 = sym (forced-read none seat held) ∙ passed in omega arith)
@@ -92,7 +92,7 @@ module _ (size : ℕ) (shape : Shape) (r : ℕ) (t : List ℕ) (b : ℕ) where
     pub stale-home :
         (home spare part : RefT (List ℕ)) → DataSized size shape r t b home spare part → lentFault size shape r t b (home .now) (spare .now) ≡ 0 →
         (q : ℕ) → q < length t → Names (getD t q 0) b → (old : List ℕ) →
-        imageAt size (bytesIn size (b % layoutOf shape r .home)) (home .now) ≡ imageOf (headerFor (layoutOf shape r) t b) old false →
-        imageAt size (bytesIn size (layoutOf shape r .home + q % r)) (spare .now) ≡ imageOf (headerFor (layoutOf shape r) t b) bytes false →
+        imageAt size (bytesIn size (b % driveOf shape r .l)) (home .now) ≡ imageOf (headerFor (driveOf shape r) t b) old false →
+        imageAt size (bytesIn size (driveOf shape r .l + q % r)) (spare .now) ≡ imageOf (headerFor (driveOf shape r) t b) bytes false →
         part .now ≡ bytes
     stale-home home spare part given-part none q in-table named old stale held = good-part home spare part given-part none (on-spare q in-table named) held

@@ -7,14 +7,14 @@ use lib.ListN.{length}
 use Rattle.paper.specs.Checks.{refuse, _orElse_}
 use Rattle.paper.specs.Refusals.{noSuchBlock, wrongLength}
 use Rattle.shape.specs.declared.Shape.{Shape}
-use Rattle.layout.specs.Layouts.{layoutOf}
+use Rattle.layout.specs.Layouts.{driveOf}
 use Rattle.table.specs.Rules.{tableFault}
-use Rattle.image.specs.Image.{sectorFault}
+use Rattle.image.specs.Image.{contentsFault}
 use Rattle.reading.specs.Tracks.{bytesIn, imageFor, headerFor}
 
 -- 5 for a block that the drive does not have
 abbrev pub blockFault : Shape → ℕ → ℕ → ℕ
-blockFault shape r b = refuse (leb (layoutOf shape r .blocks) b) noSuchBlock
+blockFault shape r b = refuse (leb (driveOf shape r .blocks) b) noSuchBlock
 
 -- either image is not that of a whole track
 abbrev pub otherLength : ℕ → Shape → List ℕ → List ℕ → Bool
@@ -29,8 +29,8 @@ lentFault size shape r t b home spare =
 -- 15 to 18: checks of the sector image that the block lies on
 abbrev pub lyingFault : ℕ → Shape → ℕ → List ℕ → ℕ → List ℕ → List ℕ → ℕ
 lyingFault size shape r t b home spare =
-    sectorFault size (imageFor size (layoutOf shape r) t b home spare) (headerFor (layoutOf shape r) t b)
+    contentsFault size (imageFor size (driveOf shape r) t b home spare) (headerFor (driveOf shape r) t b)
 
 -- 1, 11, 5, 14, 15 to 18: checks of a read
-unfoldable pub readFault : ℕ → Shape → ℕ → List ℕ → ℕ → List ℕ → List ℕ → ℕ
-readFault size shape r t b home spare = lentFault size shape r t b home spare orElse lyingFault size shape r t b home spare
+unfoldable pub blockReadFault : ℕ → Shape → ℕ → List ℕ → ℕ → List ℕ → List ℕ → ℕ
+blockReadFault size shape r t b home spare = lentFault size shape r t b home spare orElse lyingFault size shape r t b home spare

@@ -1,37 +1,36 @@
 -- Document 01, "Refusal numbers" and "Sector image": exactly when each number is given for a read, for any number of data bytes.
-use Prim.Native.Nat.{ℕ, _≤_}
-use mathlib.Core.Path.{_≡_}
+use Prim.Native.Nat.{ℕ}
 use mathlib.Core.Logic.{_⊎_}
 use mathlib.Core.List.{List}
-use lib.ListN.{length}
 use Rattle.paper.specs.Exactly.{When, _andThen_}
+use Rattle.paper.specs.Conditions.{NotBelow, OtherLength}
 use Rattle.paper.specs.Refusals.{noSuchBlock, wrongLength}
 use Rattle.shape.specs.declared.Shape.{Shape}
-use Rattle.layout.specs.declared.Layout.{Layout}
-use Rattle.layout.specs.Layouts.{layoutOf}
+use Rattle.layout.specs.declared.Drive.{Drive}
+use Rattle.layout.specs.Layouts.{driveOf}
 use Rattle.table.specs.Rules.{TableJudged}
-use Rattle.image.specs.Judged.{SectorJudged}
+use Rattle.image.specs.Judged.{ContentsJudged}
 use Rattle.reading.specs.Tracks.{Seated, bytesIn, imageAt, headerFor}
 
 -- exactly when 5 is given
 abbrev pub BlockJudged : Shape → ℕ → ℕ → ℕ → Type 0
-BlockJudged shape r b = When noSuchBlock (layoutOf shape r .blocks ≤ b)
+BlockJudged shape r b = When noSuchBlock (NotBelow (driveOf shape r .blocks) b)
 
 -- exactly when 14 is given: either image is not S sector images long
 abbrev pub LengthsJudged : ℕ → Shape → List ℕ → List ℕ → ℕ → Type 0
 LengthsJudged size shape home spare =
-    When wrongLength ((length home ≡ bytesIn size (shape .sectors) → ⊥) ⊎ (length spare ≡ bytesIn size (shape .sectors) → ⊥))
+    When wrongLength (OtherLength (bytesIn size (shape .sectors)) home ⊎ OtherLength (bytesIn size (shape .sectors)) spare)
 
 -- exactly when each number is given for the sector image where the block lies
-pub data LyingJudged (size : ℕ) (g : Layout) (t : List ℕ) (b : ℕ) (home spare : List ℕ) : ℕ → Type 0 where
+pub data LyingJudged (size : ℕ) (drive : Drive) (t : List ℕ) (b : ℕ) (home spare : List ℕ) : ℕ → Type 0 where
   lies :
-      {k : ℕ} (track : List ℕ) (sector : ℕ) → Seated g t b home spare track sector →
-      SectorJudged size (imageAt size (bytesIn size sector) track) (headerFor g t b) k → LyingJudged size g t b home spare k
+      {k : ℕ} (track : List ℕ) (sector : ℕ) → Seated drive t b home spare track sector →
+      ContentsJudged size (imageAt size (bytesIn size sector) track) (headerFor drive t b) k → LyingJudged size drive t b home spare k
 
 -- exactly when a read gives each number
-abbrev pub ReadJudged : ℕ → Shape → ℕ → List ℕ → ℕ → List ℕ → List ℕ → ℕ → Type 0
-ReadJudged size shape r t b home spare =
+abbrev pub BlockReadJudged : ℕ → Shape → ℕ → List ℕ → ℕ → List ℕ → List ℕ → ℕ → Type 0
+BlockReadJudged size shape r t b home spare =
     TableJudged shape r t
     andThen (BlockJudged shape r b
     andThen (LengthsJudged size shape home spare
-    andThen LyingJudged size (layoutOf shape r) t b home spare))
+    andThen LyingJudged size (driveOf shape r) t b home spare))

@@ -7,15 +7,15 @@ use Rattle.paper.specs.Checks.{answer, given}
 use Rattle.paper.specs.Promise.{Gives}
 use Rattle.paper.specs.Limits.{dataSize}
 use Rattle.shape.specs.declared.Shape.{Shape}
-use Rattle.layout.specs.Layouts.{layoutOf}
+use Rattle.layout.specs.Layouts.{driveOf}
 use Rattle.image.specs.declared.Verdict.{Verdict}
-use Rattle.image.specs.declared.Verdict.the-variants.{Good, Refused as NotGood}
+use Rattle.image.specs.declared.Verdict.the-variants.{Good}
 use Rattle.image.specs.Image.{dataOf}
-use Rattle.image.specs.Promises.{saidVerdict, Lends}
+use Rattle.image.specs.Promises.{GivesVerdict, Lends}
 use Rattle.reading.specs.declared.answers.Spot.{Spot}
 use Rattle.reading.specs.declared.answers.Spot.the-variants.{InHome, InSpare, Refused as NotSpotted}
 use Rattle.reading.specs.Tracks.{trackOf, dataStart, imageFor}
-use Rattle.reading.specs.Faults.{readFault}
+use Rattle.reading.specs.Faults.{blockReadFault}
 
 -- refusal, image (0 that of the home track, 1 the second), offset of the data inside it
 abbrev pub saidSpot : Spot → ℕ × ℕ × ℕ
@@ -23,36 +23,27 @@ saidSpot (InHome offset) = (0, 0, offset)
 saidSpot (InSpare offset) = (0, 1, offset)
 saidSpot (NotSpotted fault) = (fault, 0, 0)
 
+abbrev pub GivesSpot : ℕ → Spot → Spot → Type 0
+GivesSpot = Gives saidSpot (λ fault. (fault, 0, 0)) NotSpotted
+
 -- where the data of a block begins
 abbrev pub spotOf : ℕ → Shape → ℕ → List ℕ → ℕ → Spot
-spotOf size shape r t b = trackOf t b InHome InSpare (dataStart size (layoutOf shape r) t b)
-
-abbrev pub spotted : ℕ → Shape → ℕ → List ℕ → ℕ → List ℕ → List ℕ → Spot
-spotted size shape r t b home spare = answer (readFault size shape r t b home spare) NotSpotted (spotOf size shape r t b)
-
--- the numbers that are said of it
-abbrev pub spotNumbers : ℕ → Shape → ℕ → List ℕ → ℕ → ℕ → ℕ × ℕ × ℕ
-spotNumbers size shape r t b fault = (fault, given fault (trackOf t b 0 1), given fault (dataStart size (layoutOf shape r) t b))
+spotOf size shape r t b = trackOf t b InHome InSpare (dataStart size (driveOf shape r) t b)
 
 abbrev pub SpotSized : ℕ → Shape → ℕ → List ℕ → ℕ → List ℕ → List ℕ → Spot → Type 0
-SpotSized size shape r t b home spare =
-    Gives saidSpot (spotted size shape r t b home spare) (spotNumbers size shape r t b (readFault size shape r t b home spare))
-
--- the verdict
-abbrev pub verdict : ℕ → Shape → ℕ → List ℕ → ℕ → List ℕ → List ℕ → Verdict
-verdict size shape r t b home spare = answer (readFault size shape r t b home spare) NotGood Good
+SpotSized size shape r t b home spare = GivesSpot (blockReadFault size shape r t b home spare) (spotOf size shape r t b)
 
 abbrev pub JudgeSized : ℕ → Shape → ℕ → List ℕ → ℕ → List ℕ → List ℕ → Verdict → Type 0
-JudgeSized size shape r t b home spare = Gives saidVerdict (verdict size shape r t b home spare) (readFault size shape r t b home spare)
+JudgeSized size shape r t b home spare = GivesVerdict (blockReadFault size shape r t b home spare) Good
 
 -- the part that is handed back: the data where it lies in the image that the block lies in, or the empty part at the start of home
 abbrev pub PartGiven : ℕ → Shape → ℕ → List ℕ → ℕ → RefT (List ℕ) → RefT (List ℕ) → ℕ → RefT (List ℕ) → Type 0
 PartGiven size shape r t b home spare fault =
-    Lends (answer fault (λ refused. home) (trackOf t b home spare)) (given fault (dataStart size (layoutOf shape r) t b))
-    (answer fault (λ refused. []) (dataOf size (imageFor size (layoutOf shape r) t b (home .now) (spare .now))))
+    Lends (answer fault (λ refused. home) (trackOf t b home spare)) (given fault (dataStart size (driveOf shape r) t b))
+    (answer fault (λ refused. []) (dataOf size (imageFor size (driveOf shape r) t b (home .now) (spare .now))))
 
 abbrev pub DataSized : ℕ → Shape → ℕ → List ℕ → ℕ → RefT (List ℕ) → RefT (List ℕ) → RefT (List ℕ) → Type 0
-DataSized size shape r t b home spare = PartGiven size shape r t b home spare (readFault size shape r t b (home .now) (spare .now))
+DataSized size shape r t b home spare = PartGiven size shape r t b home spare (blockReadFault size shape r t b (home .now) (spare .now))
 
 -- the part at a spot: so many bytes from the offset on, in the image that the spot names; none at the start of home for a refusal
 pub data AtSpot (size : ℕ) (home spare part : RefT (List ℕ)) : Spot → Type 0 where

@@ -6,52 +6,52 @@ use lib.ListN.{length, getD, take, drop}
 use Rattle.paper.specs.Checks.{pick}
 use Rattle.paper.specs.Limits.{imageExtra}
 use Rattle.image.specs.Image.{headerSize}
-use Rattle.layout.specs.declared.Layout.{Layout}
+use Rattle.layout.specs.declared.Drive.{Drive}
 use Rattle.layout.specs.Descriptors.{Names}
 use Rattle.table.specs.Lookup.{Replaced, placeOf, isReplaced}
 use Rattle.reading.specs.declared.Seat.{Seat}
 
 -- which image a block lies in, and on which sector of that track: at home on b mod l, or in the second image on l + q mod r, where place q names it
-pub data Seated {Track : Type 0} (g : Layout) (t : List ℕ) (b : ℕ) (home spare : Track) : Track → ℕ → Type 0 where
-  at-home : (Replaced t b → ⊥) → Seated g t b home spare home (b % g .home)
-  on-spare : (q : ℕ) → q < length t → Names (getD t q 0) b → Seated g t b home spare spare (g .home + q % g .spare)
+pub data Seated {Track : Type 0} (drive : Drive) (t : List ℕ) (b : ℕ) (home spare : Track) : Track → ℕ → Type 0 where
+  at-home : (Replaced t b → ⊥) → Seated drive t b home spare home (b % drive .l)
+  on-spare : (q : ℕ) → q < length t → Names (getD t q 0) b → Seated drive t b home spare spare (drive .l + q % drive .r)
 
 -- the image that a block lies in: the second one for a replaced block, also where its spare lies in its home track
 abbrev pub trackOf {ℓ} : {Track : Type ℓ} → List ℕ → ℕ → Track → Track → Track
 trackOf t b home spare = pick (isReplaced t b) spare home
 
 -- the sector inside the track that it lies on
-unfoldable pub sectorIn : Layout → List ℕ → ℕ → ℕ
-sectorIn g t b = pick (isReplaced t b) (g .home + placeOf t b % g .spare) (b % g .home)
+unfoldable pub sectorIn : Drive → List ℕ → ℕ → ℕ
+sectorIn drive t b = pick (isReplaced t b) (drive .l + placeOf t b % drive .r) (b % drive .l)
 
-abbrev pub seatOf : Layout → List ℕ → ℕ → Seat
-seatOf g t b = record { replaced = isReplaced t b; sector = sectorIn g t b }
+abbrev pub seatOf : Drive → List ℕ → ℕ → Seat
+seatOf drive t b = record { replaced = isReplaced t b; sector = sectorIn drive t b }
 
 -- bytes of so many sector images one after the other
 abbrev pub bytesIn : ℕ → ℕ → ℕ
 bytesIn size sectors = sectors * (size + imageExtra)
 
 -- where in the image of its track a block's sector image starts, and where its data does
-abbrev pub startOf : ℕ → Layout → List ℕ → ℕ → ℕ
-startOf size g t b = bytesIn size (sectorIn g t b)
+abbrev pub startOf : ℕ → Drive → List ℕ → ℕ → ℕ
+startOf size drive t b = bytesIn size (sectorIn drive t b)
 
-abbrev pub dataStart : ℕ → Layout → List ℕ → ℕ → ℕ
-dataStart size g t b = startOf size g t b + headerSize
+abbrev pub dataStart : ℕ → Drive → List ℕ → ℕ → ℕ
+dataStart size drive t b = startOf size drive t b + headerSize
 
 -- the sector image that starts at a place of a track
 unfoldable pub imageAt : ℕ → ℕ → List ℕ → List ℕ
 imageAt size start track = take (size + imageExtra) (drop start track)
 
 -- the sector image of a block
-abbrev pub imageFor : ℕ → Layout → List ℕ → ℕ → List ℕ → List ℕ → List ℕ
-imageFor size g t b home spare = imageAt size (startOf size g t b) (trackOf t b home spare)
+abbrev pub imageFor : ℕ → Drive → List ℕ → ℕ → List ℕ → List ℕ → List ℕ
+imageFor size drive t b home spare = imageAt size (startOf size drive t b) (trackOf t b home spare)
 
 -- the header that the sector of a block must carry: its number
-unfoldable pub headerFor : Layout → List ℕ → ℕ → ℕ
-headerFor g t b = b
+unfoldable pub headerFor : Drive → List ℕ → ℕ → ℕ
+headerFor drive t b = b
 
 -- two pairs of images that are as long and hold the same sector image of a block: whatever else they hold may differ
-pub record Agree (size : ℕ) (g : Layout) (t : List ℕ) (b : ℕ) (home spare home′ spare′ : List ℕ) : Type 0 where
+pub record Agree (size : ℕ) (drive : Drive) (t : List ℕ) (b : ℕ) (home spare home′ spare′ : List ℕ) : Type 0 where
   pub home-alike : length home ≡ length home′
   pub spare-alike : length spare ≡ length spare′
-  pub lies-alike : imageFor size g t b home spare ≡ imageFor size g t b home′ spare′
+  pub lies-alike : imageFor size drive t b home spare ≡ imageFor size drive t b home′ spare′

@@ -4,7 +4,7 @@ ghost use Prim.Native.Nat.{_+_, _*_, _^_, _<_, _≤_};
 ghost use lib.ListN.{length};
 ghost use Rattle.paper.specs.Checks.{pick};
 ghost use Rattle.paper.specs.Limits.{sectorsMost, imageExtra};
-ghost use Rattle.image.specs.Image.{sectorFault};
+ghost use Rattle.image.specs.Image.{contentsFault};
 ghost use Rattle.layout.specs.Layouts.{Laid};
 ghost use Rattle.reading.specs.Tracks.{headerFor, seatOf, imageAt};
 ghost use Rattle.reading.specs.Faults.{lentFault};
@@ -15,7 +15,7 @@ mod answers;
 pub use answers::Spot;
 use image::HEADER_SIZE;
 use image::Verdict;
-use layout::Layout;
+use layout::Drive;
 use paper::DATA_SIZE;
 use paper::IMAGE_EXTRA;
 use paper::NO_SUCH_BLOCK;
@@ -29,33 +29,33 @@ struct Seat {
 }
 
 // Where a block lies: a spare that names it comes before its home.
-fn seat_of(g: Layout, table: &[u32], block: u32) -> Seat
-    requires { ⌜ Laid g ⌝ }
-    ensures { λ r. ⌜ r ≡ seatOf g (now (table .entry)) block ⌝ }
+fn seat_of(drive: Drive, table: &[u32], block: u32) -> Seat
+    requires { ⌜ Laid drive ⌝ }
+    ensures { λ result. ⌜ result ≡ seatOf drive (now (table .entry)) block ⌝ }
 {
     let place = table::place_of(table, block);
     if place < table.len() {
         return Seat {
             replaced: true,
-            sector: g.home as usize + place % g.spare as usize,
+            sector: drive.l as usize + place % drive.r as usize,
         };
     }
     Seat {
         replaced: false,
-        sector: (block % g.home) as usize,
+        sector: (block % drive.l) as usize,
     }
 }
 
 // The header that the sector of a block must carry.
-fn header_for(g: Layout, table: &[u32], block: u32) -> u32
-    ensures { λ r. ⌜ r ≡ headerFor g (now (table .entry)) block ⌝ }
+fn header_for(drive: Drive, table: &[u32], block: u32) -> u32
+    ensures { λ result. ⌜ result ≡ headerFor drive (now (table .entry)) block ⌝ }
 {
     block
 }
 
 // The image of the track that a block lies on.
 fn track_of<'a>(replaced: bool, home: &'a [u8], spare: &'a [u8]) -> &'a [u8]
-    ensures { λ r. ⌜ r ≡ pick replaced (spare .entry) (home .entry) ⌝ }
+    ensures { λ result. ⌜ result ≡ pick replaced (spare .entry) (home .entry) ⌝ }
 {
     if replaced {
         return spare;
@@ -66,9 +66,9 @@ fn track_of<'a>(replaced: bool, home: &'a [u8], spare: &'a [u8]) -> &'a [u8]
 // 15, 16, 17 or 18 for the sector image that starts at a place of a track and is judged where it lies, else 0.
 fn part_fault(size: usize, track: &[u8], start: usize, number: u32) -> u32
     requires { ⌜ start + (size + imageExtra) ≤ length (now track) ⌝ }
-    ensures { λ r. ⌜ r ≡ sectorFault size (imageAt size start (now (track .entry))) number ⌝ }
+    ensures { λ result. ⌜ result ≡ contentsFault size (imageAt size start (now (track .entry))) number ⌝ }
 {
-    image::sector_fault(size, &track[start..start + (size + IMAGE_EXTRA)], number)
+    image::contents_fault(size, &track[start..start + (size + IMAGE_EXTRA)], number)
 }
 
 // 1, 11, 5 or 14 for what is lent, else 0: no sector is looked into.
@@ -82,13 +82,13 @@ fn lent_fault(
     spare: &[u8],
 ) -> u32
     requires { ⌜ sectorsMost * (size + imageExtra) < 2 ^ 32 ⌝ }
-    ensures { λ fault. ⌜ fault ≡ lentFault size shape r (now (table .entry)) block (now (home .entry)) (now (spare .entry)) ⌝ }
+    ensures { λ result. ⌜ result ≡ lentFault size shape r (now (table .entry)) block (now (home .entry)) (now (spare .entry)) ⌝ }
 {
     let fault = table::table_fault(shape, r, table);
     if fault != 0 {
         return fault;
     }
-    if layout::layout_of(shape, r).blocks <= block {
+    if layout::drive_of(shape, r).blocks <= block {
         return NO_SUCH_BLOCK;
     }
     let long = shape.sectors as usize * (size + IMAGE_EXTRA);
@@ -112,20 +112,20 @@ pub fn spot_sized<'a>(
     spare: &'a [u8],
 ) -> Spot
     requires { ⌜ sectorsMost * (size + imageExtra) < 2 ^ 32 ⌝ }
-    ensures { λ s. ⌜ SpotSized size shape r (now (table .entry)) block (now (home .entry)) (now (spare .entry)) s ⌝ }
+    ensures { λ result. ⌜ SpotSized size shape r (now (table .entry)) block (now (home .entry)) (now (spare .entry)) result ⌝ }
 {
     let fault = lent_fault(size, shape, r, table, block, home, spare);
     if fault != 0 {
         return Spot::Refused(fault);
     }
-    let g = layout::layout_of(shape, r);
-    let seat = seat_of(g, table, block);
+    let drive = layout::drive_of(shape, r);
+    let seat = seat_of(drive, table, block);
     let start = seat.sector * (size + IMAGE_EXTRA);
     let found = part_fault(
         size,
         track_of(seat.replaced, home, spare),
         start,
-        header_for(g, table, block),
+        header_for(drive, table, block),
     );
     if found != 0 {
         return Spot::Refused(found);
@@ -148,7 +148,7 @@ pub fn judge_sized<'a>(
     spare: &'a [u8],
 ) -> Verdict
     requires { ⌜ sectorsMost * (size + imageExtra) < 2 ^ 32 ⌝ }
-    ensures { λ v. ⌜ JudgeSized size shape r (now (table .entry)) block (now (home .entry)) (now (spare .entry)) v ⌝ }
+    ensures { λ result. ⌜ JudgeSized size shape r (now (table .entry)) block (now (home .entry)) (now (spare .entry)) result ⌝ }
 {
     match spot_sized(size, shape, r, table, block, home, spare) {
         Spot::InHome(_) => Verdict::Good,
@@ -168,7 +168,7 @@ pub fn data_sized<'a>(
     spare: &'a [u8],
 ) -> &'a [u8]
     requires { ⌜ sectorsMost * (size + imageExtra) < 2 ^ 32 ⌝ }
-    ensures { λ part. ⌜ DataSized size shape r (now (table .entry)) block (home .entry) (spare .entry) part ⌝ }
+    ensures { λ result. ⌜ DataSized size shape r (now (table .entry)) block (home .entry) (spare .entry) result ⌝ }
 {
     match spot_sized(size, shape, r, table, block, home, spare) {
         Spot::InHome(offset) => &home[offset as usize..offset as usize + size],
@@ -186,7 +186,7 @@ pub fn judge<'a>(
     home: &'a [u8],
     spare: &'a [u8],
 ) -> Verdict
-    ensures { λ v. ⌜ Judge shape r (now (table .entry)) block (now (home .entry)) (now (spare .entry)) v ⌝ }
+    ensures { λ result. ⌜ Judge shape r (now (table .entry)) block (now (home .entry)) (now (spare .entry)) result ⌝ }
 {
     judge_sized(DATA_SIZE, shape, r, table, block, home, spare)
 }
@@ -200,7 +200,7 @@ pub fn data<'a>(
     home: &'a [u8],
     spare: &'a [u8],
 ) -> &'a [u8]
-    ensures { λ part. ⌜ Data shape r (now (table .entry)) block (home .entry) (spare .entry) part ⌝ }
+    ensures { λ result. ⌜ Data shape r (now (table .entry)) block (home .entry) (spare .entry) result ⌝ }
 {
     data_sized(DATA_SIZE, shape, r, table, block, home, spare)
 }
@@ -214,7 +214,7 @@ pub fn spot<'a>(
     home: &'a [u8],
     spare: &'a [u8],
 ) -> Spot
-    ensures { λ s. ⌜ Spots shape r (now (table .entry)) block (now (home .entry)) (now (spare .entry)) s ⌝ }
+    ensures { λ result. ⌜ Spots shape r (now (table .entry)) block (now (home .entry)) (now (spare .entry)) result ⌝ }
 {
     spot_sized(DATA_SIZE, shape, r, table, block, home, spare)
 }

@@ -14,7 +14,7 @@ use Rattle.paper.specs.Checks.{pick}
 use Rattle.paper.proofs.Cases.{byBool}
 use Rattle.seek.specs.Count.{countBelow}
 use Rattle.seek.proofs.Counts.{count-le, count-but-one}
-use Rattle.layout.specs.declared.Layout.{Layout}
+use Rattle.layout.specs.declared.Drive.{Drive}
 use Rattle.layout.specs.Layouts.{Laid}
 use Rattle.layout.specs.Descriptors.{free, atPrimary, elsewhere, unusable, null, codeOf, primary}
 use Rattle.layout.proofs.Sectors.{blocks-few}
@@ -57,42 +57,42 @@ count-set t q w code h =
     ∙ ap (λ (one : ℕ). codeCount t code + one) there)
 
 -- the descriptor of a block, stored at a free place
-module _ {g : Layout} (laid : Laid g) (t : List ℕ) {b : ℕ} (below : b < g .blocks) {q : ℕ} (h : q < length t) (was-free : codeOf (getD t q 0) ≡ free) where
-  stored-code : codeOf (descriptorAt g q b) ≡ codeAt g q b
-  stored-code = code-of-word (codeAt g q b) b (omega (arith, blocks-few laid))
+module _ {drive : Drive} (laid : Laid drive) (t : List ℕ) {b : ℕ} (below : b < drive .blocks) {q : ℕ} (h : q < length t) (was-free : codeOf (getD t q 0) ≡ free) where
+  stored-code : codeOf (descriptorAt drive q b) ≡ codeAt drive q b
+  stored-code = code-of-word (codeAt drive q b) b (omega (arith, blocks-few laid))
 
-  code-set : (code : ℕ) → codeCount (set t q (descriptorAt g q b)) code + pick (eqb free code) 1 0 ≡ codeCount t code + pick (eqb (codeAt g q b) code) 1 0
+  code-set : (code : ℕ) → codeCount (set t q (descriptorAt drive q b)) code + pick (eqb free code) 1 0 ≡ codeCount t code + pick (eqb (codeAt drive q b) code) 1 0
   code-set code =
-      ap (λ (old : ℕ). codeCount (set t q (descriptorAt g q b)) code + pick (eqb old code) 1 0) (sym was-free)
-      ∙ count-set t q (descriptorAt g q b) code h
+      ap (λ (old : ℕ). codeCount (set t q (descriptorAt drive q b)) code + pick (eqb old code) 1 0) (sym was-free)
+      ∙ count-set t q (descriptorAt drive q b) code h
       ∙ ap (λ (new : ℕ). codeCount t code + pick (eqb new code) 1 0) stored-code
 
   -- an allocated descriptor is not free
-  not-free : eqb (codeAt g q b) free ≡ false
-  not-free = byBool (eqb q (primary g b)) (λ e. rw e) (λ e. rw e)
+  not-free : eqb (codeAt drive q b) free ≡ false
+  not-free = byBool (eqb q (primary drive b)) (λ e. rw e) (λ e. rw e)
 
   -- there is one free place less
-  pub free-less : codeCount (set t q (descriptorAt g q b)) free + 1 ≡ codeCount t free
+  pub free-less : codeCount (set t q (descriptorAt drive q b)) free + 1 ≡ codeCount t free
   free-less = omega (arith, rw not-free at (code-set free))
 
   -- one place more has the code of the stored descriptor
-  pub code-more : codeCount (set t q (descriptorAt g q b)) (codeAt g q b) ≡ codeCount t (codeAt g q b) + 1
-  code-more = omega (arith, rw (ne-eqb free (codeAt g q b) (λ e. eqb-false (codeAt g q b) free not-free (sym e)), eq-eqb (codeAt g q b) (codeAt g q b) refl) at (code-set (codeAt g q b)))
+  pub code-more : codeCount (set t q (descriptorAt drive q b)) (codeAt drive q b) ≡ codeCount t (codeAt drive q b) + 1
+  code-more = omega (arith, rw (ne-eqb free (codeAt drive q b) (λ e. eqb-false (codeAt drive q b) free not-free (sym e)), eq-eqb (codeAt drive q b) (codeAt drive q b) refl) at (code-set (codeAt drive q b)))
 
   -- and every other code is counted as it was
   pub others-counted :
-      (code : ℕ) → (code ≡ free → ⊥) → (code ≡ codeAt g q b → ⊥) → codeCount (set t q (descriptorAt g q b)) code ≡ codeCount t code
+      (code : ℕ) → (code ≡ free → ⊥) → (code ≡ codeAt drive q b → ⊥) → codeCount (set t q (descriptorAt drive q b)) code ≡ codeCount t code
   others-counted code used apart =
-      omega (arith, rw (ne-eqb free code (λ e. used (sym e)), ne-eqb (codeAt g q b) code (λ e. apart (sym e))) at (code-set code))
+      omega (arith, rw (ne-eqb free code (λ e. used (sym e)), ne-eqb (codeAt drive q b) code (λ e. apart (sym e))) at (code-set code))
 
 -- the code of a descriptor is one of the five
-five-ways : (g : Layout) (q w : ℕ) → Standing g q w →
+five-ways : (drive : Drive) (q w : ℕ) → Standing drive q w →
     pick (eqb (codeOf w) free) 1 0 + (pick (eqb (codeOf w) atPrimary) 1 0 + (pick (eqb (codeOf w) elsewhere) 1 0 + (pick (eqb (codeOf w) unusable) 1 0 + pick (eqb (codeOf w) null) 1 0))) ≡ 1
-five-ways g q w (is-null h code number) = rw code
-five-ways g q w (is-free h code number) = rw code
-five-ways g q w (is-unusable h code number) = rw code
-five-ways g q w (at-primary h code below same) = rw code
-five-ways g q w (at-other h code below other) = rw code
+five-ways drive q w (is-null h code number) = rw code
+five-ways drive q w (is-free h code number) = rw code
+five-ways drive q w (is-unusable h code number) = rw code
+five-ways drive q w (at-primary h code below same) = rw code
+five-ways drive q w (at-other h code below other) = rw code
 
 -- how many of the places below a bound have one of the five codes
 abbrev fiveBelow : List ℕ → ℕ → ℕ
@@ -112,6 +112,6 @@ five-below t (suc n) ways = omega (arith, five-below t n (λ q h. ways q (omega 
 
 -- every place has one of the five codes
 pub five-counts :
-    {g : Layout} {t : List ℕ} → Obeys g t →
+    {drive : Drive} {t : List ℕ} → Obeys drive t →
     codeCount t free + (codeCount t atPrimary + (codeCount t elsewhere + (codeCount t unusable + codeCount t null))) ≡ length t
-five-counts {g} {t} o = five-below t (length t) (λ q h. five-ways g q (getD t q 0) (tells-standing g q (getD t q 0) .holds (o .stands q h)))
+five-counts {drive} {t} o = five-below t (length t) (λ q h. five-ways drive q (getD t q 0) (tells-standing drive q (getD t q 0) .holds (o .stands q h)))

@@ -12,7 +12,7 @@ use borrow.Author.Tests.{lt-ltb, le-leb, leb-true}
 use Rattle.paper.specs.Limits.{tableBlock}
 use Rattle.paper.proofs.Cases.{byBool, byLt}
 use Rattle.paper.proofs.Rows.{Tells, tells-eq, tells-false}
-use Rattle.layout.specs.declared.Layout.{Layout}
+use Rattle.layout.specs.declared.Drive.{Drive}
 use Rattle.layout.specs.Layouts.{Laid, spareSector}
 use Rattle.layout.specs.Descriptors.{free, elsewhere, codeOf, primary, names}
 use Rattle.layout.proofs.Sectors.{primary-below}
@@ -27,10 +27,10 @@ use Rattle.order.proofs.Found.{found-free, first-bound, none-free}
 use Rattle.replacing.specs.Replacing.{spareFor, NoneFree, descriptorAt, replacedIn, Altered}
 
 -- the code of an allocated descriptor is at most 3
-pub code-few : (g : Layout) (q b : ℕ) → codeAt g q b ≤ elsewhere
-code-few g q b = byBool (eqb q (primary g b)) (λ e. rw e (omega arith)) (λ e. rw e (omega arith))
+pub code-few : (drive : Drive) (q b : ℕ) → codeAt drive q b ≤ elsewhere
+code-few drive q b = byBool (eqb q (primary drive b)) (λ e. rw e (omega arith)) (λ e. rw e (omega arith))
 
-module _ {g : Layout} {t : List ℕ} (o : Obeys g t) where
+module _ {drive : Drive} {t : List ℕ} (o : Obeys drive t) where
   -- a table is whole table blocks
   pub table-whole : length t % tableBlock ≡ 0
   table-whole = rw (o .long) (omega arith)
@@ -41,10 +41,10 @@ module _ {g : Layout} {t : List ℕ} (o : Obeys g t) where
     tells-free =
         record {
           holds = λ e. ap codeOf (tells-eq (getD t q 0) 0 .holds e);
-          told = λ e. tells-eq (getD t q 0) 0 .told (bare e (tells-standing g q (getD t q 0) .holds (o .stands q in-table)));
+          told = λ e. tells-eq (getD t q 0) 0 .told (bare e (tells-standing drive q (getD t q 0) .holds (o .stands q in-table)));
         }
       where
-        bare : codeOf (getD t q 0) ≡ free → Standing g q (getD t q 0) → getD t q 0 ≡ 0
+        bare : codeOf (getD t q 0) ≡ free → Standing drive q (getD t q 0) → getD t q 0 ≡ 0
         bare e (is-null h code number) = absurd (omega arith)
         bare e (is-free h code number) = sym (word-of-parts (getD t q 0)) ∙ rw (code, number)
         bare e (is-unusable h code number) = absurd (omega arith)
@@ -52,80 +52,80 @@ module _ {g : Layout} {t : List ℕ} (o : Obeys g t) where
         bare e (at-other h code below other) = absurd (omega arith)
 
     -- a free place is a spare's
-    pub free-spare : codeOf (getD t q 0) ≡ free → q < g .spares
-    free-spare e = before (tells-standing g q (getD t q 0) .holds (o .stands q in-table))
+    pub free-spare : codeOf (getD t q 0) ≡ free → q < drive .spares
+    free-spare e = before (tells-standing drive q (getD t q 0) .holds (o .stands q in-table))
       where
-        before : Standing g q (getD t q 0) → q < g .spares
+        before : Standing drive q (getD t q 0) → q < drive .spares
         before (is-null h code number) = absurd (omega arith)
         before (is-free h code number) = h
         before (is-unusable h code number) = h
         before (at-primary h code below same) = h
         before (at-other h code below other) = h
 
-module _ {g : Layout} (laid : Laid g) {t : List ℕ} (o : Obeys g t) {b : ℕ} (below : b < g .blocks) where
+module _ {drive : Drive} (laid : Laid drive) {t : List ℕ} (o : Obeys drive t) {b : ℕ} (below : b < drive .blocks) where
   -- the primary of a block is a place of the table
-  pub primary-in : primary g b < length t
+  pub primary-in : primary drive b < length t
   primary-in = spare-in o (primary-below laid below)
 
-  pub spare-bound : spareFor g t b ≤ length t
-  spare-bound = first-bound t (primary g b) (table-whole o) primary-in
+  pub spare-bound : spareFor drive t b ≤ length t
+  spare-bound = first-bound t (primary drive b) (table-whole o) primary-in
 
   -- the spare that is found is free
-  pub spare-free : spareFor g t b < length t → codeOf (getD t (spareFor g t b) 0) ≡ free
-  spare-free h = tells-free o h .holds (found-free t (primary g b) h)
+  pub spare-free : spareFor drive t b < length t → codeOf (getD t (spareFor drive t b) 0) ≡ free
+  spare-free h = tells-free o h .holds (found-free t (primary drive b) h)
 
   -- no spare is found exactly where no place is free
-  pub tells-none-free : Tells (leb (length t) (spareFor g t b)) (NoneFree t)
+  pub tells-none-free : Tells (leb (length t) (spareFor drive t b)) (NoneFree t)
   tells-none-free =
       record {
         holds = λ e q h.
-            let none : spareFor g t b ≡ length t = omega (arith, spare-bound, leb-true (length t) (spareFor g t b) e) in
-            tells-false (tells-free o h) (none-free t (primary g b) (table-whole o) primary-in none q h);
-        told = λ none. byLt (spareFor g t b) (length t) (λ h. absurd (none (spareFor g t b) h (spare-free h))) (le-leb (length t) (spareFor g t b));
+            let none : spareFor drive t b ≡ length t = omega (arith, spare-bound, leb-true (length t) (spareFor drive t b) e) in
+            tells-false (tells-free o h) (none-free t (primary drive b) (table-whole o) primary-in none q h);
+        told = λ none. byLt (spareFor drive t b) (length t) (λ h. absurd (none (spareFor drive t b) h (spare-free h))) (le-leb (length t) (spareFor drive t b));
       }
 
 -- the descriptor of a block, stored at a free place
-module _ {g : Layout} (laid : Laid g) {t : List ℕ} (o : Obeys g t) {b : ℕ} (below : b < g .blocks) {q : ℕ} (h : q < length t) (was-free : codeOf (getD t q 0) ≡ free) where
+module _ {drive : Drive} (laid : Laid drive) {t : List ℕ} (o : Obeys drive t) {b : ℕ} (below : b < drive .blocks) {q : ℕ} (h : q < length t) (was-free : codeOf (getD t q 0) ≡ free) where
   -- a free descriptor names no block
   pub free-names-none : (a : ℕ) → names (getD t q 0) a ≡ false
   free-names-none a = rw was-free
 
   -- the stored one names no other block
-  pub other-unnamed : (a : ℕ) → (a ≡ b → ⊥) → names (descriptorAt g q b) a ≡ false
-  other-unnamed a apart = byBool (names (descriptorAt g q b) a) (λ e. absurd (apart (sym (tells-block laid q b below a .holds e)))) (λ e. e)
+  pub other-unnamed : (a : ℕ) → (a ≡ b → ⊥) → names (descriptorAt drive q b) a ≡ false
+  other-unnamed a apart = byBool (names (descriptorAt drive q b) a) (λ e. absurd (apart (sym (tells-block laid q b below a .holds e)))) (λ e. e)
 
-  pub stored-named : names (getD (set t q (descriptorAt g q b)) q 0) b ≡ true
-  stored-named = rw (getD-set-same t q (descriptorAt g q b) 0 h) (tells-block laid q b below b .told refl)
+  pub stored-named : names (getD (set t q (descriptorAt drive q b)) q 0) b ≡ true
+  stored-named = rw (getD-set-same t q (descriptorAt drive q b) 0 h) (tells-block laid q b below b .told refl)
 
   -- every other block has the place that it had, and lies where it lay
-  pub others-place : (a : ℕ) → (a ≡ b → ⊥) → placeOf (set t q (descriptorAt g q b)) a ≡ placeOf t a
-  others-place a apart = place-kept t q (descriptorAt g q b) a h (free-names-none a) (other-unnamed a apart)
+  pub others-place : (a : ℕ) → (a ≡ b → ⊥) → placeOf (set t q (descriptorAt drive q b)) a ≡ placeOf t a
+  others-place a apart = place-kept t q (descriptorAt drive q b) a h (free-names-none a) (other-unnamed a apart)
 
-  pub others-lie : (a : ℕ) → (a ≡ b → ⊥) → liesOn g (set t q (descriptorAt g q b)) a ≡ liesOn g t a
-  others-lie a apart = lies-kept t q (descriptorAt g q b) a h (free-names-none a) (other-unnamed a apart) g
+  pub others-lie : (a : ℕ) → (a ≡ b → ⊥) → liesOn drive (set t q (descriptorAt drive q b)) a ≡ liesOn drive t a
+  others-lie a apart = lies-kept t q (descriptorAt drive q b) a h (free-names-none a) (other-unnamed a apart) drive
 
   module _ (not-replaced : Replaced t b → ⊥) where
-    pub stored-obeys : Obeys g (set t q (descriptorAt g q b))
+    pub stored-obeys : Obeys drive (set t q (descriptorAt drive q b))
     stored-obeys =
-        store-keeps o q (descriptorAt g q b) h (block-stands laid q b below (free-spare o h was-free))
+        store-keeps o q (descriptorAt drive q b) h (block-stands laid q b below (free-spare o h was-free))
         (λ p a in-table apart stored there.
         let same : b ≡ a = tells-block laid q b below a .holds stored in
         not-replaced (record { place = p; in-table = in-table; named = tells-names (getD t p 0) b .holds (rw (sym same) at there) }))
 
-    pub stored-place : placeOf (set t q (descriptorAt g q b)) b ≡ q
-    stored-place = place-once stored-obeys q b (rw (length-set t q (descriptorAt g q b)) h) stored-named
+    pub stored-place : placeOf (set t q (descriptorAt drive q b)) b ≡ q
+    stored-place = place-once stored-obeys q b (rw (length-set t q (descriptorAt drive q b)) h) stored-named
 
-    pub stored-lies : liesOn g (set t q (descriptorAt g q b)) b ≡ spareSector g q
-    stored-lies = rw (stored-place, length-set t q (descriptorAt g q b), lt-ltb q (length t) h)
+    pub stored-lies : liesOn drive (set t q (descriptorAt drive q b)) b ≡ spareSector drive q
+    stored-lies = rw (stored-place, length-set t q (descriptorAt drive q b), lt-ltb q (length t) h)
 
-    pub stored-alters : Altered g t b q (set t q (descriptorAt g q b))
+    pub stored-alters : Altered drive t b q (set t q (descriptorAt drive q b))
     stored-alters =
         record {
           in-table = h;
           was-free = was-free;
-          same-length = length-set t q (descriptorAt g q b);
-          names-block = tells-names (getD (set t q (descriptorAt g q b)) q 0) b .holds stored-named;
-          others-stand = λ p apart. getD-set-other t q p (descriptorAt g q b) 0 apart;
+          same-length = length-set t q (descriptorAt drive q b);
+          names-block = tells-names (getD (set t q (descriptorAt drive q b)) q 0) b .holds stored-named;
+          others-stand = λ p apart. getD-set-other t q p (descriptorAt drive q b) 0 apart;
           obeys = stored-obeys;
           lies = stored-lies;
           others-lie = others-lie;
@@ -133,6 +133,6 @@ module _ {g : Layout} (laid : Laid g) {t : List ℕ} (o : Obeys g t) {b : ℕ} (
 
 -- a replacement for which there is a spare
 pub replacement-alters :
-    {g : Layout} {t : List ℕ} {b : ℕ} → Laid g → Obeys g t → b < g .blocks → (Replaced t b → ⊥) → spareFor g t b < length t →
-    Altered g t b (spareFor g t b) (replacedIn g t b)
+    {drive : Drive} {t : List ℕ} {b : ℕ} → Laid drive → Obeys drive t → b < drive .blocks → (Replaced t b → ⊥) → spareFor drive t b < length t →
+    Altered drive t b (spareFor drive t b) (replacedIn drive t b)
 replacement-alters laid o below not-replaced found = stored-alters laid o below found (spare-free laid o below found) not-replaced

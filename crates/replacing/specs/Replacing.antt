@@ -5,34 +5,34 @@ use mathlib.Core.List.{List}
 use lib.ListN.{length, getD, set}
 use Rattle.layout.specs.Layouts.{spareSector}
 use Rattle.layout.specs.Descriptors.{free, wordOf, codeOf, primary, Names}
-use Rattle.layout.specs.declared.Layout.{Layout}
+use Rattle.layout.specs.declared.Drive.{Drive}
 use Rattle.table.specs.Rules.{codeAt, Obeys}
 use Rattle.table.specs.Lookup.{liesOn}
 use Rattle.order.specs.Order.{firstFree}
 
 -- the spare that a block is given: the first free place in its search order, or the table's length where none is free
-abbrev pub spareFor : Layout → List ℕ → ℕ → ℕ
-spareFor g t b = firstFree t (primary g b)
+abbrev pub spareFor : Drive → List ℕ → ℕ → ℕ
+spareFor drive t b = firstFree t (primary drive b)
 
 -- no place of the table is free
 abbrev pub NoneFree : List ℕ → Type 0
 NoneFree t = (q : ℕ) → q < length t → codeOf (getD t q 0) ≡ free → ⊥
 
 -- the descriptor of a block at a place
-abbrev pub descriptorAt : Layout → ℕ → ℕ → ℕ
-descriptorAt g q b = wordOf (codeAt g q b) b
+abbrev pub descriptorAt : Drive → ℕ → ℕ → ℕ
+descriptorAt drive q b = wordOf (codeAt drive q b) b
 
 -- the table after a replacement: one descriptor altered
-abbrev pub replacedIn : Layout → List ℕ → ℕ → List ℕ
-replacedIn g t b = set t (spareFor g t b) (descriptorAt g (spareFor g t b) b)
+abbrev pub replacedIn : Drive → List ℕ → ℕ → List ℕ
+replacedIn drive t b = set t (spareFor drive t b) (descriptorAt drive (spareFor drive t b) b)
 
 -- what a replacement does to a table that obeys its rules: one descriptor is altered, which was free, the block lies on its spare, and every other block lies where it lay
-pub record Altered (g : Layout) (before : List ℕ) (b q : ℕ) (after : List ℕ) : Type 0 where
+pub record Altered (drive : Drive) (before : List ℕ) (b q : ℕ) (after : List ℕ) : Type 0 where
   pub in-table : q < length before
   pub was-free : codeOf (getD before q 0) ≡ free
   pub same-length : length after ≡ length before
   pub names-block : Names (getD after q 0) b
   pub others-stand : (p : ℕ) → (p ≡ q → ⊥) → getD after p 0 ≡ getD before p 0
-  pub obeys : Obeys g after
-  pub lies : liesOn g after b ≡ spareSector g q
-  pub others-lie : (a : ℕ) → (a ≡ b → ⊥) → liesOn g after a ≡ liesOn g before a
+  pub obeys : Obeys drive after
+  pub lies : liesOn drive after b ≡ spareSector drive q
+  pub others-lie : (a : ℕ) → (a ≡ b → ⊥) → liesOn drive after a ≡ liesOn drive before a

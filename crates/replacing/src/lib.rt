@@ -9,9 +9,9 @@ ghost use Rattle.replacing.specs.Replacing.{spareFor, descriptorAt, repl
 ghost use Rattle.replacing.specs.Counting.{Countable, counted, censusOf};
 use layout::AT_PRIMARY;
 use layout::CODE_UNIT;
+use layout::Drive;
 use layout::ELSEWHERE;
 use layout::FREE;
-use layout::Layout;
 use layout::NULL;
 use layout::UNUSABLE;
 
@@ -25,52 +25,52 @@ pub struct Census {
 }
 
 // The spare that a block is given, or the table's length where no place is free. Only other crates call this.
-pub fn spare_for(g: Layout, table: &[u32], block: u32) -> usize
-    requires { ⌜ Laid g ⌝ }
-    requires { ⌜ Obeys g (now table) ⌝ }
-    requires { ⌜ block < g .blocks ⌝ }
-    ensures { λ r. ⌜ r ≡ spareFor g (now (table .entry)) block ⌝ }
+pub fn spare_for(drive: Drive, table: &[u32], block: u32) -> usize
+    requires { ⌜ Laid drive ⌝ }
+    requires { ⌜ Obeys drive (now table) ⌝ }
+    requires { ⌜ block < drive .blocks ⌝ }
+    ensures { λ result. ⌜ result ≡ spareFor drive (now (table .entry)) block ⌝ }
 {
-    order::search(table, layout::primary(g, block) as usize)
+    order::search(table, layout::primary(drive, block) as usize)
 }
 
 // The descriptor of a block at a place.
-fn descriptor(g: Layout, place: usize, block: u32) -> u32
-    requires { ⌜ Laid g ⌝ }
-    requires { ⌜ block < g .blocks ⌝ }
-    ensures { λ r. ⌜ r ≡ descriptorAt g place block ⌝ }
+fn descriptor(drive: Drive, place: usize, block: u32) -> u32
+    requires { ⌜ Laid drive ⌝ }
+    requires { ⌜ block < drive .blocks ⌝ }
+    ensures { λ result. ⌜ result ≡ descriptorAt drive place block ⌝ }
 {
-    table::code_at(g, place, block) * CODE_UNIT + block
+    table::code_at(drive, place, block) * CODE_UNIT + block
 }
 
 // Writes the descriptor of a block at a place. Only other crates call this.
-pub fn store(g: Layout, table: &mut [u32], block: u32, place: usize)
-    requires { ⌜ Laid g ⌝ }
-    requires { ⌜ block < g .blocks ⌝ }
+pub fn store(drive: Drive, table: &mut [u32], block: u32, place: usize)
+    requires { ⌜ Laid drive ⌝ }
+    requires { ⌜ block < drive .blocks ⌝ }
     requires { ⌜ place < length (now table) ⌝ }
-    ensures { λ r. ⌜ now (table .exit) ≡ set (now (table .entry)) place (descriptorAt g place block) ⌝ }
+    ensures { λ result. ⌜ now (table .exit) ≡ set (now (table .entry)) place (descriptorAt drive place block) ⌝ }
 {
-    table[place] = descriptor(g, place, block);
+    table[place] = descriptor(drive, place, block);
 }
 
 // Replaces a block for which there is a spare, and answers its place. Only other crates call this.
-pub fn replace_in(g: Layout, table: &mut [u32], block: u32) -> u32
-    requires { ⌜ Laid g ⌝ }
-    requires { ⌜ Obeys g (now table) ⌝ }
-    requires { ⌜ block < g .blocks ⌝ }
-    requires { ⌜ spareFor g (now table) block < length (now table) ⌝ }
-    ensures { λ r. ⌜ r ≡ spareFor g (now (table .entry)) block ⌝ }
-    ensures { λ r. ⌜ now (table .exit) ≡ replacedIn g (now (table .entry)) block ⌝ }
+pub fn replace_in(drive: Drive, table: &mut [u32], block: u32) -> u32
+    requires { ⌜ Laid drive ⌝ }
+    requires { ⌜ Obeys drive (now table) ⌝ }
+    requires { ⌜ block < drive .blocks ⌝ }
+    requires { ⌜ spareFor drive (now table) block < length (now table) ⌝ }
+    ensures { λ result. ⌜ result ≡ spareFor drive (now (table .entry)) block ⌝ }
+    ensures { λ result. ⌜ now (table .exit) ≡ replacedIn drive (now (table .entry)) block ⌝ }
 {
-    let place = spare_for(g, table, block);
-    store(g, table, block, place);
+    let place = spare_for(drive, table, block);
+    store(drive, table, block, place);
     place as u32
 }
 
 // What a descriptor adds to a count.
 fn one_if(test: bool) -> u32
-    ensures { λ r. ⌜ r ≡ pick test 1 0 ⌝ }
-    ensures { λ r. ⌜ r ≤ 1 ⌝ }
+    ensures { λ result. ⌜ result ≡ pick test 1 0 ⌝ }
+    ensures { λ result. ⌜ result ≤ 1 ⌝ }
 {
     if test {
         return 1;
@@ -81,7 +81,7 @@ fn one_if(test: bool) -> u32
 // The census with one more descriptor that has this code.
 fn count_code(census: Census, code: u32) -> Census
     requires { ⌜ Countable census ⌝ }
-    ensures { λ r. ⌜ r ≡ counted census code ⌝ }
+    ensures { λ result. ⌜ result ≡ counted census code ⌝ }
 {
     Census {
         free: census.free + one_if(code == FREE),
@@ -95,7 +95,7 @@ fn count_code(census: Census, code: u32) -> Census
 // How often each code stands in a table. Only other crates call this.
 pub fn census_of(table: &[u32]) -> Census
     requires { ⌜ length (now table) < 2 ^ 32 ⌝ }
-    ensures { λ r. ⌜ r ≡ censusOf (now (table .entry)) ⌝ }
+    ensures { λ result. ⌜ result ≡ censusOf (now (table .entry)) ⌝ }
 {
     let mut census = Census {
         free: 0,

@@ -7,7 +7,7 @@ use native.Mathlib.Omega.{arith}
 use Rattle.paper.specs.Checks.{pick}
 use Rattle.paper.proofs.Cases.{byBool, byEq, byFault}
 use Rattle.paper.proofs.Chain.{orElse-some, orElse-none, orElse-first, orElse-next}
-use Rattle.seek.specs.First.{firstBelow, firstFault}
+use Rattle.seek.specs.First.{firstBelow, faultBelow}
 
 -- the only number below n that passes with none before it
 pub first-is :
@@ -59,48 +59,48 @@ first-alike first second (suc n) alike =
 
 module _ (fault : ℕ → ℕ) where
   -- no fault below n
-  pub fault-none : (n : ℕ) → ((k : ℕ) → k < n → fault k ≡ 0) → firstFault fault n ≡ 0
-  unfolding firstFault
+  pub fault-none : (n : ℕ) → ((k : ℕ) → k < n → fault k ≡ 0) → faultBelow fault n ≡ 0
+  unfolding faultBelow
   fault-none zero none = refl
   fault-none (suc n) none = rw (fault-none n (λ k l. none k (omega arith))) (none n (omega arith))
 
-  pub fault-clean : (n : ℕ) → firstFault fault n ≡ 0 → (k : ℕ) → k < n → fault k ≡ 0
-  unfolding firstFault
+  pub fault-clean : (n : ℕ) → faultBelow fault n ≡ 0 → (k : ℕ) → k < n → fault k ≡ 0
+  unfolding faultBelow
   fault-clean zero e k h = absurd (omega arith)
   fault-clean (suc n) e k h =
       byEq k n
-      (λ same. ap fault same ∙ orElse-next (firstFault fault n) (fault n) e)
-      (λ other. fault-clean n (orElse-first (firstFault fault n) (fault n) e) k (omega arith))
+      (λ same. ap fault same ∙ orElse-next (faultBelow fault n) (fault n) e)
+      (λ other. fault-clean n (orElse-first (faultBelow fault n) (fault n) e) k (omega arith))
 
   -- the fault of the lowest place at fault
-  pub fault-at : (n s : ℕ) → s < n → (fault s ≡ 0 → ⊥) → ((k : ℕ) → k < s → fault k ≡ 0) → firstFault fault n ≡ fault s
-  unfolding firstFault
+  pub fault-at : (n s : ℕ) → s < n → (fault s ≡ 0 → ⊥) → ((k : ℕ) → k < s → fault k ≡ 0) → faultBelow fault n ≡ fault s
+  unfolding faultBelow
   fault-at zero s h some before = absurd (omega arith)
   fault-at (suc n) s h some before =
       byEq s n
-      (λ same. rw (orElse-none (firstFault fault n) (fault n) (fault-none n (λ k l. before k (omega arith)))) (ap fault (sym same)))
+      (λ same. rw (orElse-none (faultBelow fault n) (fault n) (fault-none n (λ k l. before k (omega arith)))) (ap fault (sym same)))
       (λ other.
-      let e : firstFault fault n ≡ fault s = fault-at n s (omega arith) some before in
-      orElse-some (firstFault fault n) (fault n) (λ none. some (sym e ∙ none)) ∙ e)
+      let e : faultBelow fault n ≡ fault s = fault-at n s (omega arith) some before in
+      orElse-some (faultBelow fault n) (fault n) (λ none. some (sym e ∙ none)) ∙ e)
 
   -- where there is a fault, there is a lowest place at fault
   pub record Lowest (n : ℕ) : Type 0 where
     pub place : ℕ
     pub below : place < n
     pub before : (k : ℕ) → k < place → fault k ≡ 0
-    pub here : firstFault fault n ≡ fault place
+    pub here : faultBelow fault n ≡ fault place
 
-  pub fault-found : (n : ℕ) → (firstFault fault n ≡ 0 → ⊥) → Lowest n
-  unfolding firstFault
+  pub fault-found : (n : ℕ) → (faultBelow fault n ≡ 0 → ⊥) → Lowest n
+  unfolding faultBelow
   fault-found zero some = absurd (some refl)
   fault-found (suc n) some =
-      byFault (firstFault fault n)
+      byFault (faultBelow fault n)
       (λ none.
       record {
         place = n;
         below = omega arith;
         before = fault-clean n none;
-        here = orElse-none (firstFault fault n) (fault n) none;
+        here = orElse-none (faultBelow fault n) (fault n) none;
       })
       (λ found.
       let l : Lowest n = fault-found n found in
@@ -108,5 +108,5 @@ module _ (fault : ℕ → ℕ) where
         place = l .place;
         below = omega (arith, l .below);
         before = l .before;
-        here = orElse-some (firstFault fault n) (fault n) found ∙ l .here;
+        here = orElse-some (faultBelow fault n) (fault n) found ∙ l .here;
       })

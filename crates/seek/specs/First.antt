@@ -9,6 +9,6 @@ firstBelow passes zero = 0
 firstBelow passes (suc n) = pick (passes 0) 0 (suc (firstBelow (λ k. passes (suc k)) n))
 
 -- the fault of the lowest number that has one, or 0 where none has
-unfoldable pub firstFault : (ℕ → ℕ) → ℕ → ℕ
-firstFault fault zero = 0
-firstFault fault (suc n) = firstFault fault n orElse fault n
+unfoldable pub faultBelow : (ℕ → ℕ) → ℕ → ℕ
+faultBelow fault zero = 0
+faultBelow fault (suc n) = faultBelow fault n orElse fault n

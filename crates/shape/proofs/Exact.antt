@@ -9,7 +9,7 @@ use Rattle.paper.specs.Exactly.{Exactly, When}
 use Rattle.paper.proofs.Rows.{Tells, tells-lt, tells-le, tells-not, tells-both, tells-within, passed-shows, row, rows}
 use Rattle.shape.specs.declared.Shape.{Shape}
 use Rattle.shape.specs.Shapes.{Shaped, shaped, sizeOf, shapeFault, ShapeJudged}
-use Rattle.shape.specs.Addresses.{OnDrive, onDrive, placeFault, addressFault, sectorFault, PlaceJudged, SectorOfJudged, AddressOfJudged}
+use Rattle.shape.specs.Addresses.{OnDrive, onDrive, offDriveFault, sectorOfFault, addressOfFault, OffDriveJudged, SectorOfJudged, AddressOfJudged}
 
 module _ (shape : Shape) where
   pub tells-shaped : Tells (shaped shape) (Shaped shape)
@@ -39,15 +39,15 @@ module _ (shape : Shape) where
         bounds : Tells (onDrive shape cylinder head sector) ((cylinder < shape .cylinders) × ((head < shape .heads) × (sector < shape .sectors)))
         bounds = tells-both (tells-lt cylinder (shape .cylinders)) (tells-both (tells-lt head (shape .heads)) (tells-lt sector (shape .sectors)))
 
-    pub place-shows : placeFault shape cylinder head sector ≡ 0 → OnDrive shape cylinder head sector
+    pub place-shows : offDriveFault shape cylinder head sector ≡ 0 → OnDrive shape cylinder head sector
     place-shows = passed-shows tells-on-drive noSuchSector (omega arith)
 
-    pub place-exactly : Exactly (PlaceJudged shape cylinder head sector) (placeFault shape cylinder head sector)
+    pub place-exactly : Exactly (OffDriveJudged shape cylinder head sector) (offDriveFault shape cylinder head sector)
     place-exactly = row (tells-not tells-on-drive) noSuchSector
 
-    pub sector-of-exactly : Exactly (SectorOfJudged shape cylinder head sector) (addressFault shape cylinder head sector)
-    sector-of-exactly = rows (ShapeJudged shape) (PlaceJudged shape cylinder head sector) shape-exactly place-exactly
+    pub sector-of-exactly : Exactly (SectorOfJudged shape cylinder head sector) (sectorOfFault shape cylinder head sector)
+    sector-of-exactly = rows (ShapeJudged shape) (OffDriveJudged shape cylinder head sector) shape-exactly place-exactly
 
-  pub address-of-exactly : (sector : ℕ) → Exactly (AddressOfJudged shape sector) (sectorFault shape sector)
+  pub address-of-exactly : (sector : ℕ) → Exactly (AddressOfJudged shape sector) (addressOfFault shape sector)
   address-of-exactly sector =
       rows (ShapeJudged shape) (When noSuchSector (sizeOf shape ≤ sector)) shape-exactly (row (tells-le (sizeOf shape) sector) noSuchSector)

@@ -1,4 +1,3 @@
 pub mod Bounds
 pub mod Inverse
 pub mod Exact
-pub mod Says

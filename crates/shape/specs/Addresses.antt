@@ -1,10 +1,11 @@
 -- Document 01, "Numbers": the sector number of cylinder, head and sector, and back.
-use Prim.Native.Nat.{ℕ, _+_, _*_, _/_, _%_, _<_, _≤_}
+use Prim.Native.Nat.{ℕ, _+_, _*_, _/_, _%_, _<_}
 use mathlib.Core.Bool.{Bool, not, _&&_}
 use lib.Dec.{ltb, leb}
 use Rattle.paper.specs.Checks.{refuse, _orElse_}
 use Rattle.paper.specs.Refusals.{noSuchSector}
 use Rattle.paper.specs.Exactly.{When, _andThen_}
+use Rattle.paper.specs.Conditions.{NotBelow}
 use Rattle.shape.specs.declared.Shape.{Shape}
 use Rattle.shape.specs.declared.Address.{Address}
 use Rattle.shape.specs.Shapes.{sizeOf, shapeFault, ShapeJudged}
@@ -31,25 +32,25 @@ pub record OnDrive (shape : Shape) (cylinder head sector : ℕ) : Type 0 where
 abbrev pub onDrive : Shape → ℕ → ℕ → ℕ → Bool
 onDrive shape cylinder head sector = ltb cylinder (shape .cylinders) && (ltb head (shape .heads) && ltb sector (shape .sectors))
 
-abbrev pub placeFault : Shape → ℕ → ℕ → ℕ → ℕ
-placeFault shape cylinder head sector = refuse (not (onDrive shape cylinder head sector)) noSuchSector
+abbrev pub offDriveFault : Shape → ℕ → ℕ → ℕ → ℕ
+offDriveFault shape cylinder head sector = refuse (not (onDrive shape cylinder head sector)) noSuchSector
 
 -- checks 1, 6 for cylinder, head and sector
-abbrev pub addressFault : Shape → ℕ → ℕ → ℕ → ℕ
-addressFault shape cylinder head sector = shapeFault shape orElse placeFault shape cylinder head sector
+abbrev pub sectorOfFault : Shape → ℕ → ℕ → ℕ → ℕ
+sectorOfFault shape cylinder head sector = shapeFault shape orElse offDriveFault shape cylinder head sector
 
 -- checks 1, 6 for a sector number
-abbrev pub sectorFault : Shape → ℕ → ℕ
-sectorFault shape sector = shapeFault shape orElse refuse (leb (sizeOf shape) sector) noSuchSector
+abbrev pub addressOfFault : Shape → ℕ → ℕ
+addressOfFault shape sector = shapeFault shape orElse refuse (leb (sizeOf shape) sector) noSuchSector
 
 -- exactly when 6 is given for cylinder, head and sector
-abbrev pub PlaceJudged : Shape → ℕ → ℕ → ℕ → ℕ → Type 0
-PlaceJudged shape cylinder head sector = When noSuchSector (OnDrive shape cylinder head sector → ⊥)
+abbrev pub OffDriveJudged : Shape → ℕ → ℕ → ℕ → ℕ → Type 0
+OffDriveJudged shape cylinder head sector = When noSuchSector (OnDrive shape cylinder head sector → ⊥)
 
 -- exactly when `shape::sector_of` gives each number
 abbrev pub SectorOfJudged : Shape → ℕ → ℕ → ℕ → ℕ → Type 0
-SectorOfJudged shape cylinder head sector = ShapeJudged shape andThen PlaceJudged shape cylinder head sector
+SectorOfJudged shape cylinder head sector = ShapeJudged shape andThen OffDriveJudged shape cylinder head sector
 
 -- exactly when `shape::address_of` gives each number
 abbrev pub AddressOfJudged : Shape → ℕ → ℕ → Type 0
-AddressOfJudged shape sector = ShapeJudged shape andThen When noSuchSector (sizeOf shape ≤ sector)
+AddressOfJudged shape sector = ShapeJudged shape andThen When noSuchSector (NotBelow (sizeOf shape) sector)

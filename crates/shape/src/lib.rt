@@ -1,7 +1,7 @@
 // The shape of a drive: its check, and sector number ↔ cylinder, head, sector.
 ghost use mathlib.Core.Path.{_≡_};
 ghost use Rattle.shape.specs.Shapes.{Shaped, sizeOf, shapeFault};
-ghost use Rattle.shape.specs.Addresses.{OnDrive, sectorAt, addressAt, placeFault};
+ghost use Rattle.shape.specs.Addresses.{OnDrive, sectorAt, addressAt, offDriveFault};
 ghost use Rattle.shape.specs.Promises.{SectorOf, AddressOf};
 use paper::CYLINDERS_MOST;
 use paper::HEADS_MOST;
@@ -33,7 +33,7 @@ pub enum Located {
 
 // Refusal 1 for a shape number outside its range, else 0. Only other crates call this.
 pub fn shape_fault(shape: Shape) -> u32
-    ensures { λ r. ⌜ r ≡ shapeFault shape ⌝ }
+    ensures { λ result. ⌜ result ≡ shapeFault shape ⌝ }
 {
     if !paper::within(1, CYLINDERS_MOST, shape.cylinders) {
         return OUT_OF_RANGE;
@@ -50,7 +50,7 @@ pub fn shape_fault(shape: Shape) -> u32
 // N, the sectors of a drive. Only other crates call this.
 pub fn size_of(shape: Shape) -> u32
     requires { ⌜ Shaped shape ⌝ }
-    ensures { λ r. ⌜ r ≡ sizeOf shape ⌝ }
+    ensures { λ result. ⌜ result ≡ sizeOf shape ⌝ }
 {
     shape.cylinders * shape.heads * shape.sectors
 }
@@ -59,7 +59,7 @@ pub fn size_of(shape: Shape) -> u32
 pub fn sector_at(shape: Shape, cylinder: u32, head: u32, sector: u32) -> u32
     requires { ⌜ Shaped shape ⌝ }
     requires { ⌜ OnDrive shape cylinder head sector ⌝ }
-    ensures { λ r. ⌜ r ≡ sectorAt shape cylinder head sector ⌝ }
+    ensures { λ result. ⌜ result ≡ sectorAt shape cylinder head sector ⌝ }
 {
     (cylinder * shape.heads + head) * shape.sectors + sector
 }
@@ -67,7 +67,7 @@ pub fn sector_at(shape: Shape, cylinder: u32, head: u32, sector: u32) -> u32
 // The address of a sector number: every address that a call answers is made here. Only other crates call this.
 pub fn address_at(shape: Shape, sector: u32) -> Address
     requires { ⌜ Shaped shape ⌝ }
-    ensures { λ r. ⌜ r ≡ addressAt shape sector ⌝ }
+    ensures { λ result. ⌜ result ≡ addressAt shape sector ⌝ }
 {
     let track = sector / shape.sectors;
     Address {
@@ -78,8 +78,8 @@ pub fn address_at(shape: Shape, sector: u32) -> Address
 }
 
 // Refusal 6 for a cylinder, head or sector that is not below its bound, else 0. Only other crates call this.
-pub fn place_fault(shape: Shape, cylinder: u32, head: u32, sector: u32) -> u32
-    ensures { λ r. ⌜ r ≡ placeFault shape cylinder head sector ⌝ }
+pub fn off_drive_fault(shape: Shape, cylinder: u32, head: u32, sector: u32) -> u32
+    ensures { λ result. ⌜ result ≡ offDriveFault shape cylinder head sector ⌝ }
 {
     if shape.cylinders <= cylinder {
         return NO_SUCH_SECTOR;
@@ -95,13 +95,13 @@ pub fn place_fault(shape: Shape, cylinder: u32, head: u32, sector: u32) -> u32
 
 // Cylinder, head and sector to sector number. Checks 1, 6.
 pub fn sector_of(shape: Shape, cylinder: u32, head: u32, sector: u32) -> Placed
-    ensures { λ r. ⌜ SectorOf shape cylinder head sector r ⌝ }
+    ensures { λ result. ⌜ SectorOf shape cylinder head sector result ⌝ }
 {
     let fault = shape_fault(shape);
     if fault != 0 {
         return Placed::Refused(fault);
     }
-    let fault = place_fault(shape, cylinder, head, sector);
+    let fault = off_drive_fault(shape, cylinder, head, sector);
     if fault != 0 {
         return Placed::Refused(fault);
     }
@@ -110,7 +110,7 @@ pub fn sector_of(shape: Shape, cylinder: u32, head: u32, sector: u32) -> Placed
 
 // Sector number to cylinder, head and sector. Checks 1, 6.
 pub fn address_of(shape: Shape, sector: u32) -> Located
-    ensures { λ r. ⌜ AddressOf shape sector r ⌝ }
+    ensures { λ result. ⌜ AddressOf shape sector result ⌝ }
 {
     let fault = shape_fault(shape);
     if fault != 0 {

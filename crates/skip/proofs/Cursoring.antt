@@ -6,7 +6,7 @@ use mathlib.Core.Bool.{not}
 use mathlib.Core.List.{List}
 use native.Mathlib.Omega.{arith}
 use lib.Dec.{leb}
-use Rattle.paper.specs.Checks.{refuse, answer, given}
+use Rattle.paper.specs.Checks.{refuse, answer}
 use Rattle.paper.specs.Refusals.{noSuchBlock, strayCursor}
 use Rattle.paper.proofs.Chain.{orElse-first, orElse-next, answer-refused, answer-accepted}
 use Rattle.paper.proofs.Rows.{Tells, tells-le, tells-eq, tells-both, passed-shows, below-shows}
@@ -14,13 +14,13 @@ use Rattle.lists.specs.Proper.{Proper, spaceFault}
 use Rattle.lists.specs.Union.{isIn}
 use Rattle.lists.proofs.Exact.{space-list, space-size}
 use Rattle.paper.specs.Limits.{unitsMost}
-use Rattle.paper.specs.declared.Placed.the-variants.{At as PlacedAt}
+use Rattle.paper.specs.declared.Placed.the-variants.{At as PlacedAt, Refused as NotPlaced}
 use Rattle.skip.specs.Skipping.{place}
 use Rattle.skip.specs.Walk.{passes}
-use Rattle.skip.specs.Translation.{blocks, blockFault, translated}
-use Rattle.skip.specs.Cursors.{skippedBefore, cursorAt, noCursor, Belongs, belongs, cursorFault, stepFault, started, stepped}
-use Rattle.skip.specs.Promises.{saidJob}
+use Rattle.skip.specs.Translation.{blocks, sectorOfFault}
+use Rattle.skip.specs.Cursors.{skippedBefore, cursorAt, noCursor, Belongs, belongs, checkFault, stepFault}
 use Rattle.skip.specs.declared.Cursor.{Cursor}
+use Rattle.skip.specs.declared.Job.{Job}
 use Rattle.skip.specs.declared.Job.the-variants.{Ready, At, Refused}
 use Rattle.skip.proofs.Shown.{block-proper, block-below}
 use Rattle.skip.proofs.Walks.{below-place, passes-mono, walk-is-place}
@@ -41,6 +41,14 @@ skipped-least n a proper (suc b) h =
 same-fields : (b c d e : ℕ) → b ≡ c → d ≡ e → _≡_ {A = Cursor} (record { block = b; skipped = d }) (record { block = c; skipped = e })
 same-fields b c d e p q = rw (p, q)
 
+-- what a start and a step answer
+abbrev pub started : ℕ → List ℕ → ℕ → Job
+started n a b = answer (sectorOfFault n a b) (λ fault. Refused fault noCursor) (Ready (cursorAt n a b))
+
+abbrev pub stepped : ℕ → List ℕ → Cursor → Job
+stepped n a c =
+    answer (stepFault n a c) (λ fault. Refused fault c) (At (place (isIn a) n (c .block)) (cursorAt n a (suc (c .block))))
+
 module _ (n : ℕ) (a : List ℕ) where
   pub tells-belongs : (c : Cursor) → Tells (belongs n a c) (Belongs n a c)
   tells-belongs c =
@@ -53,20 +61,20 @@ module _ (n : ℕ) (a : List ℕ) where
       both = tells-both (tells-le (c .block) (blocks n a)) (tells-eq (c .skipped) (skippedBefore n a (c .block)))
 
   -- what a cursor that passes shows
-  pub cursor-shows : (c : Cursor) → cursorFault n a c ≡ 0 → Belongs n a c
+  pub cursor-shows : (c : Cursor) → checkFault n a c ≡ 0 → Belongs n a c
   cursor-shows c none =
       passed-shows (tells-belongs c) strayCursor (omega arith)
       (orElse-next (spaceFault n a) (refuse (not (belongs n a c)) strayCursor) none)
 
-  pub cursor-space : (c : Cursor) → cursorFault n a c ≡ 0 → spaceFault n a ≡ 0
+  pub cursor-space : (c : Cursor) → checkFault n a c ≡ 0 → spaceFault n a ≡ 0
   cursor-space c none = orElse-first (spaceFault n a) (refuse (not (belongs n a c)) strayCursor) none
 
   pub step-block : (c : Cursor) → stepFault n a c ≡ 0 → c .block < blocks n a
   step-block c none =
-      below-shows (blocks n a) (c .block) noSuchBlock (omega arith) (orElse-next (cursorFault n a c) (refuse (leb (blocks n a) (c .block)) noSuchBlock) none)
+      below-shows (blocks n a) (c .block) noSuchBlock (omega arith) (orElse-next (checkFault n a c) (refuse (leb (blocks n a) (c .block)) noSuchBlock) none)
 
-  pub step-cursor : (c : Cursor) → stepFault n a c ≡ 0 → cursorFault n a c ≡ 0
-  step-cursor c none = orElse-first (cursorFault n a c) (refuse (leb (blocks n a) (c .block)) noSuchBlock) none
+  pub step-cursor : (c : Cursor) → stepFault n a c ≡ 0 → checkFault n a c ≡ 0
+  step-cursor c none = orElse-first (checkFault n a c) (refuse (leb (blocks n a) (c .block)) noSuchBlock) none
 
   -- the cursor for a block is the only one that belongs there
   pub belongs-one : {c d : Cursor} → Belongs n a c → Belongs n a d → c .block ≡ d .block → c ≡ d
@@ -80,12 +88,12 @@ module _ (n : ℕ) (a : List ℕ) where
   -- a step answers what a fresh translation answers
   pub step-fresh :
       (c : Cursor) → stepFault n a c ≡ 0 →
-      (translated n a (c .block) ≡ PlacedAt (place (isIn a) n (c .block)))
+      (answer (sectorOfFault n a (c .block)) NotPlaced (PlacedAt (place (isIn a) n (c .block))) ≡ PlacedAt (place (isIn a) n (c .block)))
       × (stepped n a c ≡ At (place (isIn a) n (c .block)) (cursorAt n a (suc (c .block))))
   step-fresh c none =
-      let block-none : blockFault n a (c .block) ≡ 0 =
-      rw (cursor-space c (step-cursor c none)) (orElse-next (cursorFault n a c) (refuse (leb (blocks n a) (c .block)) noSuchBlock) none) in
-      (answer-accepted (blockFault n a (c .block)) _ _ block-none, answer-accepted (stepFault n a c) _ _ none)
+      let block-none : sectorOfFault n a (c .block) ≡ 0 =
+      rw (cursor-space c (step-cursor c none)) (orElse-next (checkFault n a c) (refuse (leb (blocks n a) (c .block)) noSuchBlock) none) in
+      (answer-accepted (sectorOfFault n a (c .block)) _ _ block-none, answer-accepted (stepFault n a c) _ _ none)
 
   -- the cursor after an accepted step belongs
   pub step-belongs : (c : Cursor) → stepFault n a c ≡ 0 → Belongs n a (cursorAt n a (suc (c .block)))
@@ -96,17 +104,17 @@ module _ (n : ℕ) (a : List ℕ) where
   step-refused c some = answer-refused (stepFault n a c) _ _ some
 
 -- what the code answers is what is stated: a start at block 0, a start later, a step
-module _ (n : ℕ) (a : List ℕ) (b : ℕ) (none : blockFault n a b ≡ 0) where
+module _ (n : ℕ) (a : List ℕ) (b : ℕ) (none : sectorOfFault n a b ≡ 0) where
   pub start-first : b ≡ 0 → Ready noCursor ≡ started n a b
   start-first first =
       ap Ready (same-fields 0 b 0 (skippedBefore n a b) (sym first) (rw first))
-      ∙ sym (answer-accepted (blockFault n a b) _ _ none)
+      ∙ sym (answer-accepted (sectorOfFault n a b) _ _ none)
 
   pub start-later : (d : ℕ) → (b ≡ 0 → ⊥) → d ≡ passes a (b - 1) → Ready (record { block = b; skipped = d }) ≡ started n a b
   start-later d some count =
       ap Ready (same-fields b b d (skippedBefore n a b) refl
       (count ∙ sym (skipped-passes n a (block-proper n a b none) b some (omega (arith, block-below n a b none)))))
-      ∙ sym (answer-accepted (blockFault n a b) _ _ none)
+      ∙ sym (answer-accepted (sectorOfFault n a b) _ _ none)
 
 module _ (n : ℕ) (a : List ℕ) (c : Cursor) (none : stepFault n a c ≡ 0) where
   pub step-proper : Proper n a
@@ -127,17 +135,3 @@ module _ (n : ℕ) (a : List ℕ) (c : Cursor) (none : stepFault n a c ≡ 0) wh
       same-fields (c .block + 1) (suc (c .block)) d (skippedBefore n a (suc (c .block))) (omega arith)
       (count ∙ sym (below-place n a (step-proper .rising) (step-proper .inside) (c .block) (step-block n a c none))) in
       rw (next, ← walk) (sym (answer-accepted (stepFault n a c) _ _ none))
-
--- what a job says
-pub ready-says :
-    (fault : ℕ) (c : Cursor) →
-    saidJob (answer fault (λ k. Refused k noCursor) (Ready c)) ≡ (fault, 0, given fault (c .block), given fault (c .skipped))
-ready-says zero c = refl
-ready-says (suc fault) c = refl
-
-pub stepped-says :
-    (fault sector : ℕ) (c next : Cursor) →
-    saidJob (answer fault (λ k. Refused k c) (At sector next))
-    ≡ (fault, given fault sector, answer fault (λ k. c .block) (next .block), answer fault (λ k. c .skipped) (next .skipped))
-stepped-says zero sector c next = refl
-stepped-says (suc fault) sector c next = refl

@@ -6,22 +6,19 @@ use Rattle.paper.specs.Refusals.{noSuchBlock, noSuchSector, strayCursor}
 use Rattle.paper.specs.Exactly.{Exactly}
 use Rattle.paper.proofs.Rows.{tells-le, tells-not, row, rows}
 use Rattle.lists.proofs.Exact.{space-exactly}
-use Rattle.skip.specs.Translation.{blocks, blockFault, sectorFault, SectorOfJudged, BlockOnJudged}
-use Rattle.skip.specs.Cursors.{cursorFault, stepFault, StartJudged, CheckJudged, StepJudged}
+use Rattle.skip.specs.Translation.{blocks, sectorOfFault, blockOnFault, SectorOfJudged, BlockOnJudged}
+use Rattle.skip.specs.Cursors.{checkFault, stepFault, CheckJudged, StepJudged}
 use Rattle.skip.specs.declared.Cursor.{Cursor}
 use Rattle.skip.proofs.Cursoring.{tells-belongs}
 
 module _ (n : ℕ) (a : List ℕ) where
-  pub sector-of-exactly : (b : ℕ) → Exactly (SectorOfJudged n a b) (blockFault n a b)
+  pub sector-of-exactly : (b : ℕ) → Exactly (SectorOfJudged n a b) (sectorOfFault n a b)
   sector-of-exactly b = rows _ _ (space-exactly n a) (row (tells-le (blocks n a) b) noSuchBlock)
 
-  pub block-on-exactly : (s : ℕ) → Exactly (BlockOnJudged n a s) (sectorFault n a s)
+  pub block-on-exactly : (s : ℕ) → Exactly (BlockOnJudged n a s) (blockOnFault n a s)
   block-on-exactly s = rows _ _ (space-exactly n a) (row (tells-le n s) noSuchSector)
 
-  pub start-exactly : (b : ℕ) → Exactly (StartJudged n a b) (blockFault n a b)
-  start-exactly = sector-of-exactly
-
-  pub check-exactly : (c : Cursor) → Exactly (CheckJudged n a c) (cursorFault n a c)
+  pub check-exactly : (c : Cursor) → Exactly (CheckJudged n a c) (checkFault n a c)
   check-exactly c = rows _ _ (space-exactly n a) (row (tells-not (tells-belongs n a c)) strayCursor)
 
   pub step-exactly : (c : Cursor) → Exactly (StepJudged n a c) (stepFault n a c)

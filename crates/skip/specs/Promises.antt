@@ -1,15 +1,16 @@
 -- What the public calls of `skip` promise.
 use Prim.Native.Nat.{ℕ, suc}
+use mathlib.Core.Path.{_≡_}
 use mathlib.Core.List.{List}
-use Rattle.paper.specs.Checks.{pick, answer, given}
-use Rattle.paper.specs.Answers.{saidPlaced, saidNamed}
+use Rattle.paper.specs.Answers.{GivesPlaced, GivesNamed}
 use Rattle.paper.specs.Promise.{Gives}
 use Rattle.paper.specs.declared.Placed.{Placed}
+use Rattle.paper.specs.declared.Placed.the-variants.{At as PlacedAt}
 use Rattle.paper.specs.declared.Named.{Named}
 use Rattle.lists.specs.Union.{isIn}
-use Rattle.skip.specs.Skipping.{goodsBefore, place}
-use Rattle.skip.specs.Translation.{blockFault, sectorFault, translated, found}
-use Rattle.skip.specs.Cursors.{skippedBefore, cursorFault, stepFault, started, checked, stepped}
+use Rattle.skip.specs.Skipping.{place}
+use Rattle.skip.specs.Translation.{sectorOfFault, blockOnFault, blockOn}
+use Rattle.skip.specs.Cursors.{cursorAt, noCursor, checkFault, stepFault}
 use Rattle.skip.specs.declared.Cursor.{Cursor}
 use Rattle.skip.specs.declared.Job.{Job}
 use Rattle.skip.specs.declared.Job.the-variants.{Ready, At, Refused}
@@ -20,38 +21,36 @@ saidJob (Ready next) = (0, 0, next .block, next .skipped)
 saidJob (At sector next) = (0, sector, next .block, next .skipped)
 saidJob (Refused fault next) = (fault, 0, next .block, next .skipped)
 
+-- a refusal hands a cursor back, and says it
+abbrev pub GivesJob : Cursor → ℕ → Job → Job → Type 0
+GivesJob back = Gives saidJob (λ fault. (fault, 0, back .block, back .skipped)) (λ fault. Refused fault back)
+
 -- the cursor that a job hands back, however it stands
 abbrev pub handedBack : Job → Cursor
 handedBack (Ready next) = next
 handedBack (At sector next) = next
 handedBack (Refused fault next) = next
 
-abbrev pub SectorOf : ℕ → List ℕ → ℕ → Placed → Type 0
-SectorOf n a b = Gives saidPlaced (translated n a b) (blockFault n a b, given (blockFault n a b) (place (isIn a) n b))
+-- a cursor that such a job hands back
+pub record BackFrom (Promise : Job → Type 0) (next : Cursor) : Type 0 where
+  pub job : Job
+  pub allowed : Promise job
+  pub handed : next ≡ handedBack job
 
--- the numbers of a sector's block, each 0 where the call refuses
-abbrev pub namedNumbers : ℕ → List ℕ → ℕ → ℕ × ℕ × ℕ
-namedNumbers fault a s = (fault, given fault (pick (isIn a s) 0 1), given fault (pick (isIn a s) 0 (goodsBefore (isIn a) s)))
+abbrev pub SectorOf : ℕ → List ℕ → ℕ → Placed → Type 0
+SectorOf n a b = GivesPlaced (sectorOfFault n a b) (PlacedAt (place (isIn a) n b))
 
 abbrev pub BlockOn : ℕ → List ℕ → ℕ → Named → Type 0
-BlockOn n a s = Gives saidNamed (found n a s) (namedNumbers (sectorFault n a s) a s)
+BlockOn n a s = GivesNamed (blockOnFault n a s) (blockOn a s)
 
+-- a job opens at any block; its checks are those of the block's sector
 abbrev pub Starts : ℕ → List ℕ → ℕ → Job → Type 0
-Starts n a b =
-    Gives saidJob (started n a b)
-    (blockFault n a b, 0, given (blockFault n a b) b, given (blockFault n a b) (skippedBefore n a b))
+Starts n a b = GivesJob noCursor (sectorOfFault n a b) (Ready (cursorAt n a b))
 
+-- a cursor of this list is handed back as it is
 abbrev pub Checks : ℕ → List ℕ → Cursor → Job → Type 0
-Checks n a c =
-    Gives saidJob (checked n a c)
-    (cursorFault n a c, 0, given (cursorFault n a c) (c .block), given (cursorFault n a c) (c .skipped))
+Checks n a c = GivesJob noCursor (checkFault n a c) (Ready c)
 
--- a refused step says the cursor it was given
+-- a step answers where the cursor's block lies, with the cursor of the block after it; a refusal comes with the cursor as it went in
 abbrev pub Steps : ℕ → List ℕ → Cursor → Job → Type 0
-Steps n a c =
-    Gives saidJob (stepped n a c) (
-      stepFault n a c,
-      given (stepFault n a c) (place (isIn a) n (c .block)),
-      answer (stepFault n a c) (λ fault. c .block) (suc (c .block)),
-      answer (stepFault n a c) (λ fault. c .skipped) (skippedBefore n a (suc (c .block))),
-    )
+Steps n a c = GivesJob c (stepFault n a c) (At (place (isIn a) n (c .block)) (cursorAt n a (suc (c .block))))

@@ -27,5 +27,5 @@ abbrev pub after : (ℕ → Bool) → (ℕ → Bool) → ℕ → Bool
 after bad more s = bad s || more (goodsBefore bad s)
 
 -- the sectors of a list of blocks, on n sectors with bad list a
-abbrev pub sectorsOf : ℕ → List ℕ → List ℕ → List ℕ
-sectorsOf n a blocks = map (place (isIn a) n) blocks
+abbrev pub sectorsOfBlocks : ℕ → List ℕ → List ℕ → List ℕ
+sectorsOfBlocks n a blocks = map (place (isIn a) n) blocks

@@ -6,8 +6,8 @@ ghost use lib.ListN.{length};
 ghost use Rattle.paper.specs.Limits.{listMost, unitsMost};
 ghost use Rattle.lists.specs.Proper.{Rising, Proper};
 ghost use Rattle.skip.specs.Walk.{passes, walked, entriesBelow, isBehind, isAhead};
-ghost use Rattle.skip.specs.Translation.{blocks, blockFault, sectorFault, blockOn};
-ghost use Rattle.skip.specs.Cursors.{belongs, cursorFault, stepFault};
+ghost use Rattle.skip.specs.Translation.{blocks, sectorOfFault, blockOnFault, blockOn};
+ghost use Rattle.skip.specs.Cursors.{belongs, checkFault, stepFault};
 ghost use Rattle.skip.specs.Promises.{SectorOf, BlockOn, Starts, Checks, Steps};
 use paper::NO_SUCH_BLOCK;
 use paper::NO_SUCH_SECTOR;
@@ -35,7 +35,7 @@ fn passed(list: &[u32], block: u32, from: u32) -> u32
     requires { ⌜ length (now list) ≤ listMost ⌝ }
     requires { ⌜ block ≤ unitsMost ⌝ }
     requires { ⌜ from ≤ passes (now list) block ⌝ }
-    ensures { λ r. ⌜ r ≡ passes (now (list .entry)) block ⌝ }
+    ensures { λ result. ⌜ result ≡ passes (now (list .entry)) block ⌝ }
 {
     let mut count = from;
     while (count as usize) < list.len() {
@@ -51,7 +51,7 @@ fn passed(list: &[u32], block: u32, from: u32) -> u32
 fn entries_below(list: &[u32], sector: u32) -> u32
     requires { ⌜ Rising (now list) ⌝ }
     requires { ⌜ length (now list) ≤ listMost ⌝ }
-    ensures { λ r. ⌜ r ≡ entriesBelow (now (list .entry)) sector ⌝ }
+    ensures { λ result. ⌜ result ≡ entriesBelow (now (list .entry)) sector ⌝ }
 {
     let mut count: u32 = 0;
     while (count as usize) < list.len() {
@@ -65,7 +65,7 @@ fn entries_below(list: &[u32], sector: u32) -> u32
 
 // The number of blocks. Only other crates call this.
 pub fn block_count(n: u32, list: &[u32]) -> u32
-    ensures { λ r. ⌜ r ≡ blocks n (now (list .entry)) ⌝ }
+    ensures { λ result. ⌜ result ≡ blocks n (now (list .entry)) ⌝ }
 {
     if (n as usize) < list.len() {
         return 0;
@@ -78,7 +78,7 @@ pub fn walk(list: &[u32], block: u32) -> u32
     requires { ⌜ Rising (now list) ⌝ }
     requires { ⌜ length (now list) ≤ listMost ⌝ }
     requires { ⌜ block ≤ unitsMost ⌝ }
-    ensures { λ r. ⌜ r ≡ walked (now (list .entry)) block ⌝ }
+    ensures { λ result. ⌜ result ≡ walked (now (list .entry)) block ⌝ }
 {
     block + passed(list, block, 0)
 }
@@ -87,7 +87,7 @@ pub fn walk(list: &[u32], block: u32) -> u32
 pub fn name(list: &[u32], sector: u32) -> Named
     requires { ⌜ Rising (now list) ⌝ }
     requires { ⌜ length (now list) ≤ listMost ⌝ }
-    ensures { λ r. ⌜ r ≡ blockOn (now (list .entry)) sector ⌝ }
+    ensures { λ result. ⌜ result ≡ blockOn (now (list .entry)) sector ⌝ }
 {
     let below = entries_below(list, sector);
     let at = below as usize;
@@ -101,8 +101,8 @@ pub fn name(list: &[u32], sector: u32) -> Named
 }
 
 // Checks 1, list, 5.
-fn block_fault(n: u32, list: &[u32], block: u32) -> u32
-    ensures { λ r. ⌜ r ≡ blockFault n (now (list .entry)) block ⌝ }
+fn sector_of_fault(n: u32, list: &[u32], block: u32) -> u32
+    ensures { λ result. ⌜ result ≡ sectorOfFault n (now (list .entry)) block ⌝ }
 {
     let fault = lists::space_fault(n, list);
     if fault != 0 {
@@ -115,8 +115,8 @@ fn block_fault(n: u32, list: &[u32], block: u32) -> u32
 }
 
 // Checks 1, list, 6.
-fn sector_fault(n: u32, list: &[u32], sector: u32) -> u32
-    ensures { λ r. ⌜ r ≡ sectorFault n (now (list .entry)) sector ⌝ }
+fn block_on_fault(n: u32, list: &[u32], sector: u32) -> u32
+    ensures { λ result. ⌜ result ≡ blockOnFault n (now (list .entry)) sector ⌝ }
 {
     let fault = lists::space_fault(n, list);
     if fault != 0 {
@@ -130,9 +130,9 @@ fn sector_fault(n: u32, list: &[u32], sector: u32) -> u32
 
 // The sector that a block lies on. Checks 1, list, 5.
 pub fn sector_of(n: u32, list: &[u32], block: u32) -> Placed
-    ensures { λ r. ⌜ SectorOf n (now (list .entry)) block r ⌝ }
+    ensures { λ result. ⌜ SectorOf n (now (list .entry)) block result ⌝ }
 {
-    let fault = block_fault(n, list, block);
+    let fault = sector_of_fault(n, list, block);
     if fault != 0 {
         return Placed::Refused(fault);
     }
@@ -141,9 +141,9 @@ pub fn sector_of(n: u32, list: &[u32], block: u32) -> Placed
 
 // The block that lies on a sector, or no block. Checks 1, list, 6.
 pub fn block_on(n: u32, list: &[u32], sector: u32) -> Named
-    ensures { λ r. ⌜ BlockOn n (now (list .entry)) sector r ⌝ }
+    ensures { λ result. ⌜ BlockOn n (now (list .entry)) sector result ⌝ }
 {
-    let fault = sector_fault(n, list, sector);
+    let fault = block_on_fault(n, list, sector);
     if fault != 0 {
         return Named::Refused(fault);
     }
@@ -153,7 +153,7 @@ pub fn block_on(n: u32, list: &[u32], sector: u32) -> Named
 // Whether the entries before a place are passed on the way to an address: the last of them lies below it.
 fn behind(list: &[u32], count: usize, address: u32) -> bool
     requires { ⌜ count ≤ length (now list) ⌝ }
-    ensures { λ r. ⌜ r ≡ isBehind (now (list .entry)) count address ⌝ }
+    ensures { λ result. ⌜ result ≡ isBehind (now (list .entry)) count address ⌝ }
 {
     if count == 0 {
         return true;
@@ -164,7 +164,7 @@ fn behind(list: &[u32], count: usize, address: u32) -> bool
 // Whether the entries from a place on are still ahead of an address: the first of them lies above it.
 fn ahead(list: &[u32], count: usize, address: u32) -> bool
     requires { ⌜ count ≤ length (now list) ⌝ }
-    ensures { λ r. ⌜ r ≡ isAhead (now (list .entry)) count address ⌝ }
+    ensures { λ result. ⌜ result ≡ isAhead (now (list .entry)) count address ⌝ }
 {
     if count == list.len() {
         return true;
@@ -177,7 +177,7 @@ fn passes_just(list: &[u32], block: u32, count: u32) -> bool
     requires { ⌜ Rising (now list) ⌝ }
     requires { ⌜ length (now list) ≤ listMost ⌝ }
     requires { ⌜ block ≤ unitsMost ⌝ }
-    ensures { λ r. ⌜ r ≡ eqb count (passes (now (list .entry)) block) ⌝ }
+    ensures { λ result. ⌜ result ≡ eqb count (passes (now (list .entry)) block) ⌝ }
 {
     let at = count as usize;
     if list.len() < at {
@@ -193,7 +193,7 @@ fn passes_just(list: &[u32], block: u32, count: u32) -> bool
 fn is_of(n: u32, list: &[u32], cursor: Cursor) -> bool
     requires { ⌜ Proper n (now list) ⌝ }
     requires { ⌜ n ≤ unitsMost ⌝ }
-    ensures { λ r. ⌜ r ≡ belongs n (now (list .entry)) cursor ⌝ }
+    ensures { λ result. ⌜ result ≡ belongs n (now (list .entry)) cursor ⌝ }
 {
     let block = cursor.block;
     let skipped = cursor.skipped;
@@ -207,8 +207,8 @@ fn is_of(n: u32, list: &[u32], cursor: Cursor) -> bool
 }
 
 // Checks 1, list, 9.
-fn cursor_fault(n: u32, list: &[u32], cursor: Cursor) -> u32
-    ensures { λ r. ⌜ r ≡ cursorFault n (now (list .entry)) cursor ⌝ }
+fn check_fault(n: u32, list: &[u32], cursor: Cursor) -> u32
+    ensures { λ result. ⌜ result ≡ checkFault n (now (list .entry)) cursor ⌝ }
 {
     let fault = lists::space_fault(n, list);
     if fault != 0 {
@@ -222,9 +222,9 @@ fn cursor_fault(n: u32, list: &[u32], cursor: Cursor) -> u32
 
 // Checks 1, list, 9, 5.
 fn step_fault(n: u32, list: &[u32], cursor: Cursor) -> u32
-    ensures { λ r. ⌜ r ≡ stepFault n (now (list .entry)) cursor ⌝ }
+    ensures { λ result. ⌜ result ≡ stepFault n (now (list .entry)) cursor ⌝ }
 {
-    let fault = cursor_fault(n, list, cursor);
+    let fault = check_fault(n, list, cursor);
     if fault != 0 {
         return fault;
     }
@@ -237,9 +237,9 @@ fn step_fault(n: u32, list: &[u32], cursor: Cursor) -> u32
 impl Cursor {
     // Opens a job at a block. Checks 1, list, 5.
     pub fn start(n: u32, list: &[u32], block: u32) -> Job
-        ensures { λ r. ⌜ Starts n (now (list .entry)) block r ⌝ }
+        ensures { λ result. ⌜ Starts n (now (list .entry)) block result ⌝ }
     {
-        let fault = block_fault(n, list, block);
+        let fault = sector_of_fault(n, list, block);
         if fault != 0 {
             return Job::Refused(
                 fault,
@@ -261,9 +261,9 @@ impl Cursor {
 
     // Whether the cursor is one of this list. Checks 1, list, 9.
     pub fn check(self, n: u32, list: &[u32]) -> Job
-        ensures { λ r. ⌜ Checks n (now (list .entry)) self r ⌝ }
+        ensures { λ result. ⌜ Checks n (now (list .entry)) self result ⌝ }
     {
-        let fault = cursor_fault(n, list, self);
+        let fault = check_fault(n, list, self);
         if fault != 0 {
             return Job::Refused(
                 fault,
@@ -278,7 +278,7 @@ impl Cursor {
 
     // The sector of the cursor's block, and the cursor for the block after it. Checks 1, list, 9, 5.
     pub fn step(self, n: u32, list: &[u32]) -> Job
-        ensures { λ r. ⌜ Steps n (now (list .entry)) self r ⌝ }
+        ensures { λ result. ⌜ Steps n (now (list .entry)) self result ⌝ }
     {
         let fault = step_fault(n, list, self);
         if fault != 0 {

@@ -14,7 +14,7 @@ use Rattle.lists.specs.Proper.{Proper, listFault}
 use Rattle.lists.specs.Union.{isIn}
 use Rattle.lists.proofs.Exact.{list-shows}
 use Rattle.shape.specs.Shapes.{Shaped, sizeOf, shapeFault}
-use Rattle.shape.specs.Addresses.{OnDrive, placeFault as addressPlaceFault}
+use Rattle.shape.specs.Addresses.{OnDrive, offDriveFault as addressPlaceFault}
 use Rattle.shape.specs.declared.Shape.{Shape}
 use Rattle.shape.proofs.Exact.{shape-shows, place-shows}
 use Rattle.shape.proofs.Bounds.{size-fits}
@@ -22,23 +22,23 @@ use Rattle.skip.specs.Skipping.{place}
 use Rattle.skip.specs.Walk.{walked}
 use Rattle.skip.specs.Translation.{blocks}
 use Rattle.skip.proofs.Walks.{walk-is-place}
-use Rattle.skipped.specs.Drive.{driveFault, blockFault, placeFault}
+use Rattle.skipped.specs.Drive.{skippedFault, addressOfFault, blockAtFault}
 
 module _ (shape : Shape) (a : List ℕ) where
-  pub drive-shaped : driveFault shape a ≡ 0 → Shaped shape
+  pub drive-shaped : skippedFault shape a ≡ 0 → Shaped shape
   drive-shaped none = shape-shows shape (orElse-first (shapeFault shape) (listFault (sizeOf shape) a) none)
 
-  pub drive-proper : driveFault shape a ≡ 0 → Proper (sizeOf shape) a
+  pub drive-proper : skippedFault shape a ≡ 0 → Proper (sizeOf shape) a
   drive-proper none = list-shows (sizeOf shape) a (orElse-next (shapeFault shape) (listFault (sizeOf shape) a) none)
 
-  module _ (b : ℕ) (none : blockFault shape a b ≡ 0) where
-    pub block-drive : driveFault shape a ≡ 0
-    block-drive = orElse-first (driveFault shape a) (refuse (leb (blocks (sizeOf shape) a) b) noSuchBlock) none
+  module _ (b : ℕ) (none : addressOfFault shape a b ≡ 0) where
+    pub block-drive : skippedFault shape a ≡ 0
+    block-drive = orElse-first (skippedFault shape a) (refuse (leb (blocks (sizeOf shape) a) b) noSuchBlock) none
 
     pub block-below : b < blocks (sizeOf shape) a
     block-below =
         below-shows (blocks (sizeOf shape) a) b noSuchBlock (omega arith)
-        (orElse-next (driveFault shape a) (refuse (leb (blocks (sizeOf shape) a) b) noSuchBlock) none)
+        (orElse-next (skippedFault shape a) (refuse (leb (blocks (sizeOf shape) a) b) noSuchBlock) none)
 
     pub block-most : b ≤ unitsMost
     block-most = let fits : sizeOf shape ≤ unitsMost = size-fits (drive-shaped block-drive) in omega (arith, block-below)
@@ -48,9 +48,9 @@ module _ (shape : Shape) (a : List ℕ) where
         let proper : Proper (sizeOf shape) a = drive-proper block-drive in
         sym (walk-is-place (sizeOf shape) a (proper .rising) (proper .inside) b block-below)
 
-  module _ (cylinder head sector : ℕ) (none : placeFault shape a cylinder head sector ≡ 0) where
-    pub place-drive : driveFault shape a ≡ 0
-    place-drive = orElse-first (driveFault shape a) (addressPlaceFault shape cylinder head sector) none
+  module _ (cylinder head sector : ℕ) (none : blockAtFault shape a cylinder head sector ≡ 0) where
+    pub place-drive : skippedFault shape a ≡ 0
+    place-drive = orElse-first (skippedFault shape a) (addressPlaceFault shape cylinder head sector) none
 
     pub place-on-drive : OnDrive shape cylinder head sector
-    place-on-drive = place-shows shape cylinder head sector (orElse-next (driveFault shape a) (addressPlaceFault shape cylinder head sector) none)
+    place-on-drive = place-shows shape cylinder head sector (orElse-next (skippedFault shape a) (addressPlaceFault shape cylinder head sector) none)

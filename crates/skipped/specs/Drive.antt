@@ -1,5 +1,5 @@
 -- Document 01, "Numbers" and "Skipping": a skipped drive with its shape, and the checks of its calls.
-use Prim.Native.Nat.{ℕ, _≤_}
+use Prim.Native.Nat.{ℕ}
 use mathlib.Core.List.{List}
 use lib.Dec.{leb}
 use Rattle.paper.specs.Checks.{refuse, _orElse_}
@@ -7,28 +7,30 @@ use Rattle.paper.specs.Refusals.{noSuchBlock}
 use Rattle.paper.specs.Exactly.{When, _andThen_}
 use Rattle.lists.specs.Proper.{listFault, ListJudged}
 use Rattle.shape.specs.Shapes.{sizeOf, shapeFault, ShapeJudged}
-use Rattle.shape.specs.Addresses.{placeFault as addressPlaceFault, PlaceJudged}
+use Rattle.shape.specs.Addresses.{offDriveFault as addressPlaceFault, OffDriveJudged}
 use Rattle.shape.specs.declared.Shape.{Shape}
-use Rattle.skip.specs.Translation.{blocks}
+use Rattle.skip.specs.Translation.{blocks, PastBlocks}
 
 -- checks 1, list over the drive's N sectors
-abbrev pub driveFault : Shape → List ℕ → ℕ
-driveFault shape a = shapeFault shape orElse listFault (sizeOf shape) a
+abbrev pub skippedFault : Shape → List ℕ → ℕ
+skippedFault shape a = shapeFault shape orElse listFault (sizeOf shape) a
 
 -- checks 1, list, 5
-abbrev pub blockFault : Shape → List ℕ → ℕ → ℕ
-blockFault shape a b = driveFault shape a orElse refuse (leb (blocks (sizeOf shape) a) b) noSuchBlock
+abbrev pub addressOfFault : Shape → List ℕ → ℕ → ℕ
+addressOfFault shape a b = skippedFault shape a orElse refuse (leb (blocks (sizeOf shape) a) b) noSuchBlock
 
 -- checks 1, list, 6
-abbrev pub placeFault : Shape → List ℕ → ℕ → ℕ → ℕ → ℕ
-placeFault shape a cylinder head sector = driveFault shape a orElse addressPlaceFault shape cylinder head sector
+abbrev pub blockAtFault : Shape → List ℕ → ℕ → ℕ → ℕ → ℕ
+blockAtFault shape a cylinder head sector = skippedFault shape a orElse addressPlaceFault shape cylinder head sector
 
--- exactly when each number is given
-abbrev pub DriveJudged : Shape → List ℕ → ℕ → Type 0
-DriveJudged shape a = ShapeJudged shape andThen ListJudged (sizeOf shape) a
+-- exactly when 1, 2, 3 and 4 are given for a shape and a list over its sectors
+abbrev pub SkippedJudged : Shape → List ℕ → ℕ → Type 0
+SkippedJudged shape a = ShapeJudged shape andThen ListJudged (sizeOf shape) a
 
+-- exactly when `skipped::address_of` gives each number
 abbrev pub AddressOfJudged : Shape → List ℕ → ℕ → ℕ → Type 0
-AddressOfJudged shape a b = DriveJudged shape a andThen When noSuchBlock (blocks (sizeOf shape) a ≤ b)
+AddressOfJudged shape a b = SkippedJudged shape a andThen When noSuchBlock (PastBlocks (sizeOf shape) a b)
 
+-- exactly when `skipped::block_at` gives each number
 abbrev pub BlockAtJudged : Shape → List ℕ → ℕ → ℕ → ℕ → ℕ → Type 0
-BlockAtJudged shape a cylinder head sector = DriveJudged shape a andThen PlaceJudged shape cylinder head sector
+BlockAtJudged shape a cylinder head sector = SkippedJudged shape a andThen OffDriveJudged shape cylinder head sector

@@ -1,6 +1,6 @@
 // A skipped drive by its shape: block ↔ cylinder, head and sector.
 ghost use mathlib.Core.Path.{_≡_};
-ghost use Rattle.skipped.specs.Drive.{driveFault, blockFault, placeFault};
+ghost use Rattle.skipped.specs.Drive.{skippedFault, addressOfFault, blockAtFault};
 ghost use Rattle.skipped.specs.Promises.{AddressOf, BlockAt};
 use paper::NO_SUCH_BLOCK;
 use paper::Named;
@@ -8,8 +8,8 @@ use shape::Located;
 use shape::Shape;
 
 // Checks 1, list.
-fn drive_fault(shape: Shape, list: &[u32]) -> u32
-    ensures { λ r. ⌜ r ≡ driveFault shape (now (list .entry)) ⌝ }
+fn skipped_fault(shape: Shape, list: &[u32]) -> u32
+    ensures { λ result. ⌜ result ≡ skippedFault shape (now (list .entry)) ⌝ }
 {
     let fault = shape::shape_fault(shape);
     if fault != 0 {
@@ -19,10 +19,10 @@ fn drive_fault(shape: Shape, list: &[u32]) -> u32
 }
 
 // Checks 1, list, 5.
-fn block_fault(shape: Shape, list: &[u32], block: u32) -> u32
-    ensures { λ r. ⌜ r ≡ blockFault shape (now (list .entry)) block ⌝ }
+fn address_of_fault(shape: Shape, list: &[u32], block: u32) -> u32
+    ensures { λ result. ⌜ result ≡ addressOfFault shape (now (list .entry)) block ⌝ }
 {
-    let fault = drive_fault(shape, list);
+    let fault = skipped_fault(shape, list);
     if fault != 0 {
         return fault;
     }
@@ -33,21 +33,21 @@ fn block_fault(shape: Shape, list: &[u32], block: u32) -> u32
 }
 
 // Checks 1, list, 6.
-fn place_fault(shape: Shape, list: &[u32], cylinder: u32, head: u32, sector: u32) -> u32
-    ensures { λ r. ⌜ r ≡ placeFault shape (now (list .entry)) cylinder head sector ⌝ }
+fn block_at_fault(shape: Shape, list: &[u32], cylinder: u32, head: u32, sector: u32) -> u32
+    ensures { λ result. ⌜ result ≡ blockAtFault shape (now (list .entry)) cylinder head sector ⌝ }
 {
-    let fault = drive_fault(shape, list);
+    let fault = skipped_fault(shape, list);
     if fault != 0 {
         return fault;
     }
-    shape::place_fault(shape, cylinder, head, sector)
+    shape::off_drive_fault(shape, cylinder, head, sector)
 }
 
 // The address that a block lies at. Checks 1, list, 5.
 pub fn address_of(shape: Shape, list: &[u32], block: u32) -> Located
-    ensures { λ r. ⌜ AddressOf shape (now (list .entry)) block r ⌝ }
+    ensures { λ result. ⌜ AddressOf shape (now (list .entry)) block result ⌝ }
 {
-    let fault = block_fault(shape, list, block);
+    let fault = address_of_fault(shape, list, block);
     if fault != 0 {
         return Located::Refused(fault);
     }
@@ -56,9 +56,9 @@ pub fn address_of(shape: Shape, list: &[u32], block: u32) -> Located
 
 // The block that lies at an address, or no block. Checks 1, list, 6.
 pub fn block_at(shape: Shape, list: &[u32], cylinder: u32, head: u32, sector: u32) -> Named
-    ensures { λ r. ⌜ BlockAt shape (now (list .entry)) cylinder head sector r ⌝ }
+    ensures { λ result. ⌜ BlockAt shape (now (list .entry)) cylinder head sector result ⌝ }
 {
-    let fault = place_fault(shape, list, cylinder, head, sector);
+    let fault = block_at_fault(shape, list, cylinder, head, sector);
     if fault != 0 {
         return Named::Refused(fault);
     }

@@ -15,7 +15,7 @@ use Rattle.paper.proofs.Chain.{orElse-some, orElse-none, orElse-first, orElse-n
 use Rattle.paper.proofs.Rows.{tells-le, tells-false, passed-not}
 use Rattle.shape.specs.declared.Shape.{Shape}
 use Rattle.shape.specs.Shapes.{shaped, shapeFault}
-use Rattle.layout.specs.Layouts.{drives, layoutOf, driveFault}
+use Rattle.layout.specs.Layouts.{spared, driveOf, driveFault}
 use Rattle.layout.specs.Descriptors.{free, atPrimary, elsewhere, unusable, null}
 use Rattle.table.specs.Rules.{codeAt, obeys, tableFault, tableLength}
 use Rattle.table.specs.Lookup.{Replaced, isReplaced}
@@ -25,7 +25,7 @@ use Rattle.replacing.specs.Counting.{codeCount}
 use Rattle.replacing.proofs.Replacements.{tells-none-free, replacement-alters}
 use Rattle.replacing.proofs.Censuses.{free-less, code-more, others-counted, five-counts}
 use Rattle.spares.specs.Spares.{blockFault, replaceFault, BlockJudged}
-use Rattle.spares.specs.Promises.{tableAfter}
+use Rattle.spares.specs.History.{tableAfter}
 use Rattle.spares.proofs.Exact.{Ready, table-ready, table-passes, block-ready, block-below, block-exactly, replace-exactly}
 
 -- a chain gives no number above those of its checks
@@ -41,7 +41,7 @@ module _ (shape : Shape) (r : ℕ) (t : List ℕ) where
   -- the census of a table that passes has every place in it
   pub census-whole :
       tableFault shape r t ≡ 0 →
-      codeCount t free + (codeCount t atPrimary + (codeCount t elsewhere + (codeCount t unusable + codeCount t null))) ≡ tableLength (layoutOf shape r)
+      codeCount t free + (codeCount t atPrimary + (codeCount t elsewhere + (codeCount t unusable + codeCount t null))) ≡ tableLength (driveOf shape r)
   census-whole none = let ready = table-ready shape r t none in five-counts (ready .obeys) ∙ ready .obeys .long
 
   module _ (b : ℕ) where
@@ -53,13 +53,13 @@ module _ (shape : Shape) (r : ℕ) (t : List ℕ) where
     replace-at-home none =
         passed-not (tells-replaced t b) alreadyReplaced (omega arith) (orElse-first (refuse (isReplaced t b) alreadyReplaced) _ (orElse-next (blockFault shape r t b) _ none))
 
-    pub replace-spare : replaceFault shape r t b ≡ 0 → spareFor (layoutOf shape r) t b < length t
+    pub replace-spare : replaceFault shape r t b ≡ 0 → spareFor (driveOf shape r) t b < length t
     replace-spare none =
-        byLt (spareFor (layoutOf shape r) t b) (length t)
+        byLt (spareFor (driveOf shape r) t b) (length t)
         (λ found. found)
         (λ past.
         absurd
-        (passed-not (tells-le (length t) (spareFor (layoutOf shape r) t b)) noSpare (omega arith)
+        (passed-not (tells-le (length t) (spareFor (driveOf shape r) t b)) noSpare (omega arith)
         (orElse-next (refuse (isReplaced t b) alreadyReplaced) _ (orElse-next (blockFault shape r t b) _ none))
         past))
 
@@ -68,10 +68,10 @@ module _ (shape : Shape) (r : ℕ) (t : List ℕ) where
       pub replace-twice : isReplaced t b ≡ true → replaceFault shape r t b ≡ alreadyReplaced
       replace-twice e = rw (none, e)
 
-      pub replace-fails : isReplaced t b ≡ false → leb (length t) (spareFor (layoutOf shape r) t b) ≡ true → replaceFault shape r t b ≡ noSpare
+      pub replace-fails : isReplaced t b ≡ false → leb (length t) (spareFor (driveOf shape r) t b) ≡ true → replaceFault shape r t b ≡ noSpare
       replace-fails e f = rw (none, e, f)
 
-      pub replace-passes : isReplaced t b ≡ false → leb (length t) (spareFor (layoutOf shape r) t b) ≡ false → replaceFault shape r t b ≡ 0
+      pub replace-passes : isReplaced t b ≡ false → leb (length t) (spareFor (driveOf shape r) t b) ≡ false → replaceFault shape r t b ≡ 0
       replace-passes e f = rw (none, e, f)
 
     -- refused 13 exactly when 1, 11, 5 and 12 do not refuse and no place is free
@@ -84,7 +84,7 @@ module _ (shape : Shape) (r : ℕ) (t : List ℕ) where
         byBool (isReplaced t b)
         (λ e. let other : alreadyReplaced ≡ noSpare = rw e at rest in absurd (omega arith))
         (λ e.
-        byBool (leb (length t) (spareFor (layoutOf shape r) t b))
+        byBool (leb (length t) (spareFor (driveOf shape r) t b))
         (λ f. (none, (tells-false (tells-replaced t b) e, tells-none-free (ready .laid) (ready .obeys) (block-below shape r t b none) .holds f)))
         (λ f. let other : 0 ≡ noSpare = rw (e, f) at rest in absurd (omega arith))))
         (λ some.
@@ -97,24 +97,24 @@ module _ (shape : Shape) (r : ℕ) (t : List ℕ) where
             (orElse-few (driveFault shape r) _ badTable
             (orElse-few (shapeFault shape) _ badTable
             (refuse-few (not (shaped shape)) outOfRange badTable (omega arith))
-            (refuse-few (not (drives shape r)) outOfRange badTable (omega arith)))
-            (refuse-few (not (obeys (layoutOf shape r) t)) badTable badTable (omega arith)))
-            (refuse-few (leb (layoutOf shape r .blocks) b) noSuchBlock badTable (omega arith))
+            (refuse-few (not (spared shape r)) outOfRange badTable (omega arith)))
+            (refuse-few (not (obeys (driveOf shape r) t)) badTable badTable (omega arith)))
+            (refuse-few (leb (driveOf shape r .blocks) b) noSuchBlock badTable (omega arith))
 
     pub no-spare-told : blockFault shape r t b ≡ 0 → (Replaced t b → ⊥) → NoneFree t → replaceFault shape r t b ≡ noSpare
     no-spare-told none at-home none-free =
         replace-exactly shape r t b .only noSpare (later (subst (BlockJudged shape r t b) none (block-exactly shape r t b .judged)) (later (When.passed at-home) (When.given none-free)))
 
     -- the table that an accepted replacement leaves
-    pub replace-leaves : replaceFault shape r t b ≡ 0 → tableAfter shape r t b ≡ replacedIn (layoutOf shape r) t b
-    replace-leaves none = answer-accepted (replaceFault shape r t b) (λ k. t) (replacedIn (layoutOf shape r) t b) none
+    pub replace-leaves : replaceFault shape r t b ≡ 0 → tableAfter shape r t b ≡ replacedIn (driveOf shape r) t b
+    replace-leaves none = answer-accepted (replaceFault shape r t b) (λ k. t) (replacedIn (driveOf shape r) t b) none
 
     -- and that a refused one leaves
     pub refusal-leaves : (replaceFault shape r t b ≡ 0 → ⊥) → tableAfter shape r t b ≡ t
-    refusal-leaves some = answer-refused (replaceFault shape r t b) (λ k. t) (replacedIn (layoutOf shape r) t b) some
+    refusal-leaves some = answer-refused (replaceFault shape r t b) (λ k. t) (replacedIn (driveOf shape r) t b) some
 
     -- one descriptor is altered, which was free, and every other block lies where it lay
-    pub replace-alters : replaceFault shape r t b ≡ 0 → Altered (layoutOf shape r) t b (spareFor (layoutOf shape r) t b) (tableAfter shape r t b)
+    pub replace-alters : replaceFault shape r t b ≡ 0 → Altered (driveOf shape r) t b (spareFor (driveOf shape r) t b) (tableAfter shape r t b)
     replace-alters none =
         let block = replace-block none in
         let ready = block-ready shape r t b block in
@@ -130,26 +130,26 @@ module _ (shape : Shape) (r : ℕ) (t : List ℕ) where
 
     -- an accepted call takes one free place, and the code of the place has one more
     module _ (accepted : replaceFault shape r t b ≡ 0) where
-      altered : Altered (layoutOf shape r) t b (spareFor (layoutOf shape r) t b) (tableAfter shape r t b)
+      altered : Altered (driveOf shape r) t b (spareFor (driveOf shape r) t b) (tableAfter shape r t b)
       altered = replace-alters accepted
 
       ready : Ready shape r t
       ready = block-ready shape r t b (replace-block accepted)
 
-      below : b < layoutOf shape r .blocks
+      below : b < driveOf shape r .blocks
       below = block-below shape r t b (replace-block accepted)
 
       pub replace-free-less : codeCount (tableAfter shape r t b) free + 1 ≡ codeCount t free
       replace-free-less = rw (replace-leaves accepted) (free-less (ready .laid) t below (altered .in-table) (altered .was-free))
 
       pub replace-code-more :
-          codeCount (tableAfter shape r t b) (codeAt (layoutOf shape r) (spareFor (layoutOf shape r) t b) b)
-          ≡ codeCount t (codeAt (layoutOf shape r) (spareFor (layoutOf shape r) t b) b) + 1
+          codeCount (tableAfter shape r t b) (codeAt (driveOf shape r) (spareFor (driveOf shape r) t b) b)
+          ≡ codeCount t (codeAt (driveOf shape r) (spareFor (driveOf shape r) t b) b) + 1
       replace-code-more = rw (replace-leaves accepted) (code-more (ready .laid) t below (altered .in-table) (altered .was-free))
 
       -- every other code has as many places as it had
       pub replace-others-counted :
-          (code : ℕ) → (code ≡ free → ⊥) → (code ≡ codeAt (layoutOf shape r) (spareFor (layoutOf shape r) t b) b → ⊥) →
+          (code : ℕ) → (code ≡ free → ⊥) → (code ≡ codeAt (driveOf shape r) (spareFor (driveOf shape r) t b) b → ⊥) →
           codeCount (tableAfter shape r t b) code ≡ codeCount t code
       replace-others-counted code used apart =
           rw (replace-leaves accepted) (others-counted (ready .laid) t below (altered .in-table) (altered .was-free) code used apart)

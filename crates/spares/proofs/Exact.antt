@@ -11,9 +11,9 @@ use Rattle.paper.proofs.Chain.{orElse-first, orElse-next}
 use Rattle.paper.proofs.Rows.{tells-le, passed-not, row, rows, rows-passed}
 use Rattle.shape.specs.declared.Shape.{Shape}
 use Rattle.shape.specs.Shapes.{Shaped, sizeOf}
-use Rattle.shape.specs.Addresses.{PlaceJudged}
+use Rattle.shape.specs.Addresses.{OffDriveJudged}
 use Rattle.shape.proofs.Exact.{place-exactly}
-use Rattle.layout.specs.Layouts.{Drives, Laid, layoutOf, sectorsOf, driveFault}
+use Rattle.layout.specs.Layouts.{Spared, Laid, driveOf, sectorsPerTrack, driveFault}
 use Rattle.layout.proofs.Layings.{drive-whole}
 use Rattle.layout.proofs.Exact.{drive-shows}
 use Rattle.table.specs.Rules.{Obeys, tableFault, TableJudged}
@@ -28,12 +28,12 @@ use Rattle.spares.specs.Spares.{blockFault, blockOnFault, blockAtFault, 
 -- what checks 1 and 11 show
 pub record Ready (shape : Shape) (r : ℕ) (t : List ℕ) : Type 0 where
   pub shaped : Shaped shape
-  pub drives : Drives shape r
-  pub laid : Laid (layoutOf shape r)
-  pub obeys : Obeys (layoutOf shape r) t
+  pub drives : Spared shape r
+  pub laid : Laid (driveOf shape r)
+  pub obeys : Obeys (driveOf shape r) t
 
 -- a sector below N is one of the layout's
-pub sector-within : {shape : Shape} {r s : ℕ} → Drives shape r → s < sizeOf shape → s < layoutOf shape r .tracks * sectorsOf (layoutOf shape r)
+pub sector-within : {shape : Shape} {r s : ℕ} → Spared shape r → s < sizeOf shape → s < driveOf shape r .tracks * sectorsPerTrack (driveOf shape r)
 sector-within drives below = rw (drive-whole drives) below
 
 module _ (shape : Shape) (r : ℕ) (t : List ℕ) where
@@ -43,24 +43,24 @@ module _ (shape : Shape) (r : ℕ) (t : List ℕ) where
       let table = table-shows shape r t none in
       record { shaped = drive .0; drives = drive .1; laid = table .0; obeys = table .1 }
 
-  pub table-passes : driveFault shape r ≡ 0 → Obeys (layoutOf shape r) t → tableFault shape r t ≡ 0
-  table-passes none obeys = rw (none, obeys-told (layoutOf shape r) t obeys)
+  pub table-passes : driveFault shape r ≡ 0 → Obeys (driveOf shape r) t → tableFault shape r t ≡ 0
+  table-passes none obeys = rw (none, obeys-told (driveOf shape r) t obeys)
 
   module _ (b : ℕ) where
     pub block-ready : blockFault shape r t b ≡ 0 → Ready shape r t
     block-ready none = table-ready (orElse-first (tableFault shape r t) _ none)
 
-    pub block-below : blockFault shape r t b ≡ 0 → b < layoutOf shape r .blocks
+    pub block-below : blockFault shape r t b ≡ 0 → b < driveOf shape r .blocks
     block-below none =
-        byLt b (layoutOf shape r .blocks)
+        byLt b (driveOf shape r .blocks)
         (λ below. below)
-        (λ past. absurd (passed-not (tells-le (layoutOf shape r .blocks) b) noSuchBlock (omega arith) (orElse-next (tableFault shape r t) _ none) past))
+        (λ past. absurd (passed-not (tells-le (driveOf shape r .blocks) b) noSuchBlock (omega arith) (orElse-next (tableFault shape r t) _ none) past))
 
     pub block-exactly : Exactly (BlockJudged shape r t b) (blockFault shape r t b)
     block-exactly =
-        rows (TableJudged shape r t) (When noSuchBlock (layoutOf shape r .blocks ≤ b))
+        rows (TableJudged shape r t) (When noSuchBlock (driveOf shape r .blocks ≤ b))
         (table-exactly shape r t)
-        (row (tells-le (layoutOf shape r .blocks) b) noSuchBlock)
+        (row (tells-le (driveOf shape r .blocks) b) noSuchBlock)
 
     pub replace-exactly : Exactly (ReplaceJudged shape r t b) (replaceFault shape r t b)
     replace-exactly =
@@ -78,4 +78,4 @@ module _ (shape : Shape) (r : ℕ) (t : List ℕ) where
 
   pub block-at-exactly : (cylinder head sector : ℕ) → Exactly (BlockAtJudged shape r t cylinder head sector) (blockAtFault shape r t cylinder head sector)
   block-at-exactly cylinder head sector =
-      rows (TableJudged shape r t) (PlaceJudged shape cylinder head sector) (table-exactly shape r t) (place-exactly shape cylinder head sector)
+      rows (TableJudged shape r t) (OffDriveJudged shape cylinder head sector) (table-exactly shape r t) (place-exactly shape cylinder head sector)

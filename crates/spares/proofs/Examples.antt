@@ -5,12 +5,19 @@ use mathlib.Core.Path.{_≡_, refl}
 use mathlib.Core.List.{List, _∷_}
 use lib.IntN.{pos, negsuc}
 use lib.ListN.{replicate}
+use Rattle.paper.specs.Checks.{answer}
 use Rattle.seek.specs.First.{firstBelow}
 use Rattle.seek.specs.Every.{allBelow}
 use Rattle.shape.specs.declared.Shape.{Shape}
+use Rattle.layout.specs.Layouts.{driveOf}
 use Rattle.table.specs.Lookup.{placeOf}
-use Rattle.spares.specs.declared.Shifted.the-variants.{By}
-use Rattle.spares.specs.Promises.{shifted}
+use Rattle.spares.specs.declared.Shifted.{Shifted}
+use Rattle.spares.specs.declared.Shifted.the-variants.{By, Refused}
+use Rattle.spares.specs.Spares.{shiftOf, blockFault}
+
+-- what `spares::shift` answers
+abbrev shifted : Shape → ℕ → List ℕ → ℕ → Shifted
+shifted shape r t b = answer (blockFault shape r t b) Refused (By (shiftOf (driveOf shape r) t b))
 
 abbrev small : Shape
 small = record { cylinders = 4; heads = 1; sectors = 3 }

@@ -7,12 +7,12 @@ use native.Mathlib.Omega.{arith}
 use lib.ListN.{length}
 use Rattle.paper.proofs.Chain.{orElse-first}
 use Rattle.shape.specs.declared.Shape.{Shape}
-use Rattle.layout.specs.Layouts.{layoutOf, driveFault}
+use Rattle.layout.specs.Layouts.{driveOf, driveFault}
 use Rattle.layout.specs.Descriptors.{free}
 use Rattle.table.specs.Rules.{tableFault}
 use Rattle.replacing.specs.Counting.{codeCount}
 use Rattle.marking.specs.Marks.{badSpares, badHomes}
-use Rattle.first.specs.First.{firstTable, firstFault}
+use Rattle.first.specs.First.{firstTable, firstTableFault}
 use Rattle.first.proofs.Exact.{first-made}
 use Rattle.spares.specs.History.{Call, reads, replaces, afterCall, acceptedBy, afterAll, accepted}
 use Rattle.spares.proofs.Exact.{table-passes}
@@ -39,15 +39,15 @@ module _ (shape : Shape) (r : ℕ) where
   history-frees t [] = omega arith
   history-frees t (call ∷ calls) = omega (arith, history-frees (afterCall shape r t call) calls, call-frees t call)
 
-  module _ (list room : List ℕ) (none : firstFault shape r list room ≡ 0) where
+  module _ (list room : List ℕ) (none : firstTableFault shape r list room ≡ 0) where
     -- a first table passes
-    pub first-passes : tableFault shape r (firstTable (layoutOf shape r) list) ≡ 0
-    first-passes = table-passes shape r (firstTable (layoutOf shape r) list) (orElse-first (driveFault shape r) _ none) (first-made shape r list room none .obeys)
+    pub first-passes : tableFault shape r (firstTable (driveOf shape r) list) ≡ 0
+    first-passes = table-passes shape r (firstTable (driveOf shape r) list) (orElse-first (driveFault shape r) _ none) (first-made shape r list room none .obeys)
 
     -- of the spares, the bad ones, those that the bad homes took and those that accepted calls took are free no more
     pub census-law :
         (calls : List Call) →
-        codeCount (afterAll shape r (firstTable (layoutOf shape r) list) calls) free
-        ≡ layoutOf shape r .spares - badSpares (layoutOf shape r) list - length (badHomes (layoutOf shape r) list)
-        - accepted shape r (firstTable (layoutOf shape r) list) calls
-    census-law calls = omega (arith, history-frees (firstTable (layoutOf shape r) list) calls, first-made shape r list room none .free-left)
+        codeCount (afterAll shape r (firstTable (driveOf shape r) list) calls) free
+        ≡ driveOf shape r .spares - badSpares (driveOf shape r) list - length (badHomes (driveOf shape r) list)
+        - accepted shape r (firstTable (driveOf shape r) list) calls
+    census-law calls = omega (arith, history-frees (firstTable (driveOf shape r) list) calls, first-made shape r list room none .free-left)

@@ -1,5 +1,4 @@
 pub mod Exact
-pub mod Says
 pub mod Shifts
 pub mod Accepted
 pub mod Examples

@@ -15,8 +15,8 @@ use Rattle.paper.specs.Limits.{unitsMost}
 use Rattle.paper.proofs.Cases.{byBool, byLt}
 use Rattle.paper.proofs.Rows.{tells-lt}
 use Rattle.shape.specs.declared.Shape.{Shape}
-use Rattle.layout.specs.declared.Layout.{Layout}
-use Rattle.layout.specs.Layouts.{Laid, layoutOf, homeCylinder, spareCylinder}
+use Rattle.layout.specs.declared.Drive.{Drive}
+use Rattle.layout.specs.Layouts.{Laid, driveOf, homeCylinder, spareCylinder}
 use Rattle.layout.proofs.Sectors.{blocks-few, home-cylinder-below, spare-cylinder-below}
 use Rattle.table.specs.Rules.{Obeys}
 use Rattle.table.specs.Lookup.{placeOf, Replaced, isReplaced}
@@ -42,43 +42,43 @@ difference-fits a (suc b) h l =
 pub cylinder-is : (a : ℕ) → a < unitsMost → toZ w32 a ≡ pos a
 cylinder-is a h = toZ-pos w32 (omega arith)
 
-module _ {g : Layout} (laid : Laid g) where
+module _ {drive : Drive} (laid : Laid drive) where
   -- the cylinders of homes and spares are few
-  pub home-cylinder-few : {b : ℕ} → b < g .blocks → homeCylinder g b < unitsMost
-  home-cylinder-few {b} below = omega (arith, blocks-few laid, div-le-self b (g .home), div-le-self (b / g .home) (g .heads))
+  pub home-cylinder-few : {b : ℕ} → b < drive .blocks → homeCylinder drive b < unitsMost
+  home-cylinder-few {b} below = omega (arith, blocks-few laid, div-le-self b (drive .l), div-le-self (b / drive .l) (drive .heads))
 
-  pub spare-cylinder-few : {q : ℕ} → q < g .spares → spareCylinder g q < unitsMost
-  spare-cylinder-few {q} below = omega (arith, laid .spares-fit, div-le-self q (g .spare), div-le-self (q / g .spare) (g .heads))
+  pub spare-cylinder-few : {q : ℕ} → q < drive .spares → spareCylinder drive q < unitsMost
+  spare-cylinder-few {q} below = omega (arith, laid .spares-fit, div-le-self q (drive .r), div-le-self (q / drive .r) (drive .heads))
 
-module _ (g : Layout) (t : List ℕ) (b : ℕ) where
+module _ (drive : Drive) (t : List ℕ) (b : ℕ) where
   -- a block at home is not shifted
-  pub shift-at-home : (Replaced t b → ⊥) → shiftOf g t b ≡ pos 0
+  pub shift-at-home : (Replaced t b → ⊥) → shiftOf drive t b ≡ pos 0
   shift-at-home at-home = byBool (isReplaced t b) (λ e. absurd (at-home (tells-replaced t b .holds e))) (λ e. rw e)
 
-  pub shift-replaced : placeOf t b < length t → shiftOf g t b ≡ pos (spareCylinder g (placeOf t b)) -ℤ pos (homeCylinder g b)
+  pub shift-replaced : placeOf t b < length t → shiftOf drive t b ≡ pos (spareCylinder drive (placeOf t b)) -ℤ pos (homeCylinder drive b)
   shift-replaced h = rw (lt-ltb (placeOf t b) (length t) h)
 
   -- the shift leads from the home's cylinder to the spare's
-  pub shift-leads : placeOf t b < length t → pos (homeCylinder g b) +ℤ shiftOf g t b ≡ pos (spareCylinder g (placeOf t b))
+  pub shift-leads : placeOf t b < length t → pos (homeCylinder drive b) +ℤ shiftOf drive t b ≡ pos (spareCylinder drive (placeOf t b))
   shift-leads h =
-      rw (shift-replaced h, +ℤ-comm (pos (homeCylinder g b)) (pos (spareCylinder g (placeOf t b)) -ℤ pos (homeCylinder g b)))
-      (-ℤ-+ℤ-cancel (pos (spareCylinder g (placeOf t b))) (pos (homeCylinder g b)))
+      rw (shift-replaced h, +ℤ-comm (pos (homeCylinder drive b)) (pos (spareCylinder drive (placeOf t b)) -ℤ pos (homeCylinder drive b)))
+      (-ℤ-+ℤ-cancel (pos (spareCylinder drive (placeOf t b))) (pos (homeCylinder drive b)))
 
   -- and is less than C to either side
   pub shift-within :
-      Laid g → Obeys g t → b < g .blocks → (cylinders : ℕ) → g .tracks ≡ cylinders * g .heads → natAbs (shiftOf g t b) < cylinders
+      Laid drive → Obeys drive t → b < drive .blocks → (cylinders : ℕ) → drive .tracks ≡ cylinders * drive .heads → natAbs (shiftOf drive t b) < cylinders
   shift-within laid o below cylinders tracks =
       byBool (isReplaced t b)
       (λ e.
       let h : placeOf t b < length t = tells-lt (placeOf t b) (length t) .holds e in
       rw e
-      (difference-within (spareCylinder g (placeOf t b)) (homeCylinder g b) cylinders
+      (difference-within (spareCylinder drive (placeOf t b)) (homeCylinder drive b) cylinders
       (spare-cylinder-below laid (place-spare o b h) cylinders tracks)
       (home-cylinder-below laid below cylinders tracks)))
       (λ e. rw e (omega (arith, home-cylinder-below laid below cylinders tracks)))
 
 -- the same for the call: a shift that is answered is less than C to either side
-pub shift-answered : (shape : Shape) (r : ℕ) (t : List ℕ) (b : ℕ) → blockFault shape r t b ≡ 0 → natAbs (shiftOf (layoutOf shape r) t b) < shape .cylinders
+pub shift-answered : (shape : Shape) (r : ℕ) (t : List ℕ) (b : ℕ) → blockFault shape r t b ≡ 0 → natAbs (shiftOf (driveOf shape r) t b) < shape .cylinders
 shift-answered shape r t b none =
     let ready = block-ready shape r t b none in
-    shift-within (layoutOf shape r) t b (ready .laid) (ready .obeys) (block-below shape r t b none) (shape .cylinders) refl
+    shift-within (driveOf shape r) t b (ready .laid) (ready .obeys) (block-below shape r t b none) (shape .cylinders) refl

@@ -3,13 +3,18 @@ use Prim.Native.Nat.{ℕ, _+_}
 use mathlib.Core.List.{List, [], _∷_}
 use Rattle.paper.specs.Checks.{answer}
 use Rattle.shape.specs.declared.Shape.{Shape}
+use Rattle.layout.specs.Layouts.{driveOf}
+use Rattle.replacing.specs.Replacing.{replacedIn}
 use Rattle.spares.specs.Spares.{replaceFault}
-use Rattle.spares.specs.Promises.{tableAfter}
 
 -- a call that is lent the table to read alone, or a replacement of a block
 pub data Call : Type 0 where
   reads : Call
   replaces : ℕ → Call
+
+-- the table that a replacement leaves
+abbrev pub tableAfter : Shape → ℕ → List ℕ → ℕ → List ℕ
+tableAfter shape r t b = answer (replaceFault shape r t b) (λ fault. t) (replacedIn (driveOf shape r) t b)
 
 -- the table after a call
 abbrev pub afterCall : Shape → ℕ → List ℕ → Call → List ℕ

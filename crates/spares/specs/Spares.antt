@@ -1,5 +1,5 @@
 -- Document 01, "Descriptors and spares": the checks of the calls on a revectored drive, and the shift from home to spare.
-use Prim.Native.Nat.{ℕ, _≤_}
+use Prim.Native.Nat.{ℕ}
 use mathlib.Core.List.{List}
 use lib.Dec.{leb}
 use lib.IntN.{ℤ, pos, _-ℤ_}
@@ -7,22 +7,23 @@ use lib.ListN.{length}
 use Rattle.paper.specs.Checks.{pick, refuse, _orElse_}
 use Rattle.paper.specs.Refusals.{noSuchBlock, noSuchSector, alreadyReplaced, noSpare}
 use Rattle.paper.specs.Exactly.{When, _andThen_}
+use Rattle.paper.specs.Conditions.{NotBelow}
 use Rattle.shape.specs.declared.Shape.{Shape}
 use Rattle.shape.specs.Shapes.{sizeOf}
-use Rattle.shape.specs.Addresses.{placeFault, PlaceJudged}
-use Rattle.layout.specs.declared.Layout.{Layout}
-use Rattle.layout.specs.Layouts.{layoutOf, homeCylinder, spareCylinder}
+use Rattle.shape.specs.Addresses.{offDriveFault, OffDriveJudged}
+use Rattle.layout.specs.declared.Drive.{Drive}
+use Rattle.layout.specs.Layouts.{driveOf, homeCylinder, spareCylinder}
 use Rattle.table.specs.Rules.{tableFault, TableJudged}
 use Rattle.table.specs.Lookup.{placeOf, Replaced, isReplaced}
 use Rattle.replacing.specs.Replacing.{spareFor, NoneFree}
 
 -- the cylinder of the spare less that of the home, and 0 for a block at home
-abbrev pub shiftOf : Layout → List ℕ → ℕ → ℤ
-shiftOf g t b = pick (isReplaced t b) (pos (spareCylinder g (placeOf t b)) -ℤ pos (homeCylinder g b)) (pos 0)
+abbrev pub shiftOf : Drive → List ℕ → ℕ → ℤ
+shiftOf drive t b = pick (isReplaced t b) (pos (spareCylinder drive (placeOf t b)) -ℤ pos (homeCylinder drive b)) (pos 0)
 
 -- checks 1, 11, 5
 abbrev pub blockFault : Shape → ℕ → List ℕ → ℕ → ℕ
-blockFault shape r t b = tableFault shape r t orElse refuse (leb (layoutOf shape r .blocks) b) noSuchBlock
+blockFault shape r t b = tableFault shape r t orElse refuse (leb (driveOf shape r .blocks) b) noSuchBlock
 
 -- checks 1, 11, 6 for a sector number
 abbrev pub blockOnFault : Shape → ℕ → List ℕ → ℕ → ℕ
@@ -30,26 +31,26 @@ blockOnFault shape r t s = tableFault shape r t orElse refuse (leb (sizeOf shape
 
 -- checks 1, 11, 6 for cylinder, head and sector
 abbrev pub blockAtFault : Shape → ℕ → List ℕ → ℕ → ℕ → ℕ → ℕ
-blockAtFault shape r t cylinder head sector = tableFault shape r t orElse placeFault shape cylinder head sector
+blockAtFault shape r t cylinder head sector = tableFault shape r t orElse offDriveFault shape cylinder head sector
 
 -- checks 1, 11, 5, 12, 13
 abbrev pub replaceFault : Shape → ℕ → List ℕ → ℕ → ℕ
 replaceFault shape r t b =
     blockFault shape r t b
     orElse refuse (isReplaced t b) alreadyReplaced
-    orElse refuse (leb (length t) (spareFor (layoutOf shape r) t b)) noSpare
+    orElse refuse (leb (length t) (spareFor (driveOf shape r) t b)) noSpare
 
 -- exactly when `spares::sector_of`, `address_of` and `shift` give each number
 abbrev pub BlockJudged : Shape → ℕ → List ℕ → ℕ → ℕ → Type 0
-BlockJudged shape r t b = TableJudged shape r t andThen When noSuchBlock (layoutOf shape r .blocks ≤ b)
+BlockJudged shape r t b = TableJudged shape r t andThen When noSuchBlock (NotBelow (driveOf shape r .blocks) b)
 
 -- exactly when `spares::block_on` gives each number
 abbrev pub BlockOnJudged : Shape → ℕ → List ℕ → ℕ → ℕ → Type 0
-BlockOnJudged shape r t s = TableJudged shape r t andThen When noSuchSector (sizeOf shape ≤ s)
+BlockOnJudged shape r t s = TableJudged shape r t andThen When noSuchSector (NotBelow (sizeOf shape) s)
 
 -- exactly when `spares::block_at` gives each number
 abbrev pub BlockAtJudged : Shape → ℕ → List ℕ → ℕ → ℕ → ℕ → ℕ → Type 0
-BlockAtJudged shape r t cylinder head sector = TableJudged shape r t andThen PlaceJudged shape cylinder head sector
+BlockAtJudged shape r t cylinder head sector = TableJudged shape r t andThen OffDriveJudged shape cylinder head sector
 
 -- exactly when `spares::replace` gives each number: 13 only where no place is free
 abbrev pub ReplaceJudged : Shape → ℕ → List ℕ → ℕ → ℕ → Type 0

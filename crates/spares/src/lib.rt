@@ -8,7 +8,7 @@ ghost use Rattle.table.specs.Rules.{Obeys};
 ghost use Rattle.spares.specs.Spares.{shiftOf, blockFault};
 ghost use Rattle.first.specs.Promises.{FirstTable};
 ghost use Rattle.spares.specs.Promises.{SectorOf, AddressOf, ShiftOf, BlockOn, BlockAt, Replacement, CensusOf};
-use layout::Layout;
+use layout::Drive;
 use paper::ALREADY_REPLACED;
 use paper::NO_SPARE;
 use paper::NO_SUCH_BLOCK;
@@ -39,13 +39,13 @@ pub enum Counted {
 
 // Refusal 1 for the drive's numbers, 11 for its table, 5 for a block number that is too high, else 0. Only other crates call this.
 pub fn block_fault(shape: Shape, r: u32, table: &[u32], block: u32) -> u32
-    ensures { λ fault. ⌜ fault ≡ blockFault shape r (now (table .entry)) block ⌝ }
+    ensures { λ result. ⌜ result ≡ blockFault shape r (now (table .entry)) block ⌝ }
 {
     let fault = table::table_fault(shape, r, table);
     if fault != 0 {
         return fault;
     }
-    if layout::layout_of(shape, r).blocks <= block {
+    if layout::drive_of(shape, r).blocks <= block {
         return NO_SUCH_BLOCK;
     }
     0
@@ -53,18 +53,18 @@ pub fn block_fault(shape: Shape, r: u32, table: &[u32], block: u32) -> u32
 
 // Block to sector number. Checks 1, 11, 5.
 pub fn sector_of(shape: Shape, r: u32, table: &[u32], block: u32) -> Placed
-    ensures { λ p. ⌜ SectorOf shape r (now (table .entry)) block p ⌝ }
+    ensures { λ result. ⌜ SectorOf shape r (now (table .entry)) block result ⌝ }
 {
     let fault = block_fault(shape, r, table, block);
     if fault != 0 {
         return Placed::Refused(fault);
     }
-    Placed::At(table::lies_on(layout::layout_of(shape, r), table, block))
+    Placed::At(table::lies_on(layout::drive_of(shape, r), table, block))
 }
 
 // Block to cylinder, head and sector. Checks 1, 11, 5.
 pub fn address_of(shape: Shape, r: u32, table: &[u32], block: u32) -> Located
-    ensures { λ p. ⌜ AddressOf shape r (now (table .entry)) block p ⌝ }
+    ensures { λ result. ⌜ AddressOf shape r (now (table .entry)) block result ⌝ }
 {
     let fault = block_fault(shape, r, table, block);
     if fault != 0 {
@@ -72,7 +72,7 @@ pub fn address_of(shape: Shape, r: u32, table: &[u32], block: u32) -> Located
     }
     Located::At(shape::address_at(
         shape,
-        table::lies_on(layout::layout_of(shape, r), table, block),
+        table::lies_on(layout::drive_of(shape, r), table, block),
     ))
 }
 
@@ -80,40 +80,40 @@ pub fn address_of(shape: Shape, r: u32, table: &[u32], block: u32) -> Located
 fn cylinders_between(home: u32, spare: u32) -> i32
     requires { ⌜ home < unitsMost ⌝ }
     requires { ⌜ spare < unitsMost ⌝ }
-    ensures { λ d. ⌜ d ≡ pos spare -ℤ pos home ⌝ }
+    ensures { λ result. ⌜ result ≡ pos spare -ℤ pos home ⌝ }
 {
     spare as i32 - home as i32
 }
 
 // The shift of a block. Only other crates call this.
-pub fn shift_of(g: Layout, table: &[u32], block: u32) -> i32
-    requires { ⌜ Laid g ⌝ }
-    requires { ⌜ Obeys g (now table) ⌝ }
-    requires { ⌜ block < g .blocks ⌝ }
-    ensures { λ d. ⌜ d ≡ shiftOf g (now (table .entry)) block ⌝ }
+pub fn shift_of(drive: Drive, table: &[u32], block: u32) -> i32
+    requires { ⌜ Laid drive ⌝ }
+    requires { ⌜ Obeys drive (now table) ⌝ }
+    requires { ⌜ block < drive .blocks ⌝ }
+    ensures { λ result. ⌜ result ≡ shiftOf drive (now (table .entry)) block ⌝ }
 {
     let place = table::place_of(table, block);
     if place < table.len() {
-        let home = layout::home_cylinder(g, block);
-        return cylinders_between(home, layout::spare_cylinder(g, place as u32));
+        let home = layout::home_cylinder(drive, block);
+        return cylinders_between(home, layout::spare_cylinder(drive, place as u32));
     }
     0
 }
 
 // How far a block's spare is from its home. Checks 1, 11, 5.
 pub fn shift(shape: Shape, r: u32, table: &[u32], block: u32) -> Shifted
-    ensures { λ p. ⌜ ShiftOf shape r (now (table .entry)) block p ⌝ }
+    ensures { λ result. ⌜ ShiftOf shape r (now (table .entry)) block result ⌝ }
 {
     let fault = block_fault(shape, r, table, block);
     if fault != 0 {
         return Shifted::Refused(fault);
     }
-    Shifted::By(shift_of(layout::layout_of(shape, r), table, block))
+    Shifted::By(shift_of(layout::drive_of(shape, r), table, block))
 }
 
 // Sector number to block. Checks 1, 11, 6.
 pub fn block_on(shape: Shape, r: u32, table: &[u32], sector: u32) -> Named
-    ensures { λ p. ⌜ BlockOn shape r (now (table .entry)) sector p ⌝ }
+    ensures { λ result. ⌜ BlockOn shape r (now (table .entry)) sector result ⌝ }
 {
     let fault = table::table_fault(shape, r, table);
     if fault != 0 {
@@ -122,28 +122,28 @@ pub fn block_on(shape: Shape, r: u32, table: &[u32], sector: u32) -> Named
     if shape::size_of(shape) <= sector {
         return Named::Refused(NO_SUCH_SECTOR);
     }
-    table::lying_on(layout::layout_of(shape, r), table, sector)
+    table::lying_on(layout::drive_of(shape, r), table, sector)
 }
 
 // Cylinder, head and sector to block. Checks 1, 11, 6.
 pub fn block_at(shape: Shape, r: u32, table: &[u32], cylinder: u32, head: u32, sector: u32) -> Named
-    ensures { λ p. ⌜ BlockAt shape r (now (table .entry)) cylinder head sector p ⌝ }
+    ensures { λ result. ⌜ BlockAt shape r (now (table .entry)) cylinder head sector result ⌝ }
 {
     let fault = table::table_fault(shape, r, table);
     if fault != 0 {
         return Named::Refused(fault);
     }
-    let fault = shape::place_fault(shape, cylinder, head, sector);
+    let fault = shape::off_drive_fault(shape, cylinder, head, sector);
     if fault != 0 {
         return Named::Refused(fault);
     }
     let sector = shape::sector_at(shape, cylinder, head, sector);
-    table::lying_on(layout::layout_of(shape, r), table, sector)
+    table::lying_on(layout::drive_of(shape, r), table, sector)
 }
 
 // Replaces a block: writes its descriptor at the first free place in its search order, and answers the place. Checks 1, 11, 5, 12, 13.
 pub fn replace(shape: Shape, r: u32, table: &mut [u32], block: u32) -> Replaced
-    ensures { λ p. ⌜ Replacement shape r (now (table .entry)) block p (now (table .exit)) ⌝ }
+    ensures { λ result. ⌜ Replacement shape r (now (table .entry)) block result (now (table .exit)) ⌝ }
 {
     let fault = block_fault(shape, r, table, block);
     if fault != 0 {
@@ -152,18 +152,18 @@ pub fn replace(shape: Shape, r: u32, table: &mut [u32], block: u32) -> Replaced
     if table::place_of(table, block) < table.len() {
         return Replaced::Refused(ALREADY_REPLACED);
     }
-    let g = layout::layout_of(shape, r);
-    let place = replacing::spare_for(g, table, block);
+    let drive = layout::drive_of(shape, r);
+    let place = replacing::spare_for(drive, table, block);
     if table.len() <= place {
         return Replaced::Refused(NO_SPARE);
     }
-    replacing::store(g, table, block, place);
+    replacing::store(drive, table, block, place);
     Replaced::Place(place as u32)
 }
 
 // Counts the descriptors of each code. Checks 1, 11.
 pub fn census(shape: Shape, r: u32, table: &[u32]) -> Counted
-    ensures { λ p. ⌜ CensusOf shape r (now (table .entry)) p ⌝ }
+    ensures { λ result. ⌜ CensusOf shape r (now (table .entry)) result ⌝ }
 {
     let fault = table::table_fault(shape, r, table);
     if fault != 0 {
@@ -174,7 +174,7 @@ pub fn census(shape: Shape, r: u32, table: &[u32]) -> Counted
 
 // The first table of a list of bad sectors, into the first places of the room: its length. Checks 1, list, 7, 13.
 pub fn first_table(shape: Shape, r: u32, list: &[u32], room: &mut [u32]) -> Written
-    ensures { λ w. ⌜ FirstTable shape r (now (list .entry)) (now (room .entry)) w (now (room .exit)) ⌝ }
+    ensures { λ result. ⌜ FirstTable shape r (now (list .entry)) (now (room .entry)) result (now (room .exit)) ⌝ }
 {
     first::build_first(shape, r, list, room)
 }

@@ -14,7 +14,7 @@ use Rattle.paper.proofs.Cases.{byBool, byEq}
 use Rattle.paper.proofs.Rows.{Tells, tells-eq, and-left, and-right}
 use Rattle.seek.specs.Every.{allBelow}
 use Rattle.seek.proofs.Everys.{every-here, here-every, Fails, one-fails}
-use Rattle.layout.specs.declared.Layout.{Layout}
+use Rattle.layout.specs.declared.Drive.{Drive}
 use Rattle.layout.specs.Layouts.{Laid}
 use Rattle.layout.specs.Descriptors.{numberOf, names}
 use Rattle.layout.proofs.Words.{tells-names}
@@ -22,28 +22,28 @@ use Rattle.table.specs.Rules.{tableLength, mayStand, namedFirst, obeys, 
 use Rattle.table.proofs.Standings.{tells-misplaced, allocated-stands}
 use Rattle.table.proofs.Once.{once-shows, once-told, Earlier, named-earlier}
 
-module _ (g : Layout) (t : List ℕ) where
-  pub obeys-shows : obeys g t ≡ true → Obeys g t
+module _ (drive : Drive) (t : List ℕ) where
+  pub obeys-shows : obeys drive t ≡ true → Obeys drive t
   obeys-shows e =
-      let rest = and-right (eqb (length t) (tableLength g)) (allBelow (λ q. mayStand g q (getD t q 0)) (length t) && allBelow (namedFirst t) (length t)) e in
+      let rest = and-right (eqb (length t) (tableLength drive)) (allBelow (λ q. mayStand drive q (getD t q 0)) (length t) && allBelow (namedFirst t) (length t)) e in
       record {
-        long = tells-eq (length t) (tableLength g) .holds (and-left (eqb (length t) (tableLength g)) (allBelow (λ q. mayStand g q (getD t q 0)) (length t) && allBelow (namedFirst t) (length t)) e);
-        stands = every-here (λ q. mayStand g q (getD t q 0)) (length t) (and-left (allBelow (λ q. mayStand g q (getD t q 0)) (length t)) (allBelow (namedFirst t) (length t)) rest);
-        once = once-shows t (and-right (allBelow (λ q. mayStand g q (getD t q 0)) (length t)) (allBelow (namedFirst t) (length t)) rest);
+        long = tells-eq (length t) (tableLength drive) .holds (and-left (eqb (length t) (tableLength drive)) (allBelow (λ q. mayStand drive q (getD t q 0)) (length t) && allBelow (namedFirst t) (length t)) e);
+        stands = every-here (λ q. mayStand drive q (getD t q 0)) (length t) (and-left (allBelow (λ q. mayStand drive q (getD t q 0)) (length t)) (allBelow (namedFirst t) (length t)) rest);
+        once = once-shows t (and-right (allBelow (λ q. mayStand drive q (getD t q 0)) (length t)) (allBelow (namedFirst t) (length t)) rest);
       }
 
-  pub obeys-told : Obeys g t → obeys g t ≡ true
+  pub obeys-told : Obeys drive t → obeys drive t ≡ true
   obeys-told o =
-      rw (eq-eqb (length t) (tableLength g) (o .long), here-every (λ q. mayStand g q (getD t q 0)) (length t) (o .stands)) (once-told t (o .once))
+      rw (eq-eqb (length t) (tableLength drive) (o .long), here-every (λ q. mayStand drive q (getD t q 0)) (length t) (o .stands)) (once-told t (o .once))
 
-  pub tells-obeys : Tells (obeys g t) (Obeys g t)
+  pub tells-obeys : Tells (obeys drive t) (Obeys drive t)
   tells-obeys = record { holds = obeys-shows; told = obeys-told }
 
   -- a table that breaks a rule does not obey them all
-  breaks-wrong : Breaks g t → Obeys g t → ⊥
+  breaks-wrong : Breaks drive t → Obeys drive t → ⊥
   breaks-wrong (other-length other) o = other (o .long)
   breaks-wrong (misplaced q h m) o =
-      let stands : true ≡ false = sym (o .stands q h) ∙ not-true (mayStand g q (getD t q 0)) (tells-misplaced g q (getD t q 0) .told m) in
+      let stands : true ≡ false = sym (o .stands q h) ∙ not-true (mayStand drive q (getD t q 0)) (tells-misplaced drive q (getD t q 0) .told m) in
       absurd (true≢false stands)
   breaks-wrong (named-twice p q early h there here same) o =
       let one : p ≡ q =
@@ -54,51 +54,51 @@ module _ (g : Layout) (t : List ℕ) where
       omega arith
 
   -- and a table that does not obey them all breaks one
-  wrong-breaks : obeys g t ≡ false → Breaks g t
+  wrong-breaks : obeys drive t ≡ false → Breaks drive t
   wrong-breaks e =
-      byEq (length t) (tableLength g)
+      byEq (length t) (tableLength drive)
       (λ long.
-      byBool (allBelow (λ q. mayStand g q (getD t q 0)) (length t))
+      byBool (allBelow (λ q. mayStand drive q (getD t q 0)) (length t))
       (λ stands.
-      let found : Fails (namedFirst t) (length t) = one-fails (namedFirst t) (length t) (rw (eq-eqb (length t) (tableLength g) long, stands) at e) in
+      let found : Fails (namedFirst t) (length t) = one-fails (namedFirst t) (length t) (rw (eq-eqb (length t) (tableLength drive) long, stands) at e) in
       let twice : Earlier t (found .place) = named-earlier t (found .place) (found .here) in
       named-twice (twice .place) (found .place) (twice .before) (found .below) (twice .there) (twice .here) (twice .same))
       (λ wrong.
-      let found : Fails (λ q. mayStand g q (getD t q 0)) (length t) = one-fails (λ q. mayStand g q (getD t q 0)) (length t) wrong in
-      misplaced (found .place) (found .below) (tells-misplaced g (found .place) (getD t (found .place) 0) .holds (rw (found .here)))))
+      let found : Fails (λ q. mayStand drive q (getD t q 0)) (length t) = one-fails (λ q. mayStand drive q (getD t q 0)) (length t) wrong in
+      misplaced (found .place) (found .below) (tells-misplaced drive (found .place) (getD t (found .place) 0) .holds (rw (found .here)))))
       other-length
 
-  pub tells-breaks : Tells (not (obeys g t)) (Breaks g t)
+  pub tells-breaks : Tells (not (obeys drive t)) (Breaks drive t)
   tells-breaks =
       record {
-        holds = λ e. wrong-breaks (not-true (obeys g t) e);
-        told = λ b. byBool (obeys g t) (λ e. absurd (breaks-wrong b (obeys-shows e))) (λ e. rw e);
+        holds = λ e. wrong-breaks (not-true (obeys drive t) e);
+        told = λ b. byBool (obeys drive t) (λ e. absurd (breaks-wrong b (obeys-shows e))) (λ e. rw e);
       }
 
 -- the table has a place for each spare
-pub spares-in-table : (g : Layout) → g .spares ≤ tableLength g
-spares-in-table g = omega arith
+pub spares-in-table : (drive : Drive) → drive .spares ≤ tableLength drive
+spares-in-table drive = omega arith
 
 -- and few places, since there are few spares
-pub table-few : {g : Layout} → Laid g → tableLength g ≤ sparesMost
+pub table-few : {drive : Drive} → Laid drive → tableLength drive ≤ sparesMost
 table-few laid = omega arith
 
-module _ {g : Layout} {t : List ℕ} (o : Obeys g t) where
-  pub spare-in : {q : ℕ} → q < g .spares → q < length t
-  spare-in h = omega (arith, o .long, spares-in-table g)
+module _ {drive : Drive} {t : List ℕ} (o : Obeys drive t) where
+  pub spare-in : {q : ℕ} → q < drive .spares → q < length t
+  spare-in h = omega (arith, o .long, spares-in-table drive)
 
   -- a place that names a block is a spare's place, and the block a home block
-  pub named-stands : {q b : ℕ} → q < length t → names (getD t q 0) b ≡ true → (q < g .spares) × (b < g .blocks)
+  pub named-stands : {q b : ℕ} → q < length t → names (getD t q 0) b ≡ true → (q < drive .spares) × (b < drive .blocks)
   named-stands {q} {b} h e =
       let named = tells-names (getD t q 0) b .holds e in
-      let stands = allocated-stands g q (getD t q 0) (o .stands q h) (named .0) in
+      let stands = allocated-stands drive q (getD t q 0) (o .stands q h) (named .0) in
       (stands .0, rw (named .1) at (stands .1))
 
   -- the one law of what may be stored: a word that may stand there, and whose block no other place names
   pub store-keeps :
-      (q w : ℕ) → q < length t → mayStand g q w ≡ true →
+      (q w : ℕ) → q < length t → mayStand drive q w ≡ true →
       ((p b : ℕ) → p < length t → (p ≡ q → ⊥) → names w b ≡ true → names (getD t p 0) b ≡ true → ⊥) →
-      Obeys g (set t q w)
+      Obeys drive (set t q w)
   store-keeps q w h stands alone =
       record {
         long = length-set t q w ∙ o .long;
@@ -112,7 +112,7 @@ module _ {g : Layout} {t : List ℕ} (o : Obeys g t) where
       other : (p : ℕ) → (p ≡ q → ⊥) → getD (set t q w) p 0 ≡ getD t p 0
       other p apart = getD-set-other t q p w 0 apart
 
-      stands-after : (p : ℕ) → p < length t → mayStand g p (getD (set t q w) p 0) ≡ true
+      stands-after : (p : ℕ) → p < length t → mayStand drive p (getD (set t q w) p 0) ≡ true
       stands-after p in-p =
           byEq p q
           (λ same. rw (there p same, same) stands)

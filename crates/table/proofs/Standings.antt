@@ -9,7 +9,7 @@ use lib.Dec.{eqb, ltb}
 use borrow.Author.Tests.{le-leb, lt-leb, eq-eqb, ne-eqb, not-true}
 use Rattle.paper.proofs.Cases.{byBool, byLt, byEq}
 use Rattle.paper.proofs.Rows.{Tells, tells-eq, tells-lt, tells-both, tells-false, tells-either}
-use Rattle.layout.specs.declared.Layout.{Layout}
+use Rattle.layout.specs.declared.Drive.{Drive}
 use Rattle.layout.specs.Layouts.{Laid}
 use Rattle.layout.specs.Descriptors.{free, atPrimary, elsewhere, unusable, null, codeUnit, wordOf, codeOf, numberOf, primary, Allocated, names}
 use Rattle.layout.proofs.Sectors.{blocks-few}
@@ -17,53 +17,53 @@ use Rattle.layout.proofs.Words.{code-of-word, number-of-word, tells-bare, tells
 use Rattle.table.specs.Rules.{codeAt, mayStand, Misplaced, null-missing, null-early, unknown-code, number-carried, no-home, not-primary, is-primary}
 
 -- what the word w is where it may stand at place q
-pub data Standing (g : Layout) (q w : ℕ) : Type 0 where
-  is-null : g .spares ≤ q → codeOf w ≡ null → numberOf w ≡ 0 → Standing g q w
-  is-free : q < g .spares → codeOf w ≡ free → numberOf w ≡ 0 → Standing g q w
-  is-unusable : q < g .spares → codeOf w ≡ unusable → numberOf w ≡ 0 → Standing g q w
-  at-primary : q < g .spares → codeOf w ≡ atPrimary → numberOf w < g .blocks → q ≡ primary g (numberOf w) → Standing g q w
-  at-other : q < g .spares → codeOf w ≡ elsewhere → numberOf w < g .blocks → (q ≡ primary g (numberOf w) → ⊥) → Standing g q w
+pub data Standing (drive : Drive) (q w : ℕ) : Type 0 where
+  is-null : drive .spares ≤ q → codeOf w ≡ null → numberOf w ≡ 0 → Standing drive q w
+  is-free : q < drive .spares → codeOf w ≡ free → numberOf w ≡ 0 → Standing drive q w
+  is-unusable : q < drive .spares → codeOf w ≡ unusable → numberOf w ≡ 0 → Standing drive q w
+  at-primary : q < drive .spares → codeOf w ≡ atPrimary → numberOf w < drive .blocks → q ≡ primary drive (numberOf w) → Standing drive q w
+  at-other : q < drive .spares → codeOf w ≡ elsewhere → numberOf w < drive .blocks → (q ≡ primary drive (numberOf w) → ⊥) → Standing drive q w
 
-module _ (g : Layout) (q w : ℕ) where
+module _ (drive : Drive) (q w : ℕ) where
   -- the test of a place before the spares' number
   tells-before :
       Tells
-      (eqb w (wordOf free 0) || (eqb w (wordOf unusable 0) || (ltb (numberOf w) (g .blocks) && eqb (codeOf w) (codeAt g q (numberOf w)))))
-      (((codeOf w ≡ free) × (numberOf w ≡ 0)) ⊎ (((codeOf w ≡ unusable) × (numberOf w ≡ 0)) ⊎ ((numberOf w < g .blocks) × (codeOf w ≡ codeAt g q (numberOf w)))))
+      (eqb w (wordOf free 0) || (eqb w (wordOf unusable 0) || (ltb (numberOf w) (drive .blocks) && eqb (codeOf w) (codeAt drive q (numberOf w)))))
+      (((codeOf w ≡ free) × (numberOf w ≡ 0)) ⊎ (((codeOf w ≡ unusable) × (numberOf w ≡ 0)) ⊎ ((numberOf w < drive .blocks) × (codeOf w ≡ codeAt drive q (numberOf w)))))
   tells-before =
-      tells-either (tells-bare w free) (tells-either (tells-bare w unusable) (tells-both (tells-lt (numberOf w) (g .blocks)) (tells-eq (codeOf w) (codeAt g q (numberOf w)))))
+      tells-either (tells-bare w free) (tells-either (tells-bare w unusable) (tells-both (tells-lt (numberOf w) (drive .blocks)) (tells-eq (codeOf w) (codeAt drive q (numberOf w)))))
 
   -- a block under the code of its place
-  stands-block : q < g .spares → numberOf w < g .blocks → codeOf w ≡ codeAt g q (numberOf w) → Standing g q w
+  stands-block : q < drive .spares → numberOf w < drive .blocks → codeOf w ≡ codeAt drive q (numberOf w) → Standing drive q w
   stands-block h below e =
-      byEq q (primary g (numberOf w))
-      (λ same. at-primary h (rw (eq-eqb q (primary g (numberOf w)) same) at e) below same)
-      (λ other. at-other h (rw (ne-eqb q (primary g (numberOf w)) other) at e) below other)
+      byEq q (primary drive (numberOf w))
+      (λ same. at-primary h (rw (eq-eqb q (primary drive (numberOf w)) same) at e) below same)
+      (λ other. at-other h (rw (ne-eqb q (primary drive (numberOf w)) other) at e) below other)
 
-  stand-shows : mayStand g q w ≡ true → Standing g q w
+  stand-shows : mayStand drive q w ≡ true → Standing drive q w
   stand-shows e =
-      byLt q (g .spares)
+      byLt q (drive .spares)
       (λ h.
       ⊎-elim
       (λ bare. is-free h (bare .0) (bare .1))
       (⊎-elim (λ bare. is-unusable h (bare .0) (bare .1)) (λ block. stands-block h (block .0) (block .1)))
-      (tells-before .holds (rw (lt-leb (g .spares) q h) at e)))
-      (λ h. let bare = tells-bare w null .holds (rw (le-leb (g .spares) q h) at e) in is-null h (bare .0) (bare .1))
+      (tells-before .holds (rw (lt-leb (drive .spares) q h) at e)))
+      (λ h. let bare = tells-bare w null .holds (rw (le-leb (drive .spares) q h) at e) in is-null h (bare .0) (bare .1))
 
-  stand-told : Standing g q w → mayStand g q w ≡ true
-  stand-told (is-null h e z) = rw (le-leb (g .spares) q h) (tells-bare w null .told (e, z))
-  stand-told (is-free h e z) = rw (lt-leb (g .spares) q h) (tells-before .told (inl (e, z)))
-  stand-told (is-unusable h e z) = rw (lt-leb (g .spares) q h) (tells-before .told (inr (inl (e, z))))
+  stand-told : Standing drive q w → mayStand drive q w ≡ true
+  stand-told (is-null h e z) = rw (le-leb (drive .spares) q h) (tells-bare w null .told (e, z))
+  stand-told (is-free h e z) = rw (lt-leb (drive .spares) q h) (tells-before .told (inl (e, z)))
+  stand-told (is-unusable h e z) = rw (lt-leb (drive .spares) q h) (tells-before .told (inr (inl (e, z))))
   stand-told (at-primary h e below same) =
-      rw (lt-leb (g .spares) q h) (tells-before .told (inr (inr (below, rw (eq-eqb q (primary g (numberOf w)) same) e))))
+      rw (lt-leb (drive .spares) q h) (tells-before .told (inr (inr (below, rw (eq-eqb q (primary drive (numberOf w)) same) e))))
   stand-told (at-other h e below other) =
-      rw (lt-leb (g .spares) q h) (tells-before .told (inr (inr (below, rw (ne-eqb q (primary g (numberOf w)) other) e))))
+      rw (lt-leb (drive .spares) q h) (tells-before .told (inr (inr (below, rw (ne-eqb q (primary drive (numberOf w)) other) e))))
 
-  pub tells-standing : Tells (mayStand g q w) (Standing g q w)
+  pub tells-standing : Tells (mayStand drive q w) (Standing drive q w)
   tells-standing = record { holds = stand-shows; told = stand-told }
 
   -- nothing that may stand breaks a rule
-  stands-right : Standing g q w → Misplaced g q w → ⊥
+  stands-right : Standing drive q w → Misplaced drive q w → ⊥
   stands-right (is-null h e z) (null-missing m n) = n e
   stands-right (is-null h e z) (null-early m n) = omega arith
   stands-right (is-null h e z) (unknown-code a b c d) = c e
@@ -101,18 +101,18 @@ module _ (g : Layout) (q w : ℕ) where
   stands-right (at-other h e below other) (is-primary a n) = other n
 
   -- what may not stand breaks a rule
-  wrong-breaks : (Standing g q w → ⊥) → Misplaced g q w
+  wrong-breaks : (Standing drive q w → ⊥) → Misplaced drive q w
   wrong-breaks wrong =
-      byLt q (g .spares)
+      byLt q (drive .spares)
       (λ before.
       byEq (codeOf w) atPrimary
-      (λ e. byLt (numberOf w) (g .blocks) (λ below. not-primary e (λ same. wrong (at-primary before e below same))) (no-home (inl e)))
+      (λ e. byLt (numberOf w) (drive .blocks) (λ below. not-primary e (λ same. wrong (at-primary before e below same))) (no-home (inl e)))
       (λ not-2.
       byEq (codeOf w) elsewhere
       (λ e.
-      byLt (numberOf w) (g .blocks)
+      byLt (numberOf w) (drive .blocks)
       (λ below.
-      byEq q (primary g (numberOf w)) (λ same. is-primary e same) (λ other. absurd (wrong (at-other before e below other))))
+      byEq q (primary drive (numberOf w)) (λ same. is-primary e same) (λ other. absurd (wrong (at-other before e below other))))
       (no-home (inr e)))
       (λ not-3.
       byEq (numberOf w) 0
@@ -126,18 +126,18 @@ module _ (g : Layout) (q w : ℕ) where
       (λ e. number-carried (⊎-elim (λ x. omega arith) (λ x. omega arith)) (λ z. wrong (is-null beyond e z)))
       (λ not-8. null-missing beyond not-8))
 
-  pub tells-misplaced : Tells (not (mayStand g q w)) (Misplaced g q w)
+  pub tells-misplaced : Tells (not (mayStand drive q w)) (Misplaced drive q w)
   tells-misplaced =
       record {
-        holds = λ e. wrong-breaks (tells-false tells-standing (not-true (mayStand g q w) e));
-        told = λ m. byBool (mayStand g q w) (λ e. absurd (stands-right (stand-shows e) m)) (λ e. rw e);
+        holds = λ e. wrong-breaks (tells-false tells-standing (not-true (mayStand drive q w) e));
+        told = λ m. byBool (mayStand drive q w) (λ e. absurd (stands-right (stand-shows e) m)) (λ e. rw e);
       }
 
   -- a word that names a block stands before the spares' number, and its block is a home block
-  pub allocated-stands : mayStand g q w ≡ true → Allocated w → (q < g .spares) × (numberOf w < g .blocks)
+  pub allocated-stands : mayStand drive q w ≡ true → Allocated w → (q < drive .spares) × (numberOf w < drive .blocks)
   allocated-stands e a = named (stand-shows e)
     where
-      named : Standing g q w → (q < g .spares) × (numberOf w < g .blocks)
+      named : Standing drive q w → (q < drive .spares) × (numberOf w < drive .blocks)
       named (is-null h c z) = absurd (⊎-elim (λ x. omega arith) (λ x. omega arith) a)
       named (is-free h c z) = absurd (⊎-elim (λ x. omega arith) (λ x. omega arith) a)
       named (is-unusable h c z) = absurd (⊎-elim (λ x. omega arith) (λ x. omega arith) a)
@@ -145,29 +145,29 @@ module _ (g : Layout) (q w : ℕ) where
       named (at-other h c below other) = (h, below)
 
 -- the word that names block b at place q
-module _ {g : Layout} (laid : Laid g) (q b : ℕ) (home : b < g .blocks) where
+module _ {drive : Drive} (laid : Laid drive) (q b : ℕ) (home : b < drive .blocks) where
   fits : b < codeUnit
   fits = omega (arith, blocks-few laid)
 
   -- may stand there, where the place is a spare's
-  pub block-stands : q < g .spares → mayStand g q (wordOf (codeAt g q b) b) ≡ true
+  pub block-stands : q < drive .spares → mayStand drive q (wordOf (codeAt drive q b) b) ≡ true
   block-stands h =
-      let number : numberOf (wordOf (codeAt g q b) b) ≡ b = number-of-word (codeAt g q b) b fits in
-      stand-told g q (wordOf (codeAt g q b) b) (stands-block g q (wordOf (codeAt g q b) b) h (rw number home) (code-of-word (codeAt g q b) b fits ∙ ap (codeAt g q) (sym number)))
+      let number : numberOf (wordOf (codeAt drive q b) b) ≡ b = number-of-word (codeAt drive q b) b fits in
+      stand-told drive q (wordOf (codeAt drive q b) b) (stands-block drive q (wordOf (codeAt drive q b) b) h (rw number home) (code-of-word (codeAt drive q b) b fits ∙ ap (codeAt drive q) (sym number)))
 
   -- and names this block alone
-  pub tells-block : (a : ℕ) → Tells (names (wordOf (codeAt g q b) b) a) (b ≡ a)
+  pub tells-block : (a : ℕ) → Tells (names (wordOf (codeAt drive q b) b) a) (b ≡ a)
   tells-block a =
       record {
-        holds = λ e. sym number ∙ tells-names (wordOf (codeAt g q b) b) a .holds e .1;
-        told = λ same. tells-names (wordOf (codeAt g q b) b) a .told (allocated, number ∙ same);
+        holds = λ e. sym number ∙ tells-names (wordOf (codeAt drive q b) b) a .holds e .1;
+        told = λ same. tells-names (wordOf (codeAt drive q b) b) a .told (allocated, number ∙ same);
       }
     where
-      number : numberOf (wordOf (codeAt g q b) b) ≡ b
-      number = number-of-word (codeAt g q b) b fits
+      number : numberOf (wordOf (codeAt drive q b) b) ≡ b
+      number = number-of-word (codeAt drive q b) b fits
 
-      allocated : Allocated (wordOf (codeAt g q b) b)
+      allocated : Allocated (wordOf (codeAt drive q b) b)
       allocated =
-          byBool (eqb q (primary g b))
-          (λ e. inl (code-of-word (codeAt g q b) b fits ∙ rw e))
-          (λ e. inr (code-of-word (codeAt g q b) b fits ∙ rw e))
+          byBool (eqb q (primary drive b))
+          (λ e. inl (code-of-word (codeAt drive q b) b fits ∙ rw e))
+          (λ e. inr (code-of-word (codeAt drive q b) b fits ∙ rw e))

@@ -125,7 +125,7 @@ pub fn written(words: &[u8], answer: Written) {
 
 // The length that an answer says. Only other crates call this.
 pub fn long_of(answer: Written) -> u32
-    ensures { λ r. ⌜ r ≡ saidWritten answer .1 ⌝ }
+    ensures { λ result. ⌜ result ≡ saidWritten answer .1 ⌝ }
 {
     match answer {
         Written::Length(long) => long,

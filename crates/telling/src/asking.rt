@@ -1,7 +1,6 @@
 // Calls of skipping, a line each: what is asked and what is answered.
 ghost use mathlib.Core.Path.{_≡_};
-ghost use Rattle.skip.specs.Cursors.{started, stepped};
-ghost use Rattle.skip.specs.Promises.{handedBack};
+ghost use Rattle.skip.specs.Promises.{handedBack, BackFrom, Starts, Steps};
 use crate::answers;
 use crate::count_line;
 use crate::number;
@@ -28,7 +27,7 @@ pub fn sector(n: u32, list: &[u32], sector: u32) {
 
 // The cursor that a job hands back. Only other crates call this.
 pub fn handed_back(job: Job) -> Cursor
-    ensures { λ r. ⌜ r ≡ handedBack job ⌝ }
+    ensures { λ result. ⌜ result ≡ handedBack job ⌝ }
 {
     match job {
         Job::Ready(next) => next,
@@ -39,7 +38,7 @@ pub fn handed_back(job: Job) -> Cursor
 
 // Opens a job at a block, and hands back its cursor. Only other crates call this.
 pub fn start(n: u32, list: &[u32], block: u32) -> Cursor
-    ensures { λ r. ⌜ r ≡ handedBack (started n (now (list .entry)) block) ⌝ }
+    ensures { λ result. ⌜ BackFrom (Starts n (now (list .entry)) block) result ⌝ }
 {
     number(b"  start at ", block);
     let job = Cursor::start(n, list, block);
@@ -55,7 +54,7 @@ pub fn check(n: u32, list: &[u32], cursor: Cursor) {
 
 // Steps a cursor, and hands back the one after it. Only other crates call this.
 pub fn step(n: u32, list: &[u32], cursor: Cursor) -> Cursor
-    ensures { λ r. ⌜ r ≡ handedBack (stepped n (now (list .entry)) cursor) ⌝ }
+    ensures { λ result. ⌜ BackFrom (Steps n (now (list .entry)) cursor) result ⌝ }
 {
     answers::cursor(b"  step of ", cursor);
     let job = cursor.step(n, list);

@@ -32,7 +32,7 @@ pub fn descriptor(words: &[u8], word: u32) {
 
 // A number without its sign.
 fn magnitude(n: i32) -> u32
-    ensures { λ r. ⌜ r ≡ natAbs n ⌝ }
+    ensures { λ result. ⌜ result ≡ natAbs n ⌝ }
 {
     if n < 0 {
         return (-(n as i64)) as u32;

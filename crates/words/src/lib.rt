@@ -7,14 +7,14 @@ ghost use Rattle.words.specs.Words.{be16, be32, bytes16, bytes32, word16
 
 // The number of two bytes. Only other crates call this.
 pub fn be16(hi: u8, lo: u8) -> u16
-    ensures { λ r. ⌜ r ≡ be16 hi lo ⌝ }
+    ensures { λ result. ⌜ result ≡ be16 hi lo ⌝ }
 {
     hi as u16 * 256 + lo as u16
 }
 
 // The number of four bytes. Only other crates call this.
 pub fn be32(a: u8, b: u8, c: u8, d: u8) -> u32
-    ensures { λ r. ⌜ r ≡ be32 a b c d ⌝ }
+    ensures { λ result. ⌜ result ≡ be32 a b c d ⌝ }
 {
     ((a as u32 * 256 + b as u32) * 256 + c as u32) * 256 + d as u32
 }
@@ -22,7 +22,7 @@ pub fn be32(a: u8, b: u8, c: u8, d: u8) -> u32
 // The number that stands in the two bytes at a place. Only other crates call this.
 pub fn word16_at(bytes: &[u8], at: usize) -> u16
     requires { ⌜ at + 2 ≤ length (now bytes) ⌝ }
-    ensures { λ r. ⌜ r ≡ word16At (now (bytes .entry)) at ⌝ }
+    ensures { λ result. ⌜ result ≡ word16At (now (bytes .entry)) at ⌝ }
 {
     be16(bytes[at], bytes[at + 1])
 }
@@ -30,7 +30,7 @@ pub fn word16_at(bytes: &[u8], at: usize) -> u16
 // The number that stands in the four bytes at a place. Only other crates call this.
 pub fn word32_at(bytes: &[u8], at: usize) -> u32
     requires { ⌜ at + 4 ≤ length (now bytes) ⌝ }
-    ensures { λ r. ⌜ r ≡ word32At (now (bytes .entry)) at ⌝ }
+    ensures { λ result. ⌜ result ≡ word32At (now (bytes .entry)) at ⌝ }
 {
     be32(bytes[at], bytes[at + 1], bytes[at + 2], bytes[at + 3])
 }
@@ -38,7 +38,7 @@ pub fn word32_at(bytes: &[u8], at: usize) -> u32
 // Writes a number into the two bytes at a place. Only other crates call this.
 pub fn put16(room: &mut [u8], at: usize, word: u16)
     requires { ⌜ at + 2 ≤ length (now room) ⌝ }
-    ensures { λ r. ⌜ now (room .exit) ≡ sets (now (room .entry)) at (bytes16 word) ⌝ }
+    ensures { λ result. ⌜ now (room .exit) ≡ sets (now (room .entry)) at (bytes16 word) ⌝ }
 {
     room[at] = (word / 256 % 256) as u8;
     room[at + 1] = (word % 256) as u8;
@@ -47,7 +47,7 @@ pub fn put16(room: &mut [u8], at: usize, word: u16)
 // Writes a number into the four bytes at a place. Only other crates call this.
 pub fn put32(room: &mut [u8], at: usize, word: u32)
     requires { ⌜ at + 4 ≤ length (now room) ⌝ }
-    ensures { λ r. ⌜ now (room .exit) ≡ sets (now (room .entry)) at (bytes32 word) ⌝ }
+    ensures { λ result. ⌜ now (room .exit) ≡ sets (now (room .entry)) at (bytes32 word) ⌝ }
 {
     room[at] = (word / 16_777_216 % 256) as u8;
     room[at + 1] = (word / 65_536 % 256) as u8;

@@ -18,12 +18,12 @@ slice-relend-prefix-replace-all c = search needs
 slice-aggregate-replace-all : tie.Need-slice-aggregate-replace-all
 slice-aggregate-replace-all c =
     let a = c .before .before .before .before .before .before .before .before .args in
-    front-length (a .g) (now (a .list)) _ (now (a .room)) (c .before .table-length .result) (c .before .table-length .ensures) (c .before .before .before .before .mark .ensures)
+    front-length (a .drive) (now (a .list)) _ (now (a .room)) (c .before .table-length .result) (c .before .table-length .ensures) (c .before .before .before .before .mark .ensures)
 
 replace-all-requires : tie.Need-replace-all-requires
 replace-all-requires c κs =
     let a = c .before .before .before .before .before .before .before .before .args in
-    (c .before .before .before .before .before .before .before .before .pre .0, (c .before .before .before .before .before .before .before .before .pre .1 .0, front-ready (a .g) (now (a .list)) _ (now (a .room)) (c .before .table-length .result) (c .before .table-length .ensures) (c .before .before .before .before .mark .ensures) (c .before .before .before .before .before .before .before .before .pre .0) (c .before .before .before .before .before .before .before .before .pre .1 .1 .1)))
+    (c .before .before .before .before .before .before .before .before .pre .0, (c .before .before .before .before .before .before .before .before .pre .1 .0, front-ready (a .drive) (now (a .list)) _ (now (a .room)) (c .before .table-length .result) (c .before .table-length .ensures) (c .before .before .before .before .mark .ensures) (c .before .before .before .before .before .before .before .before .pre .0) (c .before .before .before .before .before .before .before .before .pre .1 .1 .1)))
 
 same-length : tie.Need-same-length
 same-length c = search needs
@@ -31,7 +31,7 @@ same-length c = search needs
 returns : tie.Need-returns
 returns c =
     let a = c .before .before .before .before .before .before .before .before .before .before .before .args in
-    front-built (a .g) (now (a .list)) _ (now (a .room)) (c .before .before .before .before .table-length .result) (c .before .before .before .before .table-length .ensures) (c .before .before .before .before .before .before .before .mark .ensures) (c .before .before .before .before .before .before .before .before .before .before .before .pre .0) (c .before .before .before .before .before .before .before .before .before .before .before .pre .1 .1 .1) _ (c .before .before .replace-all .ensures)
+    front-built (a .drive) (now (a .list)) _ (now (a .room)) (c .before .before .before .before .table-length .result) (c .before .before .before .before .table-length .ensures) (c .before .before .before .before .before .before .before .mark .ensures) (c .before .before .before .before .before .before .before .before .before .before .before .pre .0) (c .before .before .before .before .before .before .before .before .before .before .before .pre .1 .1 .1) _ (c .before .before .replace-all .ensures)
 
 pub build-spec : {M : Type 1} → statement M
 build-spec =

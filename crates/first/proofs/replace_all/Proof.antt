@@ -9,10 +9,10 @@ use Rattle.first.proofs.replace_all.Statement.{statement}
 use Rattle.first.proofs.replace_all.Tie as tie
 
 abbrev Inv-loop : tie.InvT-loop
-Inv-loop g list table₀ i₀ table i = Along g list table₀ table i
+Inv-loop drive list table₀ i₀ table i = Along drive list table₀ table i
 
 abbrev μ-loop : tie.MeasureT-loop
-μ-loop g list table₀ i₀ table i = length list - i
+μ-loop drive list table₀ i₀ table i = length list - i
 
 loop-holds : tie.Need-loop-holds Inv-loop μ-loop
 loop-holds c = along-none (c .before .before .pre .0) (c .before .before .pre .1 .0) (c .before .before .pre .1 .1)

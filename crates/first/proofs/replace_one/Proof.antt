@@ -15,7 +15,7 @@ is-home-requires c κs = search needs
 
 returns : tie.Need-returns
 returns c =
-    let spare : isHome (c .before .before .before .args .g) (c .before .before .before .args .sector) ≡ false = sym (c .before .is-home .ensures) ∙ not-true _ (c .if1 .taken) in
+    let spare : isHome (c .before .before .before .args .drive) (c .before .before .before .args .sector) ≡ false = sym (c .before .is-home .ensures) ∙ not-true _ (c .if1 .taken) in
     rw spare
 
 block-at-requires : tie.Need-block-at-requires
@@ -24,7 +24,7 @@ block-at-requires c κs = search needs
 replace-in-requires : tie.Need-replace-in-requires
 replace-in-requires c κs =
     let a = c .before .before .before .before .before .args in
-    let home : isHome (a .g) (a .sector) ≡ true = sym (c .before .before .before .is-home .ensures) ∙ not-false _ (c .before .before .if1 .left) in
+    let home : isHome (a .drive) (a .sector) ≡ true = sym (c .before .before .before .is-home .ensures) ∙ not-false _ (c .before .before .if1 .left) in
     let below = block-in (c .before .before .before .before .before .pre .0) (a .sector) (c .before .before .before .before .before .pre .1 .1 .0) home in
     rw (c .block-at .ensures) (c .before .before .before .before .before .pre .0, (c .before .before .before .before .before .pre .1 .0, (below, free-found (c .before .before .before .before .before .pre .0) (c .before .before .before .before .before .pre .1 .0) below (c .before .before .before .before .before .pre .1 .1 .1 home))))
 
@@ -33,7 +33,7 @@ same-length c = search needs
 
 returns-2 : tie.Need-returns-2
 returns-2 c =
-    let home : isHome (c .before .before .before .before .before .before .before .before .args .g) (c .before .before .before .before .before .before .before .before .args .sector) ≡ true = sym (c .before .before .before .before .before .before .is-home .ensures) ∙ not-false _ (c .before .before .before .before .before .if1 .left) in
+    let home : isHome (c .before .before .before .before .before .before .before .before .args .drive) (c .before .before .before .before .before .before .before .before .args .sector) ≡ true = sym (c .before .before .before .before .before .before .is-home .ensures) ∙ not-false _ (c .before .before .before .before .before .if1 .left) in
     rw (home, ← c .before .before .before .block-at .ensures) (c .before .before .replace-in .ensures .1)
 
 pub replace-one-spec : {M : Type 1} → statement M

@@ -15,18 +15,18 @@ count-bad-requires : tie.Need-count-bad-requires
 count-bad-requires c κs = search needs
 
 sub-if1 : tie.Need-sub-if1
-sub-if1 c = omega (arith, c .before .before .count-bad .ensures .are-spares, bad-spares-few (c .before .before .before .before .args .g) (now (c .before .before .before .before .args .list)))
+sub-if1 c = omega (arith, c .before .before .count-bad .ensures .are-spares, bad-spares-few (c .before .before .before .before .args .drive) (now (c .before .before .before .before .args .list)))
 
 returns : tie.Need-returns
 returns c =
     let a = c .before .before .before .before .before .before .args in
-    let few : goodSpares (a .g) (now (a .list)) < length (badHomes (a .g) (now (a .list))) = omega (arith, c .before .before .before .before .count-bad .ensures .are-homes, c .before .before .before .before .count-bad .ensures .are-spares) in
+    let few : goodSpares (a .drive) (now (a .list)) < length (badHomes (a .drive) (now (a .list))) = omega (arith, c .before .before .before .before .count-bad .ensures .are-homes, c .before .before .before .before .count-bad .ensures .are-spares) in
     rw (lt-ltb _ _ few)
 
 returns-2 : tie.Need-returns-2
 returns-2 c =
     let a = c .before .before .before .before .before .before .args in
-    let enough : length (badHomes (a .g) (now (a .list))) ≤ goodSpares (a .g) (now (a .list)) = omega (arith, c .before .before .before .before .count-bad .ensures .are-homes, c .before .before .before .before .count-bad .ensures .are-spares) in
+    let enough : length (badHomes (a .drive) (now (a .list))) ≤ goodSpares (a .drive) (now (a .list)) = omega (arith, c .before .before .before .before .count-bad .ensures .are-homes, c .before .before .before .before .count-bad .ensures .are-spares) in
     rw (le-ltb _ _ enough)
 
 pub spare-fault-spec : {M : Type 1} → statement M

@@ -13,12 +13,12 @@ returns : tie.Need-returns
 unfolding headerFault
 returns c = rw (ne-eqb _ _ (c .if1 .taken))
 
-address-fault-requires : tie.Need-address-fault-requires
-address-fault-requires c κs = search needs
+copies-fault-requires : tie.Need-copies-fault-requires
+copies-fault-requires c κs = search needs
 
 returns-2 : tie.Need-returns-2
 unfolding headerFault
-returns-2 c = rw (eq-eqb _ _ (c .before .if1 .left)) (c .address-fault .ensures)
+returns-2 c = rw (eq-eqb _ _ (c .before .if1 .left)) (c .copies-fault .ensures)
 
 pub header-fault-spec : {M : Type 1} → statement M
-header-fault-spec = tie.close (tie.spec add-if1 returns address-fault-requires returns-2)
+header-fault-spec = tie.close (tie.spec add-if1 returns copies-fault-requires returns-2)

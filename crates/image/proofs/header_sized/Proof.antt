@@ -1,12 +1,11 @@
 -- `image::header_sized` meets its contract: the fault is that of the definition, and an image without fault is long enough to have a header.
 -- Assumes nothing.
 use borrow.Author.Needs.{needs}
-use mathlib.Core.Path.{sym, _∙_}
+use mathlib.Core.Path.{sym, _∙_, refl}
 use native.Mathlib.Omega.{arith}
 use Rattle.paper.proofs.Chain.{answer-refused}
 use Rattle.paper.proofs.Kept.{gives}
 use Rattle.image.proofs.Exact.{header-length}
-use Rattle.image.proofs.Says.{head-says}
 use Rattle.image.proofs.header_sized.Statement.{statement}
 use Rattle.image.proofs.header_sized.Tie as tie
 
@@ -14,7 +13,7 @@ header-fault-requires : tie.Need-header-fault-requires
 header-fault-requires c κs = search needs
 
 returns : tie.Need-returns
-returns c = gives (head-says _ _) (rw (← c .before .header-fault .ensures) (sym (answer-refused _ _ _ (c .if1 .taken))))
+returns c = gives (λ k. refl) (rw (← c .before .header-fault .ensures) (sym (answer-refused _ _ _ (c .if1 .taken))))
 
 header-of-requires : tie.Need-header-of-requires
 header-of-requires c κs =
@@ -22,7 +21,7 @@ header-of-requires c κs =
     omega (arith, header-length (a .image .now) (a .size) (sym (c .before .header-fault .ensures) ∙ c .if1 .left))
 
 returns-2 : tie.Need-returns-2
-returns-2 c = gives (head-says _ _) (rw (← c .before .before .header-fault .ensures, c .before .if1 .left, c .header-of .ensures))
+returns-2 c = gives (λ k. refl) (rw (← c .before .before .header-fault .ensures, c .before .if1 .left, c .header-of .ensures))
 
 pub header-sized-spec : {M : Type 1} → statement M
 header-sized-spec = tie.close (tie.spec header-fault-requires returns header-of-requires returns-2)

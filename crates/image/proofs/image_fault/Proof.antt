@@ -13,12 +13,12 @@ returns : tie.Need-returns
 unfolding imageFault
 returns c = rw (ne-eqb _ _ (c .if1 .taken))
 
-sector-fault-requires : tie.Need-sector-fault-requires
-sector-fault-requires c κs = search needs
+contents-fault-requires : tie.Need-contents-fault-requires
+contents-fault-requires c κs = search needs
 
 returns-2 : tie.Need-returns-2
 unfolding imageFault
-returns-2 c = rw (eq-eqb _ _ (c .before .if1 .left)) (c .sector-fault .ensures)
+returns-2 c = rw (eq-eqb _ _ (c .before .if1 .left)) (c .contents-fault .ensures)
 
 pub image-fault-spec : {M : Type 1} → statement M
-image-fault-spec = tie.close (tie.spec add-if1 returns sector-fault-requires returns-2)
+image-fault-spec = tie.close (tie.spec add-if1 returns contents-fault-requires returns-2)

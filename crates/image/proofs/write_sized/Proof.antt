@@ -1,9 +1,9 @@
 -- `image::write_sized` meets its contract: the fault is that of the definition, and data and room without fault have the lengths that the writer needs.
 -- Assumes nothing.
 use borrow.Author.Needs.{needs}
-use mathlib.Core.Path.{sym, _∙_}
+use mathlib.Core.Path.{sym, _∙_, refl}
 use native.Mathlib.Omega.{arith}
-use Rattle.paper.proofs.Chain.{answer-refused, written-says}
+use Rattle.paper.proofs.Chain.{answer-refused}
 use Rattle.paper.proofs.Kept.{fills}
 use Rattle.image.proofs.Exact.{write-shows}
 use Rattle.image.proofs.write_sized.Statement.{statement}
@@ -17,7 +17,7 @@ same-length c = search needs
 
 returns : tie.Need-returns
 returns c =
-    fills (written-says _ _)
+    fills (λ k. refl)
     (rw (← c .before .write-fault .ensures) (sym (answer-refused _ _ _ (c .if1 .taken))))
     (rw (← c .before .write-fault .ensures) (sym (answer-refused _ _ _ (c .if1 .taken))))
 
@@ -40,7 +40,7 @@ returns-2 : tie.Need-returns-2
 returns-2 c =
     let fault = c .before .before .before .before .before .write-fault .ensures in
     let none = c .before .before .before .before .if1 .left in
-    fills (written-says _ _) (rw (← fault, none)) (rw (← fault, none) (c .before .before .put-image .ensures))
+    fills (λ k. refl) (rw (← fault, none)) (rw (← fault, none) (c .before .before .put-image .ensures))
 
 pub write-sized-spec : {M : Type 1} → statement M
 write-sized-spec =

@@ -8,13 +8,13 @@ use denote.Ref.{now}
 use borrow.Author.Count.{below-more}
 use borrow.Author.Tests.{lt-ltb, le-ltb}
 use Rattle.paper.specs.Limits.{listMost}
-use Rattle.lists.specs.Proper.{placeFault}
+use Rattle.lists.specs.Proper.{faultAt}
 use Rattle.seek.proofs.Firsts.{fault-at, fault-none}
 use Rattle.lists.proofs.list_fault.Statement.{statement}
 use Rattle.lists.proofs.list_fault.Tie as tie
 
 abbrev Inv-loop : tie.InvT-loop
-Inv-loop n list i₀ i = (i ≤ length list) × ((k : ℕ) → k < i → placeFault n list k ≡ 0)
+Inv-loop n list i₀ i = (i ≤ length list) × ((k : ℕ) → k < i → faultAt n list k ≡ 0)
 
 abbrev μ-loop : tie.MeasureT-loop
 μ-loop n list i₀ i = length list - i
@@ -25,14 +25,14 @@ returns c = rw (lt-ltb listMost (length (now (c .before .before .args .list))) (
 loop-holds : tie.Need-loop-holds Inv-loop μ-loop
 loop-holds c = (omega arith, λ k h. absurd (omega arith))
 
-place-fault-requires : tie.Need-place-fault-requires Inv-loop μ-loop
-place-fault-requires c κs = c .loop-test .taken
+fault-at-requires : tie.Need-fault-at-requires Inv-loop μ-loop
+fault-at-requires c κs = c .loop-test .taken
 
 returns-2 : tie.Need-returns-2 Inv-loop μ-loop
 returns-2 c =
     rw (le-ltb listMost (length (now (c .before .before .before .before .before .before .args .list))) (omega arith))
-    (c .before .place-fault .ensures
-    ∙ sym (fault-at (placeFault (c .before .before .before .before .before .before .args .n) (now (c .before .before .before .before .before .before .args .list))) _ (c .before .before .before .loop .i) (c .before .before .loop-test .taken) (λ none. c .if2 .taken (c .before .place-fault .ensures ∙ none)) (c .before .before .before .loop .inv .1)))
+    (c .before .fault-at .ensures
+    ∙ sym (fault-at (faultAt (c .before .before .before .before .before .before .args .n) (now (c .before .before .before .before .before .before .args .list))) _ (c .before .before .before .loop .i) (c .before .before .loop-test .taken) (λ none. c .if2 .taken (c .before .fault-at .ensures ∙ none)) (c .before .before .before .loop .inv .1)))
 
 add-i : tie.Need-add-i Inv-loop μ-loop
 add-i c = omega arith
@@ -41,12 +41,12 @@ loop-less : tie.Need-loop-less Inv-loop μ-loop
 loop-less c = omega arith
 
 loop-again : tie.Need-loop-again Inv-loop μ-loop
-loop-again c = (omega arith, below-more _ _ (c .before .before .before .loop .inv .1) (sym (c .before .place-fault .ensures) ∙ c .if2 .left))
+loop-again c = (omega arith, below-more _ _ (c .before .before .before .loop .inv .1) (sym (c .before .fault-at .ensures) ∙ c .if2 .left))
 
 returns-3 : tie.Need-returns-3 Inv-loop μ-loop
 returns-3 c =
     rw (le-ltb listMost (length (now (c .before .before .before .before .args .list))) (omega arith))
-    (sym (fault-none (placeFault (c .before .before .before .before .args .n) (now (c .before .before .before .before .args .list))) _ (λ k h. c .before .loop .inv .1 k (omega arith))))
+    (sym (fault-none (faultAt (c .before .before .before .before .args .n) (now (c .before .before .before .before .args .list))) _ (λ k h. c .before .loop .inv .1 k (omega arith))))
 
 pub list-fault-spec : {M : Type 1} → statement M
 list-fault-spec =
@@ -56,7 +56,7 @@ list-fault-spec =
     μ-loop
     returns
     loop-holds
-    place-fault-requires
+    fault-at-requires
     returns-2
     add-i
     loop-less

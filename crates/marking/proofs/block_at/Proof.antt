@@ -4,7 +4,7 @@ use borrow.Author.Needs.{needs}
 use Prim.Native.Nat.{_≤_, _/_}
 use native.Mathlib.Omega.{arith}
 use native.Mathlib.Nat.{div-add-mod', mul-le-mul-left}
-use Rattle.layout.specs.Layouts.{sectorsOf}
+use Rattle.layout.specs.Layouts.{sectorsPerTrack}
 use Rattle.layout.proofs.Sectors.{sectors-few}
 use Rattle.marking.proofs.block_at.Statement.{statement}
 use Rattle.marking.proofs.block_at.Tie as tie
@@ -18,8 +18,8 @@ div-result c = search needs
 mul-result : tie.Need-mul-result
 mul-result c =
     let a = c .before .before .args in
-    let less : a .g .home ≤ sectorsOf (a .g) = omega arith in
-    omega (arith, mul-le-mul-left (a .sector / sectorsOf (a .g)) less, div-add-mod' (a .sector) (sectorsOf (a .g)))
+    let less : a .drive .l ≤ sectorsPerTrack (a .drive) = omega arith in
+    omega (arith, mul-le-mul-left (a .sector / sectorsPerTrack (a .drive)) less, div-add-mod' (a .sector) (sectorsPerTrack (a .drive)))
 
 rem-result : tie.Need-rem-result
 rem-result c = search needs
@@ -27,8 +27,8 @@ rem-result c = search needs
 add-result : tie.Need-add-result
 add-result c =
     let a = c .before .before .args in
-    let less : a .g .home ≤ sectorsOf (a .g) = omega arith in
-    omega (arith, mul-le-mul-left (a .sector / sectorsOf (a .g)) less, div-add-mod' (a .sector) (sectorsOf (a .g)))
+    let less : a .drive .l ≤ sectorsPerTrack (a .drive) = omega arith in
+    omega (arith, mul-le-mul-left (a .sector / sectorsPerTrack (a .drive)) less, div-add-mod' (a .sector) (sectorsPerTrack (a .drive)))
 
 returns : tie.Need-returns
 returns c = search needs

@@ -14,16 +14,16 @@ use Rattle.marking.proofs.clear.Statement.{statement}
 use Rattle.marking.proofs.clear.Tie as tie
 
 abbrev Inv-loop : tie.InvT-loop
-Inv-loop g room₀ length place₀ room place = (place ≤ tableLength g) × Filled (marked g []) (markedFrom g [] place) room₀ room place
+Inv-loop drive room₀ length place₀ room place = (place ≤ tableLength drive) × Filled (marked drive []) (markedFrom drive [] place) room₀ room place
 
 abbrev μ-loop : tie.MeasureT-loop
-μ-loop g room₀ length place₀ room place = tableLength g - place
+μ-loop drive room₀ length place₀ room place = tableLength drive - place
 
 table-length-requires : tie.Need-table-length-requires Inv-loop μ-loop
 table-length-requires c κs = c .before .pre .0
 
 loop-holds : tie.Need-loop-holds Inv-loop μ-loop
-loop-holds c = (omega arith, rw (← from-first (c .before .before .args .g) []) (filled-none _ _ (rw (marked-length (c .before .before .args .g) []) (c .before .before .pre .1))))
+loop-holds c = (omega arith, rw (← from-first (c .before .before .args .drive) []) (filled-none _ _ (rw (marked-length (c .before .before .args .drive) []) (c .before .before .pre .1))))
 
 clear-word-requires : tie.Need-clear-word-requires Inv-loop μ-loop
 clear-word-requires c κs = tt
@@ -41,13 +41,13 @@ loop-less : tie.Need-loop-less Inv-loop μ-loop
 loop-less c = omega (arith, c .before .before .before .table-length .ensures)
 
 loop-again : tie.Need-loop-again Inv-loop μ-loop
-loop-again c = (omega (arith, c .before .before .before .table-length .ensures), filled-more _ _ (from-next (c .before .before .before .before .before .args .g) [] (c .before .before .loop .place) (omega (arith, c .before .before .before .table-length .ensures)) ∙ rw (c .clear-word .ensures)) (c .before .before .loop .inv .1))
+loop-again c = (omega (arith, c .before .before .before .table-length .ensures), filled-more _ _ (from-next (c .before .before .before .before .before .args .drive) [] (c .before .before .loop .place) (omega (arith, c .before .before .before .table-length .ensures)) ∙ rw (c .clear-word .ensures)) (c .before .before .loop .inv .1))
 
 same-length : tie.Need-same-length Inv-loop μ-loop
 same-length c = c .before .loop .inv .1 .same-length
 
 returns : tie.Need-returns Inv-loop μ-loop
-returns c = filled-all (from-last (c .before .before .before .before .args .g) [] (c .before .loop .place) (omega (arith, c .before .before .table-length .ensures))) (c .before .loop .inv .1)
+returns c = filled-all (from-last (c .before .before .before .before .args .drive) [] (c .before .loop .place) (omega (arith, c .before .before .table-length .ensures))) (c .before .loop .inv .1)
 
 pub clear-spec : {M : Type 1} → statement M
 clear-spec =

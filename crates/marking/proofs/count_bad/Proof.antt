@@ -9,13 +9,13 @@ use Rattle.marking.proofs.count_bad.Statement.{statement}
 use Rattle.marking.proofs.count_bad.Tie as tie
 
 abbrev Inv-loop : tie.InvT-loop
-Inv-loop g list bad₀ i₀ bad i = Counting g list bad i
+Inv-loop drive list bad₀ i₀ bad i = Counting drive list bad i
 
 abbrev μ-loop : tie.MeasureT-loop
-μ-loop g list bad₀ i₀ bad i = length list - i
+μ-loop drive list bad₀ i₀ bad i = length list - i
 
 loop-holds : tie.Need-loop-holds Inv-loop μ-loop
-loop-holds c = counting-none (c .before .args .g) (now (c .before .args .list))
+loop-holds c = counting-none (c .before .args .drive) (now (c .before .args .list))
 
 mul-count-one : tie.Need-mul-count-one Inv-loop μ-loop
 mul-count-one c = omega (arith, c .before .before .before .pre .1 .short)

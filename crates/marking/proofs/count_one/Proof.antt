@@ -15,7 +15,7 @@ add-t5 c = search needs
 
 returns : tie.Need-returns
 returns c =
-    let home : isHome (c .before .before .before .args .g) (c .before .before .before .args .sector) ≡ true = sym (c .before .before .is-home .ensures) ∙ c .before .if1 .taken in
+    let home : isHome (c .before .before .before .args .drive) (c .before .before .before .args .sector) ≡ true = sym (c .before .before .is-home .ensures) ∙ c .before .if1 .taken in
     rw home
 
 add-t6 : tie.Need-add-t6
@@ -23,7 +23,7 @@ add-t6 c = search needs
 
 returns-2 : tie.Need-returns-2
 returns-2 c =
-    let spare : isHome (c .before .before .before .args .g) (c .before .before .before .args .sector) ≡ false = sym (c .before .before .is-home .ensures) ∙ c .before .if1 .left in
+    let spare : isHome (c .before .before .before .args .drive) (c .before .before .before .args .sector) ≡ false = sym (c .before .before .is-home .ensures) ∙ c .before .if1 .left in
     rw spare
 
 pub count-one-spec : {M : Type 1} → statement M

@@ -6,23 +6,23 @@ use mathlib.Core.List.{[]}
 use native.Mathlib.Omega.{arith}
 use lib.ListN.{length, take}
 use denote.Ref.{now}
-use Rattle.lists.specs.Union.{written}
+use Rattle.paper.specs.Promise.{written}
 use Rattle.marking.specs.Marks.{marked}
 use Rattle.marking.proofs.Tables.{written-marks, marked-keeps, marked-over, marked-next, marked-all}
 use Rattle.marking.proofs.mark.Statement.{statement}
 use Rattle.marking.proofs.mark.Tie as tie
 
 abbrev Inv-loop : tie.InvT-loop
-Inv-loop g list room₀ i₀ room i = (i ≤ length list) × (room ≡ written (marked g (take i list)) room₀)
+Inv-loop drive list room₀ i₀ room i = (i ≤ length list) × (room ≡ written (marked drive (take i list)) room₀)
 
 abbrev μ-loop : tie.MeasureT-loop
-μ-loop g list room₀ i₀ room i = length list - i
+μ-loop drive list room₀ i₀ room i = length list - i
 
 clear-requires : tie.Need-clear-requires Inv-loop μ-loop
 clear-requires c κs = (c .before .before .before .pre .0, c .before .before .before .pre .1 .1)
 
 loop-holds : tie.Need-loop-holds Inv-loop μ-loop
-loop-holds c = (omega arith, c .before .before .clear .ensures ∙ sym (marked-over (c .before .before .before .before .before .before .args .g) [] [] _ _ (c .before .before .clear .ensures)))
+loop-holds c = (omega arith, c .before .before .clear .ensures ∙ sym (marked-over (c .before .before .before .before .before .before .args .drive) [] [] _ _ (c .before .before .clear .ensures)))
 
 mul-mark-one : tie.Need-mul-mark-one Inv-loop μ-loop
 mul-mark-one c = omega (arith, c .before .before .before .before .before .before .before .before .pre .1 .0 .short)
@@ -31,7 +31,7 @@ shared-slice-read-mark-one : tie.Need-shared-slice-read-mark-one Inv-loop μ-loo
 shared-slice-read-mark-one c = c .before .loop-test .taken
 
 mark-one-requires : tie.Need-mark-one-requires Inv-loop μ-loop
-mark-one-requires c κs = (c .before .before .before .before .before .before .before .before .before .before .pre .0, (c .before .before .before .before .before .before .before .before .before .before .pre .1 .0 .inside (c .before .before .before .loop .i) (c .before .before .loop-test .taken), written-marks (c .before .before .before .before .before .before .before .before .before .before .args .g) (take (c .before .before .before .loop .i) (now (c .before .before .before .before .before .before .before .before .before .before .args .list))) _ _ (c .before .before .before .loop .inv .1)))
+mark-one-requires c κs = (c .before .before .before .before .before .before .before .before .before .before .pre .0, (c .before .before .before .before .before .before .before .before .before .before .pre .1 .0 .inside (c .before .before .before .loop .i) (c .before .before .loop-test .taken), written-marks (c .before .before .before .before .before .before .before .before .before .before .args .drive) (take (c .before .before .before .loop .i) (now (c .before .before .before .before .before .before .before .before .before .before .args .list))) _ _ (c .before .before .before .loop .inv .1)))
 
 add-i : tie.Need-add-i Inv-loop μ-loop
 add-i c = omega (arith, c .before .before .before .before .before .before .before .before .before .before .before .before .before .pre .1 .0 .short)
@@ -45,10 +45,10 @@ loop-again c = (omega arith, c .before .before .mark-one .ensures ∙ marked-nex
 same-length : tie.Need-same-length Inv-loop μ-loop
 same-length c =
     let a = c .before .before .before .before .before .before .before .before .args in
-    marked-keeps (a .g) (now (a .list)) _ (now (a .room)) (c .before .before .before .before .before .before .before .before .pre .1 .1) (marked-all (a .g) (now (a .list)) (c .before .loop .i) (omega arith) _ _ _ (c .before .before .before .before .clear .ensures) (c .before .loop .inv .1))
+    marked-keeps (a .drive) (now (a .list)) _ (now (a .room)) (c .before .before .before .before .before .before .before .before .pre .1 .1) (marked-all (a .drive) (now (a .list)) (c .before .loop .i) (omega arith) _ _ _ (c .before .before .before .before .clear .ensures) (c .before .loop .inv .1))
 
 returns : tie.Need-returns Inv-loop μ-loop
-returns c = marked-all (c .before .before .before .before .before .before .before .before .args .g) (now (c .before .before .before .before .before .before .before .before .args .list)) (c .before .loop .i) (omega arith) _ _ _ (c .before .before .before .before .clear .ensures) (c .before .loop .inv .1)
+returns c = marked-all (c .before .before .before .before .before .before .before .before .args .drive) (now (c .before .before .before .before .before .before .before .before .args .list)) (c .before .loop .i) (omega arith) _ _ _ (c .before .before .before .before .clear .ensures) (c .before .loop .inv .1)
 
 pub mark-spec : {M : Type 1} → statement M
 mark-spec =

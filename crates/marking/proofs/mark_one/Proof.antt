@@ -16,7 +16,7 @@ is-home-requires c κs = search needs
 
 returns : tie.Need-returns
 returns c =
-    let home : isHome (c .before .before .before .args .g) (c .before .before .before .args .sector) ≡ true = sym (c .before .is-home .ensures) ∙ c .if1 .taken in
+    let home : isHome (c .before .before .before .args .drive) (c .before .before .before .args .sector) ≡ true = sym (c .before .is-home .ensures) ∙ c .if1 .taken in
     rw home
 
 add-sectors : tie.Need-add-sectors
@@ -54,7 +54,7 @@ same-length c = search needs
 
 returns-2 : tie.Need-returns-2
 returns-2 c =
-    let spare : isHome (c .before .before .before .before .before .before .args .g) (c .before .before .before .before .before .before .args .sector) ≡ false = sym (c .before .before .before .before .is-home .ensures) ∙ c .before .before .before .if1 .left in
+    let spare : isHome (c .before .before .before .before .before .before .args .drive) (c .before .before .before .before .before .before .args .sector) ≡ false = sym (c .before .before .before .before .is-home .ensures) ∙ c .before .before .before .if1 .left in
     rw spare
 
 pub mark-one-spec : {M : Type 1} → statement M

@@ -22,13 +22,13 @@ units-of-requires c κs = tells-laid-out (now (c .before .before .before .args .
 entry-count-requires : tie.Need-entry-count-requires
 entry-count-requires c κs = tells-laid-out (now (c .before .before .before .before .args .page)) .holds (sym (c .before .before .laid-out .ensures) ∙ not-false _ (c .before .if1 .left)) .long .0
 
-places-fault-requires : tie.Need-places-fault-requires
-places-fault-requires c κs =
+lowest-fault-requires : tie.Need-lowest-fault-requires
+lowest-fault-requires c κs =
     let laid : LaidOut (now (c .before .before .before .before .before .args .page)) = tells-laid-out (now (c .before .before .before .before .before .args .page)) .holds (sym (c .before .before .before .laid-out .ensures) ∙ not-false _ (c .before .before .if1 .left)) in
     omega (arith, c .entry-count .ensures)
 
 returns-2 : tie.Need-returns-2
-returns-2 c = c .places-fault .ensures ∙ rw (c .before .before .units-of .ensures, c .before .entry-count .ensures, sym (c .before .before .before .before .laid-out .ensures) ∙ not-false _ (c .before .before .before .if1 .left))
+returns-2 c = c .lowest-fault .ensures ∙ rw (c .before .before .units-of .ensures, c .before .entry-count .ensures, sym (c .before .before .before .before .laid-out .ensures) ∙ not-false _ (c .before .before .before .if1 .left))
 
 pub page-fault-spec : {M : Type 1} → statement M
 page-fault-spec =
@@ -38,5 +38,5 @@ page-fault-spec =
     returns
     units-of-requires
     entry-count-requires
-    places-fault-requires
+    lowest-fault-requires
     returns-2)

@@ -1,10 +1,9 @@
 -- `reading::judge_sized` meets its contract: it refuses with the number that the spot refuses with, and with none where there is a spot.
 -- Assumes nothing.
 use borrow.Author.Needs.{needs}
-use mathlib.Core.Path.{sym, _∙_}
+use mathlib.Core.Path.{sym, _∙_, refl}
 use Rattle.paper.proofs.Chain.{answer-refused}
 use Rattle.paper.proofs.Kept.{gives}
-use Rattle.image.proofs.Says.{verdict-says}
 use Rattle.reading.proofs.Spots.{home-told, spare-told, refused-told}
 use Rattle.reading.proofs.judge_sized.Statement.{statement}
 use Rattle.reading.proofs.judge_sized.Tie as tie
@@ -23,16 +22,16 @@ enum-known-fault c = search needs
 
 returns : tie.Need-returns
 returns c =
-    gives (verdict-says _) (rw (home-told _ _ _ _ _ _ _ (sym (c .before .before .spot-sized .ensures .answers) ∙ c .enum-told .given .1) .0))
+    gives (λ k. refl) (rw (home-told _ _ _ _ _ _ _ (sym (c .before .before .spot-sized .ensures .answers) ∙ c .enum-told .given .1) .0))
 
 returns-2 : tie.Need-returns-2
 returns-2 c =
-    gives (verdict-says _) (rw (spare-told _ _ _ _ _ _ _ (sym (c .before .before .spot-sized .ensures .answers) ∙ c .enum-told2 .given .1) .0))
+    gives (λ k. refl) (rw (spare-told _ _ _ _ _ _ _ (sym (c .before .before .spot-sized .ensures .answers) ∙ c .enum-told2 .given .1) .0))
 
 returns-3 : tie.Need-returns-3
 returns-3 c =
     let told = refused-told _ _ _ _ _ _ _ (sym (c .before .before .before .spot-sized .ensures .answers) ∙ c .before .fault .given .1) in
-    gives (verdict-says _) (rw (told .0) (sym (answer-refused _ _ _ (told .1))))
+    gives (λ k. refl) (rw (told .0) (sym (answer-refused _ _ _ (told .1))))
 
 pub judge-sized-spec : {M : Type 1} → statement M
 judge-sized-spec =

@@ -15,15 +15,15 @@ returns : tie.Need-returns
 returns c =
     spot-refused _ _ _ _ _ _ _ (read-lent _ _ _ _ _ _ _ (c .before .lent-fault .ensures) (c .if1 .taken)) (c .if1 .taken)
 
-layout-of-requires : tie.Need-layout-of-requires
-layout-of-requires c κs =
+drive-of-requires : tie.Need-drive-of-requires
+drive-of-requires c κs =
     let lent = lent-shows _ _ _ _ _ _ _ (sym (c .before .lent-fault .ensures) ∙ c .if1 .left) in
     (lent .shaped, lent .drives)
 
 seat-of-requires : tie.Need-seat-of-requires
 seat-of-requires c κs =
     let lent = lent-shows _ _ _ _ _ _ _ (sym (c .before .before .lent-fault .ensures) ∙ c .before .if1 .left) in
-    rw (c .layout-of .ensures) (lent .laid)
+    rw (c .drive-of .ensures) (lent .laid)
 
 add-start : tie.Need-add-start
 add-start c = search needs
@@ -32,7 +32,7 @@ mul-start : tie.Need-mul-start
 mul-start c =
     let a = c .before .before .before .before .before .before .before .before .args in
     let lent = lent-shows _ _ _ _ _ _ _ (sym (c .before .before .before .before .lent-fault .ensures) ∙ c .before .before .before .if1 .left) in
-    rw (seat-sector (a .size) (a .shape) (a .r) (a .table .now) (a .block) (c .before .before .layout-of .ensures) (c .before .seat-of .ensures)) (omega (arith, end-fits lent (c .before .before .before .before .before .before .before .before .pre)))
+    rw (seat-sector (a .size) (a .shape) (a .r) (a .table .now) (a .block) (c .before .before .drive-of .ensures) (c .before .seat-of .ensures)) (omega (arith, end-fits lent (c .before .before .before .before .before .before .before .before .pre)))
 
 track-of-requires : tie.Need-track-of-requires
 track-of-requires c κs = search needs
@@ -44,37 +44,37 @@ part-fault-requires : tie.Need-part-fault-requires
 part-fault-requires c κs =
     let a = c .before .before .before .before .before .before .before .before .before .before .args in
     let lent = lent-shows _ _ _ _ _ _ _ (sym (c .before .before .before .before .before .before .lent-fault .ensures) ∙ c .before .before .before .before .before .if1 .left) in
-    rw (seat-sector (a .size) (a .shape) (a .r) (a .table .now) (a .block) (c .before .before .before .before .layout-of .ensures) (c .before .before .before .seat-of .ensures), seat-track (a .size) (a .shape) (a .r) (a .table .now) (a .block) (c .before .before .before .before .layout-of .ensures) (c .before .before .before .seat-of .ensures) (a .home) (a .spare) (c .before .track-of .ensures), track-long lent) (lies-inside lent)
+    rw (seat-sector (a .size) (a .shape) (a .r) (a .table .now) (a .block) (c .before .before .before .before .drive-of .ensures) (c .before .before .before .seat-of .ensures), seat-track (a .size) (a .shape) (a .r) (a .table .now) (a .block) (c .before .before .before .before .drive-of .ensures) (c .before .before .before .seat-of .ensures) (a .home) (a .spare) (c .before .track-of .ensures), track-long lent) (lies-inside lent)
 
 returns-2 : tie.Need-returns-2
 returns-2 c =
     let a = c .before .before .before .before .before .before .before .before .before .before .before .before .args in
-    let found = seat-fault (a .size) (a .shape) (a .r) (a .table .now) (a .block) (c .before .before .before .before .before .before .layout-of .ensures) (c .before .before .before .before .before .seat-of .ensures) (a .home) (a .spare) (c .before .before .before .track-of .ensures) (c .before .before .header-for .ensures) (c .before .part-fault .ensures) in
+    let found = seat-fault (a .size) (a .shape) (a .r) (a .table .now) (a .block) (c .before .before .before .before .before .before .drive-of .ensures) (c .before .before .before .before .before .seat-of .ensures) (a .home) (a .spare) (c .before .before .before .track-of .ensures) (c .before .before .header-for .ensures) (c .before .part-fault .ensures) in
     spot-refused _ _ _ _ _ _ _ (read-lying _ _ _ _ _ _ _ (sym (c .before .before .before .before .before .before .before .before .lent-fault .ensures) ∙ c .before .before .before .before .before .before .before .if1 .left) ∙ sym found) (c .if2 .taken)
 
 add-offset : tie.Need-add-offset
 add-offset c =
     let a = c .before .before .before .before .before .before .before .before .before .before .before .before .args in
     let lent = lent-shows _ _ _ _ _ _ _ (sym (c .before .before .before .before .before .before .before .before .lent-fault .ensures) ∙ c .before .before .before .before .before .before .before .if1 .left) in
-    rw (seat-sector (a .size) (a .shape) (a .r) (a .table .now) (a .block) (c .before .before .before .before .before .before .layout-of .ensures) (c .before .before .before .before .before .seat-of .ensures)) (omega (arith, end-fits lent (c .before .before .before .before .before .before .before .before .before .before .before .before .pre)))
+    rw (seat-sector (a .size) (a .shape) (a .r) (a .table .now) (a .block) (c .before .before .before .before .before .before .drive-of .ensures) (c .before .before .before .before .before .seat-of .ensures)) (omega (arith, end-fits lent (c .before .before .before .before .before .before .before .before .before .before .before .before .pre)))
 
 cast-offset : tie.Need-cast-offset
 cast-offset c =
     let a = c .before .before .before .before .before .before .before .before .before .before .before .before .args in
     let lent = lent-shows _ _ _ _ _ _ _ (sym (c .before .before .before .before .before .before .before .before .lent-fault .ensures) ∙ c .before .before .before .before .before .before .before .if1 .left) in
-    rw (seat-sector (a .size) (a .shape) (a .r) (a .table .now) (a .block) (c .before .before .before .before .before .before .layout-of .ensures) (c .before .before .before .before .before .seat-of .ensures)) (omega (arith, end-fits lent (c .before .before .before .before .before .before .before .before .before .before .before .before .pre)))
+    rw (seat-sector (a .size) (a .shape) (a .r) (a .table .now) (a .block) (c .before .before .before .before .before .before .drive-of .ensures) (c .before .before .before .before .before .seat-of .ensures)) (omega (arith, end-fits lent (c .before .before .before .before .before .before .before .before .before .before .before .before .pre)))
 
 returns-3 : tie.Need-returns-3
 returns-3 c =
     let a = c .before .before .before .before .before .before .before .before .before .before .before .before .before .args in
-    let found = seat-fault (a .size) (a .shape) (a .r) (a .table .now) (a .block) (c .before .before .before .before .before .before .before .layout-of .ensures) (c .before .before .before .before .before .before .seat-of .ensures) (a .home) (a .spare) (c .before .before .before .before .track-of .ensures) (c .before .before .before .header-for .ensures) (c .before .before .part-fault .ensures) in
-    spot-found _ _ _ _ _ _ _ (read-lying _ _ _ _ _ _ _ (sym (c .before .before .before .before .before .before .before .before .before .lent-fault .ensures) ∙ c .before .before .before .before .before .before .before .before .if1 .left) ∙ sym found ∙ c .before .if2 .left) (rw (← seat-sector (a .size) (a .shape) (a .r) (a .table .now) (a .block) (c .before .before .before .before .before .before .before .layout-of .ensures) (c .before .before .before .before .before .before .seat-of .ensures), ← seat-replaced (a .size) (a .shape) (a .r) (a .table .now) (a .block) (c .before .before .before .before .before .before .before .layout-of .ensures) (c .before .before .before .before .before .before .seat-of .ensures), c .if3 .taken))
+    let found = seat-fault (a .size) (a .shape) (a .r) (a .table .now) (a .block) (c .before .before .before .before .before .before .before .drive-of .ensures) (c .before .before .before .before .before .before .seat-of .ensures) (a .home) (a .spare) (c .before .before .before .before .track-of .ensures) (c .before .before .before .header-for .ensures) (c .before .before .part-fault .ensures) in
+    spot-found _ _ _ _ _ _ _ (read-lying _ _ _ _ _ _ _ (sym (c .before .before .before .before .before .before .before .before .before .lent-fault .ensures) ∙ c .before .before .before .before .before .before .before .before .if1 .left) ∙ sym found ∙ c .before .if2 .left) (rw (← seat-sector (a .size) (a .shape) (a .r) (a .table .now) (a .block) (c .before .before .before .before .before .before .before .drive-of .ensures) (c .before .before .before .before .before .before .seat-of .ensures), ← seat-replaced (a .size) (a .shape) (a .r) (a .table .now) (a .block) (c .before .before .before .before .before .before .before .drive-of .ensures) (c .before .before .before .before .before .before .seat-of .ensures), c .if3 .taken))
 
 returns-4 : tie.Need-returns-4
 returns-4 c =
     let a = c .before .before .before .before .before .before .before .before .before .before .before .before .before .args in
-    let found = seat-fault (a .size) (a .shape) (a .r) (a .table .now) (a .block) (c .before .before .before .before .before .before .before .layout-of .ensures) (c .before .before .before .before .before .before .seat-of .ensures) (a .home) (a .spare) (c .before .before .before .before .track-of .ensures) (c .before .before .before .header-for .ensures) (c .before .before .part-fault .ensures) in
-    spot-found _ _ _ _ _ _ _ (read-lying _ _ _ _ _ _ _ (sym (c .before .before .before .before .before .before .before .before .before .lent-fault .ensures) ∙ c .before .before .before .before .before .before .before .before .if1 .left) ∙ sym found ∙ c .before .if2 .left) (rw (← seat-sector (a .size) (a .shape) (a .r) (a .table .now) (a .block) (c .before .before .before .before .before .before .before .layout-of .ensures) (c .before .before .before .before .before .before .seat-of .ensures), ← seat-replaced (a .size) (a .shape) (a .r) (a .table .now) (a .block) (c .before .before .before .before .before .before .before .layout-of .ensures) (c .before .before .before .before .before .before .seat-of .ensures), c .if3 .left))
+    let found = seat-fault (a .size) (a .shape) (a .r) (a .table .now) (a .block) (c .before .before .before .before .before .before .before .drive-of .ensures) (c .before .before .before .before .before .before .seat-of .ensures) (a .home) (a .spare) (c .before .before .before .before .track-of .ensures) (c .before .before .before .header-for .ensures) (c .before .before .part-fault .ensures) in
+    spot-found _ _ _ _ _ _ _ (read-lying _ _ _ _ _ _ _ (sym (c .before .before .before .before .before .before .before .before .before .lent-fault .ensures) ∙ c .before .before .before .before .before .before .before .before .if1 .left) ∙ sym found ∙ c .before .if2 .left) (rw (← seat-sector (a .size) (a .shape) (a .r) (a .table .now) (a .block) (c .before .before .before .before .before .before .before .drive-of .ensures) (c .before .before .before .before .before .before .seat-of .ensures), ← seat-replaced (a .size) (a .shape) (a .r) (a .table .now) (a .block) (c .before .before .before .before .before .before .before .drive-of .ensures) (c .before .before .before .before .before .before .seat-of .ensures), c .if3 .left))
 
 pub spot-sized-spec : {M : Type 1} → statement M
 spot-sized-spec =
@@ -82,7 +82,7 @@ spot-sized-spec =
     (tie.spec
     lent-fault-requires
     returns
-    layout-of-requires
+    drive-of-requires
     seat-of-requires
     add-start
     mul-start

@@ -11,10 +11,10 @@ code-at-requires : tie.Need-code-at-requires
 code-at-requires c κs = search needs
 
 mul-result : tie.Need-mul-result
-mul-result c = omega (arith, c .code-at .ensures, code-few (c .before .args .g) (c .before .args .place) (c .before .args .block))
+mul-result c = omega (arith, c .code-at .ensures, code-few (c .before .args .drive) (c .before .args .place) (c .before .args .block))
 
 add-result : tie.Need-add-result
-add-result c = omega (arith, c .code-at .ensures, code-few (c .before .args .g) (c .before .args .place) (c .before .args .block), blocks-few (c .before .pre .0))
+add-result c = omega (arith, c .code-at .ensures, code-few (c .before .args .drive) (c .before .args .place) (c .before .args .block), blocks-few (c .before .pre .0))
 
 returns : tie.Need-returns
 returns c = search needs

@@ -1,8 +1,8 @@
 -- `shape::sector_of` meets its contract: the two faults are the chain of the definition, and where both are 0 the shape is in its ranges and the address on the drive.
 -- Assumes nothing.
 use borrow.Author.Needs.{needs}
-use mathlib.Core.Path.{sym, _∙_}
-use Rattle.paper.proofs.Chain.{orElse-some, answer-refused, placed-says}
+use mathlib.Core.Path.{sym, _∙_, refl}
+use Rattle.paper.proofs.Chain.{orElse-some, answer-refused}
 use Rattle.paper.proofs.Kept.{gives}
 use Rattle.shape.proofs.Exact.{shape-shows, place-shows}
 use Rattle.shape.proofs.sector_of.Statement.{statement}
@@ -12,19 +12,19 @@ shape-fault-requires : tie.Need-shape-fault-requires
 shape-fault-requires c κs = search needs
 
 returns : tie.Need-returns
-returns c = gives (placed-says _ _) (rw (← c .before .shape-fault .ensures, orElse-some _ _ (c .if1 .taken)) (sym (answer-refused _ _ _ (c .if1 .taken))))
+returns c = gives (λ k. refl) (rw (← c .before .shape-fault .ensures, orElse-some _ _ (c .if1 .taken)) (sym (answer-refused _ _ _ (c .if1 .taken))))
 
-place-fault-requires : tie.Need-place-fault-requires
-place-fault-requires c κs = search needs
+off-drive-fault-requires : tie.Need-off-drive-fault-requires
+off-drive-fault-requires c κs = search needs
 
 returns-2 : tie.Need-returns-2
-returns-2 c = gives (placed-says _ _) (rw (← c .before .before .before .shape-fault .ensures, c .before .before .if1 .left, ← c .before .place-fault .ensures) (sym (answer-refused _ _ _ (c .if2 .taken))))
+returns-2 c = gives (λ k. refl) (rw (← c .before .before .before .shape-fault .ensures, c .before .before .if1 .left, ← c .before .off-drive-fault .ensures) (sym (answer-refused _ _ _ (c .if2 .taken))))
 
 sector-at-requires : tie.Need-sector-at-requires
-sector-at-requires c κs = (shape-shows _ (sym (c .before .before .before .shape-fault .ensures) ∙ c .before .before .if1 .left), place-shows _ _ _ _ (sym (c .before .place-fault .ensures) ∙ c .if2 .left))
+sector-at-requires c κs = (shape-shows _ (sym (c .before .before .before .shape-fault .ensures) ∙ c .before .before .if1 .left), place-shows _ _ _ _ (sym (c .before .off-drive-fault .ensures) ∙ c .if2 .left))
 
 returns-3 : tie.Need-returns-3
-returns-3 c = gives (placed-says _ _) (rw (← c .before .before .before .before .shape-fault .ensures, c .before .before .before .if1 .left, ← c .before .before .place-fault .ensures, c .before .if2 .left, c .sector-at .ensures))
+returns-3 c = gives (λ k. refl) (rw (← c .before .before .before .before .shape-fault .ensures, c .before .before .before .if1 .left, ← c .before .before .off-drive-fault .ensures, c .before .if2 .left, c .sector-at .ensures))
 
 pub sector-of-spec : {M : Type 1} → statement M
 sector-of-spec =
@@ -32,7 +32,7 @@ sector-of-spec =
     (tie.spec
     shape-fault-requires
     returns
-    place-fault-requires
+    off-drive-fault-requires
     returns-2
     sector-at-requires
     returns-3)

@@ -1,9 +1,9 @@
 -- `skipped::block_at` meets its contract: the sector number of an address on the drive is named as the definition says.
 -- Assumes nothing.
 use borrow.Author.Needs.{needs}
-use mathlib.Core.Path.{sym, _∙_, ap}
+use mathlib.Core.Path.{sym, _∙_, ap, refl}
 use denote.Ref.{now}
-use Rattle.paper.proofs.Chain.{answer-refused, answer-accepted, named-says}
+use Rattle.paper.proofs.Chain.{answer-refused, answer-accepted}
 use Rattle.paper.proofs.Kept.{gives}
 use Rattle.lists.specs.Union.{isIn}
 use Rattle.shape.specs.Addresses.{sectorAt}
@@ -13,23 +13,23 @@ use Rattle.skipped.proofs.Shown.{drive-shaped, drive-proper, place-driv
 use Rattle.skipped.proofs.block_at.Statement.{statement}
 use Rattle.skipped.proofs.block_at.Tie as tie
 
-place-fault-requires : tie.Need-place-fault-requires
-place-fault-requires c κs = search needs
+block-at-fault-requires : tie.Need-block-at-fault-requires
+block-at-fault-requires c κs = search needs
 
 returns : tie.Need-returns
-returns c = gives (named-says _ (isIn (now (c .before .before .before .args .list)) (sectorAt (c .before .before .before .args .shape) (c .before .before .before .args .cylinder) (c .before .before .before .args .head) (c .before .before .before .args .sector))) (goodsBefore (isIn (now (c .before .before .before .args .list))) (sectorAt (c .before .before .before .args .shape) (c .before .before .before .args .cylinder) (c .before .before .before .args .head) (c .before .before .before .args .sector))))
-    (rw (← c .before .place-fault .ensures) (sym (answer-refused _ _ _ (c .if1 .taken))))
+returns c = gives (λ k. refl)
+    (rw (← c .before .block-at-fault .ensures) (sym (answer-refused _ _ _ (c .if1 .taken))))
 
 sector-at-requires : tie.Need-sector-at-requires
-sector-at-requires c κs = (drive-shaped (c .before .before .before .args .shape) (now (c .before .before .before .args .list)) (place-drive (c .before .before .before .args .shape) (now (c .before .before .before .args .list)) (c .before .before .before .args .cylinder) (c .before .before .before .args .head) (c .before .before .before .args .sector) (sym (c .before .place-fault .ensures) ∙ c .if1 .left)), place-on-drive (c .before .before .before .args .shape) (now (c .before .before .before .args .list)) (c .before .before .before .args .cylinder) (c .before .before .before .args .head) (c .before .before .before .args .sector) (sym (c .before .place-fault .ensures) ∙ c .if1 .left))
+sector-at-requires c κs = (drive-shaped (c .before .before .before .args .shape) (now (c .before .before .before .args .list)) (place-drive (c .before .before .before .args .shape) (now (c .before .before .before .args .list)) (c .before .before .before .args .cylinder) (c .before .before .before .args .head) (c .before .before .before .args .sector) (sym (c .before .block-at-fault .ensures) ∙ c .if1 .left)), place-on-drive (c .before .before .before .args .shape) (now (c .before .before .before .args .list)) (c .before .before .before .args .cylinder) (c .before .before .before .args .head) (c .before .before .before .args .sector) (sym (c .before .block-at-fault .ensures) ∙ c .if1 .left))
 
 name-requires : tie.Need-name-requires
-name-requires c κs = (drive-proper (c .before .before .before .before .args .shape) (now (c .before .before .before .before .args .list)) (place-drive (c .before .before .before .before .args .shape) (now (c .before .before .before .before .args .list)) (c .before .before .before .before .args .cylinder) (c .before .before .before .before .args .head) (c .before .before .before .before .args .sector) (sym (c .before .before .place-fault .ensures) ∙ c .before .if1 .left)) .rising, drive-proper (c .before .before .before .before .args .shape) (now (c .before .before .before .before .args .list)) (place-drive (c .before .before .before .before .args .shape) (now (c .before .before .before .before .args .list)) (c .before .before .before .before .args .cylinder) (c .before .before .before .before .args .head) (c .before .before .before .before .args .sector) (sym (c .before .before .place-fault .ensures) ∙ c .before .if1 .left)) .short)
+name-requires c κs = (drive-proper (c .before .before .before .before .args .shape) (now (c .before .before .before .before .args .list)) (place-drive (c .before .before .before .before .args .shape) (now (c .before .before .before .before .args .list)) (c .before .before .before .before .args .cylinder) (c .before .before .before .before .args .head) (c .before .before .before .before .args .sector) (sym (c .before .before .block-at-fault .ensures) ∙ c .before .if1 .left)) .rising, drive-proper (c .before .before .before .before .args .shape) (now (c .before .before .before .before .args .list)) (place-drive (c .before .before .before .before .args .shape) (now (c .before .before .before .before .args .list)) (c .before .before .before .before .args .cylinder) (c .before .before .before .before .args .head) (c .before .before .before .before .args .sector) (sym (c .before .before .block-at-fault .ensures) ∙ c .before .if1 .left)) .short)
 
 returns-2 : tie.Need-returns-2
-returns-2 c = gives (named-says _ (isIn (now (c .before .before .before .before .before .args .list)) (sectorAt (c .before .before .before .before .before .args .shape) (c .before .before .before .before .before .args .cylinder) (c .before .before .before .before .before .args .head) (c .before .before .before .before .before .args .sector))) (goodsBefore (isIn (now (c .before .before .before .before .before .args .list))) (sectorAt (c .before .before .before .before .before .args .shape) (c .before .before .before .before .before .args .cylinder) (c .before .before .before .before .before .args .head) (c .before .before .before .before .before .args .sector))))
-    (c .name .ensures ∙ (ap (blockOn (now (c .before .before .before .before .before .args .list))) (c .before .sector-at .ensures) ∙ sym (answer-accepted _ _ _ (sym (c .before .before .before .place-fault .ensures) ∙ c .before .before .if1 .left))))
+returns-2 c = gives (λ k. refl)
+    (c .name .ensures ∙ (ap (blockOn (now (c .before .before .before .before .before .args .list))) (c .before .sector-at .ensures) ∙ sym (answer-accepted _ _ _ (sym (c .before .before .before .block-at-fault .ensures) ∙ c .before .before .if1 .left))))
 
 pub block-at-spec : {M : Type 1} → statement M
 block-at-spec =
-    tie.close (tie.spec place-fault-requires returns sector-at-requires name-requires returns-2)
+    tie.close (tie.spec block-at-fault-requires returns sector-at-requires name-requires returns-2)

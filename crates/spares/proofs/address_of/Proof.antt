@@ -1,11 +1,10 @@
 -- `spares::address_of` meets its contract: as for the sector, of which the address is made.
 -- Assumes nothing.
 use borrow.Author.Needs.{needs}
-use mathlib.Core.Path.{sym, _∙_}
+use mathlib.Core.Path.{sym, _∙_, refl}
 use denote.Ref.{now}
 use Rattle.paper.proofs.Chain.{answer-refused}
 use Rattle.paper.proofs.Kept.{gives}
-use Rattle.shape.proofs.Says.{located-says}
 use Rattle.spares.proofs.Exact.{block-ready, block-below}
 use Rattle.spares.proofs.address_of.Statement.{statement}
 use Rattle.spares.proofs.address_of.Tie as tie
@@ -14,10 +13,10 @@ block-fault-requires : tie.Need-block-fault-requires
 block-fault-requires c κs = search needs
 
 returns : tie.Need-returns
-returns c = gives (located-says _ _) (rw (← c .before .block-fault .ensures) (sym (answer-refused _ _ _ (c .if1 .taken))))
+returns c = gives (λ k. refl) (rw (← c .before .block-fault .ensures) (sym (answer-refused _ _ _ (c .if1 .taken))))
 
-layout-of-requires : tie.Need-layout-of-requires
-layout-of-requires c κs =
+drive-of-requires : tie.Need-drive-of-requires
+drive-of-requires c κs =
     let a = c .before .before .before .args in
     let none = sym (c .before .block-fault .ensures) ∙ c .if1 .left in
     let ready = block-ready (a .shape) (a .r) (now (a .table)) (a .block) none in
@@ -28,7 +27,7 @@ lies-on-requires c κs =
     let a = c .before .before .before .before .args in
     let none = sym (c .before .before .block-fault .ensures) ∙ c .before .if1 .left in
     let ready = block-ready (a .shape) (a .r) (now (a .table)) (a .block) none in
-    rw (c .layout-of .ensures) (ready .laid, (ready .obeys, block-below (a .shape) (a .r) (now (a .table)) (a .block) none))
+    rw (c .drive-of .ensures) (ready .laid, (ready .obeys, block-below (a .shape) (a .r) (now (a .table)) (a .block) none))
 
 address-at-requires : tie.Need-address-at-requires
 address-at-requires c κs =
@@ -38,7 +37,7 @@ address-at-requires c κs =
     ready .shaped
 
 returns-2 : tie.Need-returns-2
-returns-2 c = gives (located-says _ _) (rw (← c .before .before .before .before .block-fault .ensures, c .before .before .before .if1 .left, c .address-at .ensures, c .before .lies-on .ensures, c .before .before .layout-of .ensures))
+returns-2 c = gives (λ k. refl) (rw (← c .before .before .before .before .block-fault .ensures, c .before .before .before .if1 .left, c .address-at .ensures, c .before .lies-on .ensures, c .before .before .drive-of .ensures))
 
 pub address-of-spec : {M : Type 1} → statement M
 address-of-spec =
@@ -46,7 +45,7 @@ address-of-spec =
     (tie.spec
     block-fault-requires
     returns
-    layout-of-requires
+    drive-of-requires
     lies-on-requires
     address-at-requires
     returns-2)

@@ -1,16 +1,15 @@
 -- `spares::block_at` meets its contract: the table's fault and the place's are the chain of the definition, and an address on the drive has a sector number below N.
 -- Assumes nothing.
 use borrow.Author.Needs.{needs}
-use mathlib.Core.Path.{sym, _∙_}
+use mathlib.Core.Path.{sym, _∙_, refl}
 use denote.Ref.{now}
 use Rattle.paper.proofs.Chain.{orElse-some, answer-refused}
 use Rattle.paper.proofs.Kept.{gives}
 use Rattle.shape.proofs.Exact.{place-shows}
 use Rattle.shape.proofs.Bounds.{sector-below}
-use Rattle.layout.specs.Layouts.{layoutOf}
+use Rattle.layout.specs.Layouts.{driveOf}
 use Rattle.shape.specs.Addresses.{sectorAt}
 use Rattle.spares.proofs.Exact.{table-ready, sector-within}
-use Rattle.spares.proofs.Says.{lying-says}
 use Rattle.spares.proofs.block_at.Statement.{statement}
 use Rattle.spares.proofs.block_at.Tie as tie
 
@@ -20,24 +19,24 @@ table-fault-requires c κs = search needs
 returns : tie.Need-returns
 returns c =
     let a = c .before .before .before .args in
-    gives (lying-says _ (layoutOf (a .shape) (a .r)) (now (a .table)) (sectorAt (a .shape) (a .cylinder) (a .head) (a .sector))) (rw (← c .before .table-fault .ensures, orElse-some _ _ (c .if1 .taken)) (sym (answer-refused _ _ _ (c .if1 .taken))))
+    gives (λ k. refl) (rw (← c .before .table-fault .ensures, orElse-some _ _ (c .if1 .taken)) (sym (answer-refused _ _ _ (c .if1 .taken))))
 
-place-fault-requires : tie.Need-place-fault-requires
-place-fault-requires c κs = search needs
+off-drive-fault-requires : tie.Need-off-drive-fault-requires
+off-drive-fault-requires c κs = search needs
 
 returns-2 : tie.Need-returns-2
 returns-2 c =
     let a = c .before .before .before .before .before .args in
-    gives (lying-says _ (layoutOf (a .shape) (a .r)) (now (a .table)) (sectorAt (a .shape) (a .cylinder) (a .head) (a .sector))) (rw (← c .before .before .before .table-fault .ensures, c .before .before .if1 .left, ← c .before .place-fault .ensures) (sym (answer-refused _ _ _ (c .if2 .taken))))
+    gives (λ k. refl) (rw (← c .before .before .before .table-fault .ensures, c .before .before .if1 .left, ← c .before .off-drive-fault .ensures) (sym (answer-refused _ _ _ (c .if2 .taken))))
 
 sector-at-requires : tie.Need-sector-at-requires
 sector-at-requires c κs =
     let a = c .before .before .before .before .before .args in
     let ready = table-ready (a .shape) (a .r) (now (a .table)) (sym (c .before .before .before .table-fault .ensures) ∙ c .before .before .if1 .left) in
-    (ready .shaped, place-shows _ _ _ _ (sym (c .before .place-fault .ensures) ∙ c .if2 .left))
+    (ready .shaped, place-shows _ _ _ _ (sym (c .before .off-drive-fault .ensures) ∙ c .if2 .left))
 
-layout-of-requires : tie.Need-layout-of-requires
-layout-of-requires c κs =
+drive-of-requires : tie.Need-drive-of-requires
+drive-of-requires c κs =
     let a = c .before .before .before .before .before .before .args in
     let ready = table-ready (a .shape) (a .r) (now (a .table)) (sym (c .before .before .before .before .table-fault .ensures) ∙ c .before .before .before .if1 .left) in
     (ready .shaped, ready .drives)
@@ -46,13 +45,13 @@ lying-on-requires : tie.Need-lying-on-requires
 lying-on-requires c κs =
     let a = c .before .before .before .before .before .before .before .args in
     let ready = table-ready (a .shape) (a .r) (now (a .table)) (sym (c .before .before .before .before .before .table-fault .ensures) ∙ c .before .before .before .before .if1 .left) in
-    let on-drive = place-shows (a .shape) (a .cylinder) (a .head) (a .sector) (sym (c .before .before .before .place-fault .ensures) ∙ c .before .before .if2 .left) in
-    rw (c .layout-of .ensures, c .before .sector-at .ensures) (ready .laid, (ready .obeys, sector-within (ready .drives) (sector-below (ready .shaped) on-drive)))
+    let on-drive = place-shows (a .shape) (a .cylinder) (a .head) (a .sector) (sym (c .before .before .before .off-drive-fault .ensures) ∙ c .before .before .if2 .left) in
+    rw (c .drive-of .ensures, c .before .sector-at .ensures) (ready .laid, (ready .obeys, sector-within (ready .drives) (sector-below (ready .shaped) on-drive)))
 
 returns-3 : tie.Need-returns-3
 returns-3 c =
     let a = c .before .before .before .before .before .before .before .before .args in
-    gives (lying-says _ (layoutOf (a .shape) (a .r)) (now (a .table)) (sectorAt (a .shape) (a .cylinder) (a .head) (a .sector))) (rw (← c .before .before .before .before .before .before .table-fault .ensures, c .before .before .before .before .before .if1 .left, ← c .before .before .before .before .place-fault .ensures, c .before .before .before .if2 .left, c .lying-on .ensures, c .before .layout-of .ensures, c .before .before .sector-at .ensures))
+    gives (λ k. refl) (rw (← c .before .before .before .before .before .before .table-fault .ensures, c .before .before .before .before .before .if1 .left, ← c .before .before .before .before .off-drive-fault .ensures, c .before .before .before .if2 .left, c .lying-on .ensures, c .before .drive-of .ensures, c .before .before .sector-at .ensures))
 
 pub block-at-spec : {M : Type 1} → statement M
 block-at-spec =
@@ -60,9 +59,9 @@ block-at-spec =
     (tie.spec
     table-fault-requires
     returns
-    place-fault-requires
+    off-drive-fault-requires
     returns-2
     sector-at-requires
-    layout-of-requires
+    drive-of-requires
     lying-on-requires
     returns-3)

@@ -1,7 +1,7 @@
 -- `spares::block_on` meets its contract: the table's fault and the comparison with N are the chain of the definition, and a sector below N is one of the layout's.
 -- Assumes nothing.
 use borrow.Author.Needs.{needs}
-use mathlib.Core.Path.{sym, _∙_}
+use mathlib.Core.Path.{sym, _∙_, refl}
 use Prim.Native.Nat.{_<_, _≤_}
 use native.Mathlib.Omega.{arith}
 use Rattle.shape.specs.Shapes.{sizeOf}
@@ -9,9 +9,8 @@ use borrow.Author.Tests.{le-leb, lt-leb}
 use denote.Ref.{now}
 use Rattle.paper.proofs.Chain.{orElse-some, answer-refused}
 use Rattle.paper.proofs.Kept.{gives}
-use Rattle.layout.specs.Layouts.{layoutOf}
+use Rattle.layout.specs.Layouts.{driveOf}
 use Rattle.spares.proofs.Exact.{table-ready, sector-within}
-use Rattle.spares.proofs.Says.{lying-says}
 use Rattle.spares.proofs.block_on.Statement.{statement}
 use Rattle.spares.proofs.block_on.Tie as tie
 
@@ -21,7 +20,7 @@ table-fault-requires c κs = search needs
 returns : tie.Need-returns
 returns c =
     let a = c .before .before .before .args in
-    gives (lying-says _ (layoutOf (a .shape) (a .r)) (now (a .table)) (a .sector)) (rw (← c .before .table-fault .ensures, orElse-some _ _ (c .if1 .taken)) (sym (answer-refused _ _ _ (c .if1 .taken))))
+    gives (λ k. refl) (rw (← c .before .table-fault .ensures, orElse-some _ _ (c .if1 .taken)) (sym (answer-refused _ _ _ (c .if1 .taken))))
 
 size-of-requires : tie.Need-size-of-requires
 size-of-requires c κs =
@@ -33,10 +32,10 @@ returns-2 : tie.Need-returns-2
 returns-2 c =
     let a = c .before .before .before .before .before .args in
     let past : c .before .size-of .result ≤ a .sector = omega arith in
-    gives (lying-says _ (layoutOf (a .shape) (a .r)) (now (a .table)) (a .sector)) (rw (← c .before .before .before .table-fault .ensures, c .before .before .if1 .left, ← c .before .size-of .ensures, le-leb _ _ past))
+    gives (λ k. refl) (rw (← c .before .before .before .table-fault .ensures, c .before .before .if1 .left, ← c .before .size-of .ensures, le-leb _ _ past))
 
-layout-of-requires : tie.Need-layout-of-requires
-layout-of-requires c κs =
+drive-of-requires : tie.Need-drive-of-requires
+drive-of-requires c κs =
     let a = c .before .before .before .before .before .args in
     let ready = table-ready (a .shape) (a .r) (now (a .table)) (sym (c .before .before .before .table-fault .ensures) ∙ c .before .before .if1 .left) in
     (ready .shaped, ready .drives)
@@ -46,13 +45,13 @@ lying-on-requires c κs =
     let a = c .before .before .before .before .before .before .args in
     let ready = table-ready (a .shape) (a .r) (now (a .table)) (sym (c .before .before .before .before .table-fault .ensures) ∙ c .before .before .before .if1 .left) in
     let below : a .sector < sizeOf (a .shape) = omega (arith, c .before .before .size-of .ensures) in
-    rw (c .layout-of .ensures) (ready .laid, (ready .obeys, sector-within (ready .drives) below))
+    rw (c .drive-of .ensures) (ready .laid, (ready .obeys, sector-within (ready .drives) below))
 
 returns-3 : tie.Need-returns-3
 returns-3 c =
     let a = c .before .before .before .before .before .before .before .args in
     let below : a .sector < c .before .before .before .size-of .result = omega arith in
-    gives (lying-says _ (layoutOf (a .shape) (a .r)) (now (a .table)) (a .sector)) (rw (← c .before .before .before .before .before .table-fault .ensures, c .before .before .before .before .if1 .left, ← c .before .before .before .size-of .ensures, lt-leb _ _ below, c .lying-on .ensures, c .before .layout-of .ensures))
+    gives (λ k. refl) (rw (← c .before .before .before .before .before .table-fault .ensures, c .before .before .before .before .if1 .left, ← c .before .before .before .size-of .ensures, lt-leb _ _ below, c .lying-on .ensures, c .before .drive-of .ensures))
 
 pub block-on-spec : {M : Type 1} → statement M
 block-on-spec =
@@ -62,6 +61,6 @@ block-on-spec =
     returns
     size-of-requires
     returns-2
-    layout-of-requires
+    drive-of-requires
     lying-on-requires
     returns-3)

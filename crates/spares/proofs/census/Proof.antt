@@ -1,14 +1,13 @@
 -- `spares::census` meets its contract: a table that passes has few places, and the census is that of the definition.
 -- Assumes nothing.
 use borrow.Author.Needs.{needs}
-use mathlib.Core.Path.{sym, _∙_}
+use mathlib.Core.Path.{sym, _∙_, refl}
 use native.Mathlib.Omega.{arith}
 use denote.Ref.{now}
 use Rattle.paper.proofs.Chain.{answer-refused}
 use Rattle.paper.proofs.Kept.{gives}
 use Rattle.table.proofs.Obeying.{table-few}
 use Rattle.spares.proofs.Exact.{table-ready}
-use Rattle.spares.proofs.Says.{counted-says}
 use Rattle.spares.proofs.census.Statement.{statement}
 use Rattle.spares.proofs.census.Tie as tie
 
@@ -16,7 +15,7 @@ table-fault-requires : tie.Need-table-fault-requires
 table-fault-requires c κs = search needs
 
 returns : tie.Need-returns
-returns c = gives (counted-says _ _) (rw (← c .before .table-fault .ensures) (sym (answer-refused _ _ _ (c .if1 .taken))))
+returns c = gives (λ k. refl) (rw (← c .before .table-fault .ensures) (sym (answer-refused _ _ _ (c .if1 .taken))))
 
 census-of-requires : tie.Need-census-of-requires
 census-of-requires c κs =
@@ -25,7 +24,7 @@ census-of-requires c κs =
     omega (arith, ready .obeys .long, table-few (ready .laid))
 
 returns-2 : tie.Need-returns-2
-returns-2 c = gives (counted-says _ _) (rw (← c .before .before .table-fault .ensures, c .before .if1 .left, c .census-of .ensures))
+returns-2 c = gives (λ k. refl) (rw (← c .before .before .table-fault .ensures, c .before .if1 .left, c .census-of .ensures))
 
 pub census-spec : {M : Type 1} → statement M
 census-spec = tie.close (tie.spec table-fault-requires returns census-of-requires returns-2)

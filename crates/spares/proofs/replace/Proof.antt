@@ -1,7 +1,7 @@
 -- `spares::replace` meets its contract: each return is a number of the chain, a refusal leaves the table, and what is stored where there is a spare is the replacement of the definition.
 -- Assumes nothing.
 use borrow.Author.Needs.{needs}
-use mathlib.Core.Path.{_≡_, sym, _∙_, ap}
+use mathlib.Core.Path.{_≡_, sym, _∙_, ap, refl}
 use lib.ListN.{set}
 use native.Mathlib.Omega.{arith}
 use borrow.Author.Tests.{le-leb, lt-leb, lt-ltb, le-ltb}
@@ -9,12 +9,11 @@ use denote.Ref.{now}
 use Rattle.paper.proofs.Chain.{orElse-some, answer-refused}
 use Rattle.paper.proofs.Kept.{fills}
 use Rattle.table.proofs.Obeying.{table-few}
-use Rattle.layout.specs.Layouts.{layoutOf}
+use Rattle.layout.specs.Layouts.{driveOf}
 use Rattle.replacing.specs.Replacing.{spareFor, descriptorAt, replacedIn}
 use Rattle.spares.specs.declared.Replaced.the-variants.{Place}
 use Rattle.spares.proofs.Accepted.{replace-twice, replace-fails, replace-passes}
 use Rattle.spares.proofs.Exact.{block-ready, block-below}
-use Rattle.spares.proofs.Says.{replaced-says}
 use Rattle.spares.proofs.replace.Statement.{statement}
 use Rattle.spares.proofs.replace.Tie as tie
 
@@ -25,7 +24,7 @@ same-length : tie.Need-same-length
 same-length c = search needs
 
 returns : tie.Need-returns
-returns c = fills (replaced-says _ _) (rw (← c .before .block-fault .ensures, orElse-some _ _ (c .if1 .taken)) (sym (answer-refused _ _ _ (c .if1 .taken)))) (rw (← c .before .block-fault .ensures, orElse-some _ _ (c .if1 .taken)) (sym (answer-refused _ _ _ (c .if1 .taken))))
+returns c = fills (λ k. refl) (rw (← c .before .block-fault .ensures, orElse-some _ _ (c .if1 .taken)) (sym (answer-refused _ _ _ (c .if1 .taken)))) (rw (← c .before .block-fault .ensures, orElse-some _ _ (c .if1 .taken)) (sym (answer-refused _ _ _ (c .if1 .taken))))
 
 place-of-requires : tie.Need-place-of-requires
 place-of-requires c κs = search needs
@@ -38,10 +37,10 @@ returns-2 c =
     let a = c .before .before .before .before .before .before .before .args in
     let none = sym (c .before .before .before .before .block-fault .ensures) ∙ c .before .before .before .if1 .left in
     let fault = replace-twice (a .shape) (a .r) (now (a .table)) (a .block) none (rw (← c .before .place-of .ensures) (lt-ltb _ _ (c .if2 .taken))) in
-    fills (replaced-says _ _) (rw fault) (rw fault)
+    fills (λ k. refl) (rw fault) (rw fault)
 
-layout-of-requires : tie.Need-layout-of-requires
-layout-of-requires c κs =
+drive-of-requires : tie.Need-drive-of-requires
+drive-of-requires c κs =
     let a = c .before .before .before .before .before .before .before .args in
     let none = sym (c .before .before .before .before .block-fault .ensures) ∙ c .before .before .before .if1 .left in
     let ready = block-ready (a .shape) (a .r) (now (a .table)) (a .block) none in
@@ -52,7 +51,7 @@ spare-for-requires c κs =
     let a = c .before .before .before .before .before .before .before .before .before .args in
     let none = sym (c .before .before .before .before .before .before .block-fault .ensures) ∙ c .before .before .before .before .before .if1 .left in
     let ready = block-ready (a .shape) (a .r) (now (a .table)) (a .block) none in
-    rw (c .before .layout-of .ensures) (ready .laid, (ready .obeys, block-below (a .shape) (a .r) (now (a .table)) (a .block) none))
+    rw (c .before .drive-of .ensures) (ready .laid, (ready .obeys, block-below (a .shape) (a .r) (now (a .table)) (a .block) none))
 
 same-length-3 : tie.Need-same-length-3
 same-length-3 c = search needs
@@ -61,16 +60,16 @@ returns-3 : tie.Need-returns-3
 returns-3 c =
     let a = c .before .before .before .before .before .before .before .before .before .before .before .args in
     let none = sym (c .before .before .before .before .before .before .before .before .block-fault .ensures) ∙ c .before .before .before .before .before .before .before .if1 .left in
-    let found : c .before .spare-for .result ≡ spareFor (layoutOf (a .shape) (a .r)) (now (a .table)) (a .block) = rw (c .before .before .before .layout-of .ensures) at (c .before .spare-for .ensures) in
+    let found : c .before .spare-for .result ≡ spareFor (driveOf (a .shape) (a .r)) (now (a .table)) (a .block) = rw (c .before .before .before .drive-of .ensures) at (c .before .spare-for .ensures) in
     let fault = replace-fails (a .shape) (a .r) (now (a .table)) (a .block) none (rw (← c .before .before .before .before .before .place-of .ensures) (le-ltb _ _ (c .before .before .before .before .if2 .left))) (rw (← found) (le-leb _ _ (c .if3 .taken))) in
-    fills (replaced-says _ _) (rw fault) (rw fault)
+    fills (λ k. refl) (rw fault) (rw fault)
 
 store-requires : tie.Need-store-requires
 store-requires c κs =
     let a = c .before .before .before .before .before .before .before .before .before .before .before .before .args in
     let none = sym (c .before .before .before .before .before .before .before .before .before .block-fault .ensures) ∙ c .before .before .before .before .before .before .before .before .if1 .left in
     let ready = block-ready (a .shape) (a .r) (now (a .table)) (a .block) none in
-    rw (c .before .before .before .before .layout-of .ensures) (ready .laid, (block-below (a .shape) (a .r) (now (a .table)) (a .block) none, omega arith))
+    rw (c .before .before .before .before .drive-of .ensures) (ready .laid, (block-below (a .shape) (a .r) (now (a .table)) (a .block) none, omega arith))
 
 cast-t20 : tie.Need-cast-t20
 cast-t20 c =
@@ -86,10 +85,10 @@ returns-4 : tie.Need-returns-4
 returns-4 c =
     let a = c .before .before .before .before .before .before .before .before .before .before .before .before .before .before .before .args in
     let none = sym (c .before .before .before .before .before .before .before .before .before .before .before .before .block-fault .ensures) ∙ c .before .before .before .before .before .before .before .before .before .before .before .if1 .left in
-    let found : c .before .before .before .before .before .spare-for .result ≡ spareFor (layoutOf (a .shape) (a .r)) (now (a .table)) (a .block) = rw (c .before .before .before .before .before .before .before .layout-of .ensures) at (c .before .before .before .before .before .spare-for .ensures) in
+    let found : c .before .before .before .before .before .spare-for .result ≡ spareFor (driveOf (a .shape) (a .r)) (now (a .table)) (a .block) = rw (c .before .before .before .before .before .before .before .drive-of .ensures) at (c .before .before .before .before .before .spare-for .ensures) in
     let fault = replace-passes (a .shape) (a .r) (now (a .table)) (a .block) none (rw (← c .before .before .before .before .before .before .before .before .before .place-of .ensures) (le-ltb _ _ (c .before .before .before .before .before .before .before .before .if2 .left))) (rw (← found) (lt-leb _ _ (c .before .before .before .before .if3 .left))) in
-    let written : set (now (a .table)) (c .before .before .before .before .before .spare-for .result) (descriptorAt (c .before .before .before .before .before .before .before .layout-of .result) (c .before .before .before .before .before .spare-for .result) (a .block)) ≡ replacedIn (layoutOf (a .shape) (a .r)) (now (a .table)) (a .block) = rw (found, c .before .before .before .before .before .before .before .layout-of .ensures) in
-    fills (replaced-says _ _) (rw fault (ap Place found)) (rw fault (c .before .before .store .ensures ∙ written))
+    let written : set (now (a .table)) (c .before .before .before .before .before .spare-for .result) (descriptorAt (c .before .before .before .before .before .before .before .drive-of .result) (c .before .before .before .before .before .spare-for .result) (a .block)) ≡ replacedIn (driveOf (a .shape) (a .r)) (now (a .table)) (a .block) = rw (found, c .before .before .before .before .before .before .before .drive-of .ensures) in
+    fills (λ k. refl) (rw fault (ap Place found)) (rw fault (c .before .before .store .ensures ∙ written))
 
 pub replace-spec : {M : Type 1} → statement M
 replace-spec =
@@ -101,7 +100,7 @@ replace-spec =
     place-of-requires
     same-length-2
     returns-2
-    layout-of-requires
+    drive-of-requires
     spare-for-requires
     same-length-3
     returns-3

@@ -1,9 +1,9 @@
 -- `spares::sector_of` meets its contract: the chain's fault is the one answered, and where there is none the drive is laid, its table obeys the rules and the block is one of its blocks.
 -- Assumes nothing.
 use borrow.Author.Needs.{needs}
-use mathlib.Core.Path.{sym, _∙_}
+use mathlib.Core.Path.{sym, _∙_, refl}
 use denote.Ref.{now}
-use Rattle.paper.proofs.Chain.{answer-refused, placed-says}
+use Rattle.paper.proofs.Chain.{answer-refused}
 use Rattle.paper.proofs.Kept.{gives}
 use Rattle.spares.proofs.Exact.{block-ready, block-below}
 use Rattle.spares.proofs.sector_of.Statement.{statement}
@@ -13,10 +13,10 @@ block-fault-requires : tie.Need-block-fault-requires
 block-fault-requires c κs = search needs
 
 returns : tie.Need-returns
-returns c = gives (placed-says _ _) (rw (← c .before .block-fault .ensures) (sym (answer-refused _ _ _ (c .if1 .taken))))
+returns c = gives (λ k. refl) (rw (← c .before .block-fault .ensures) (sym (answer-refused _ _ _ (c .if1 .taken))))
 
-layout-of-requires : tie.Need-layout-of-requires
-layout-of-requires c κs =
+drive-of-requires : tie.Need-drive-of-requires
+drive-of-requires c κs =
     let a = c .before .before .before .args in
     let none = sym (c .before .block-fault .ensures) ∙ c .if1 .left in
     let ready = block-ready (a .shape) (a .r) (now (a .table)) (a .block) none in
@@ -27,11 +27,11 @@ lies-on-requires c κs =
     let a = c .before .before .before .before .args in
     let none = sym (c .before .before .block-fault .ensures) ∙ c .before .if1 .left in
     let ready = block-ready (a .shape) (a .r) (now (a .table)) (a .block) none in
-    rw (c .layout-of .ensures) (ready .laid, (ready .obeys, block-below (a .shape) (a .r) (now (a .table)) (a .block) none))
+    rw (c .drive-of .ensures) (ready .laid, (ready .obeys, block-below (a .shape) (a .r) (now (a .table)) (a .block) none))
 
 returns-2 : tie.Need-returns-2
-returns-2 c = gives (placed-says _ _) (rw (← c .before .before .before .block-fault .ensures, c .before .before .if1 .left, c .lies-on .ensures, c .before .layout-of .ensures))
+returns-2 c = gives (λ k. refl) (rw (← c .before .before .before .block-fault .ensures, c .before .before .if1 .left, c .lies-on .ensures, c .before .drive-of .ensures))
 
 pub sector-of-spec : {M : Type 1} → statement M
 sector-of-spec =
-    tie.close (tie.spec block-fault-requires returns layout-of-requires lies-on-requires returns-2)
+    tie.close (tie.spec block-fault-requires returns drive-of-requires lies-on-requires returns-2)

@@ -41,7 +41,7 @@ returns : tie.Need-returns
 returns c =
     let a = c .before .before .before .before .before .before .args in
     let between = c .cylinders-between in
-    let replaced : shiftOf (a .g) (now (a .table)) (a .block) ≡ pos (c .before .spare-cylinder .result) -ℤ pos (c .before .before .home-cylinder .result) = rw (← c .before .before .before .before .place-of .ensures, lt-ltb _ _ (c .before .before .before .if1 .taken), c .before .before .home-cylinder .ensures, c .before .spare-cylinder .ensures) in
+    let replaced : shiftOf (a .drive) (now (a .table)) (a .block) ≡ pos (c .before .spare-cylinder .result) -ℤ pos (c .before .before .home-cylinder .result) = rw (← c .before .before .before .before .place-of .ensures, lt-ltb _ _ (c .before .before .before .if1 .taken), c .before .before .home-cylinder .ensures, c .before .spare-cylinder .ensures) in
     read-again _ (between .ok) ∙ between .ensures ∙ sym replaced
 
 returns-2 : tie.Need-returns-2

@@ -14,10 +14,10 @@ use Rattle.table.proofs.obeys_rules.Statement.{statement}
 use Rattle.table.proofs.obeys_rules.Tie as tie
 
 abbrev Inv-loop : tie.InvT-loop
-Inv-loop g table place₀ place = (place ≤ length table) × (((k : ℕ) → k < place → mayStand g k (getD table k 0) ≡ true) × ((k : ℕ) → k < place → namedFirst table k ≡ true))
+Inv-loop drive table place₀ place = (place ≤ length table) × (((k : ℕ) → k < place → mayStand drive k (getD table k 0) ≡ true) × ((k : ℕ) → k < place → namedFirst table k ≡ true))
 
 abbrev μ-loop : tie.MeasureT-loop
-μ-loop g table place₀ place = length table - place
+μ-loop drive table place₀ place = length table - place
 
 table-length-requires : tie.Need-table-length-requires Inv-loop μ-loop
 table-length-requires c κs = c .before .pre
@@ -39,16 +39,16 @@ may-stand-requires c κs = c .before .before .before .before .before .before .pr
 
 returns-2 : tie.Need-returns-2 Inv-loop μ-loop
 returns-2 c =
-    let g = c .before .before .before .before .before .before .before .before .args .g in
+    let drive = c .before .before .before .before .before .before .before .before .args .drive in
     let t = now (c .before .before .before .before .before .before .before .before .args .table) in
-    rw (every-fails (λ q. mayStand g q (getD t q 0)) (length t) (c .before .before .before .before .loop .place) (c .before .before .before .loop-test .taken) (sym (c .before .may-stand .ensures) ∙ not-true _ (c .if2 .taken)), and-false)
+    rw (every-fails (λ q. mayStand drive q (getD t q 0)) (length t) (c .before .before .before .before .loop .place) (c .before .before .before .loop-test .taken) (sym (c .before .may-stand .ensures) ∙ not-true _ (c .if2 .taken)), and-false)
 
 named-first-requires : tie.Need-named-first-requires Inv-loop μ-loop
 named-first-requires c κs = c .before .before .before .loop-test .taken
 
 returns-3 : tie.Need-returns-3 Inv-loop μ-loop
 returns-3 c =
-    let g = c .before .before .before .before .before .before .before .before .before .before .args .g in
+    let drive = c .before .before .before .before .before .before .before .before .before .before .args .drive in
     let t = now (c .before .before .before .before .before .before .before .before .before .before .args .table) in
     rw (every-fails (namedFirst t) (length t) (c .before .before .before .before .before .before .loop .place) (c .before .before .before .before .before .loop-test .taken) (sym (c .before .named-first .ensures) ∙ not-true _ (c .if3 .taken)), and-false, and-false)
 
@@ -63,11 +63,11 @@ loop-again c = (omega arith, (below-more _ _ (c .before .before .before .before 
 
 returns-4 : tie.Need-returns-4 Inv-loop μ-loop
 returns-4 c =
-    let g = c .before .before .before .before .before .args .g in
+    let drive = c .before .before .before .before .before .args .drive in
     let t = now (c .before .before .before .before .before .args .table) in
     rw (
-      eq-eqb (length t) (tableLength g) (c .before .before .if1 .left ∙ c .before .before .before .table-length .ensures),
-      here-every (λ q. mayStand g q (getD t q 0)) (length t) (λ k h. c .before .loop .inv .1 .0 k (omega arith)),
+      eq-eqb (length t) (tableLength drive) (c .before .before .if1 .left ∙ c .before .before .before .table-length .ensures),
+      here-every (λ q. mayStand drive q (getD t q 0)) (length t) (λ k h. c .before .loop .inv .1 .0 k (omega arith)),
       here-every (namedFirst t) (length t) (λ k h. c .before .loop .inv .1 .1 k (omega arith)),
     )
 

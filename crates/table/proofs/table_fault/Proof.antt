@@ -6,8 +6,8 @@ use mathlib.Core.Bool.{true, false}
 use denote.Ref.{now}
 use borrow.Author.Tests.{not-true, not-false}
 use Rattle.paper.proofs.Chain.{orElse-some}
-use Rattle.layout.specs.declared.Layout.{Layout}
-use Rattle.layout.specs.Layouts.{layoutOf}
+use Rattle.layout.specs.declared.Drive.{Drive}
+use Rattle.layout.specs.Layouts.{driveOf}
 use Rattle.layout.proofs.Exact.{drive-shows}
 use Rattle.layout.proofs.Layings.{laid}
 use Rattle.table.specs.Rules.{obeys}
@@ -20,27 +20,27 @@ drive-fault-requires c κs = search needs
 returns : tie.Need-returns
 returns c = rw (← c .before .drive-fault .ensures) (sym (orElse-some _ _ (c .if1 .taken)))
 
-layout-of-requires : tie.Need-layout-of-requires
-layout-of-requires c κs = drive-shows _ _ (sym (c .before .drive-fault .ensures) ∙ c .if1 .left)
+drive-of-requires : tie.Need-drive-of-requires
+drive-of-requires c κs = drive-shows _ _ (sym (c .before .drive-fault .ensures) ∙ c .if1 .left)
 
 obeys-rules-requires : tie.Need-obeys-rules-requires
 obeys-rules-requires c κs =
     let drive = drive-shows (c .before .before .before .before .args .shape) (c .before .before .before .before .args .r) (sym (c .before .before .drive-fault .ensures) ∙ c .before .if1 .left) in
-    rw (c .layout-of .ensures) (laid (drive .0) (drive .1))
+    rw (c .drive-of .ensures) (laid (drive .0) (drive .1))
 
 returns-2 : tie.Need-returns-2
 returns-2 c =
     let a = c .before .before .before .before .before .before .args in
-    let wrong : obeys (layoutOf (a .shape) (a .r)) (now (a .table)) ≡ false =
-    ap (λ (g : Layout). obeys g (now (a .table))) (sym (c .before .before .layout-of .ensures)) ∙ (sym (c .before .obeys-rules .ensures) ∙ not-true _ (c .if2 .taken)) in
+    let wrong : obeys (driveOf (a .shape) (a .r)) (now (a .table)) ≡ false =
+    ap (λ (drive : Drive). obeys drive (now (a .table))) (sym (c .before .before .drive-of .ensures)) ∙ (sym (c .before .obeys-rules .ensures) ∙ not-true _ (c .if2 .taken)) in
     rw (← c .before .before .before .before .drive-fault .ensures, c .before .before .before .if1 .left, wrong)
 
 returns-3 : tie.Need-returns-3
 returns-3 c =
     let a = c .before .before .before .before .before .before .args in
-    let right : obeys (layoutOf (a .shape) (a .r)) (now (a .table)) ≡ true =
-    ap (λ (g : Layout). obeys g (now (a .table))) (sym (c .before .before .layout-of .ensures)) ∙ (sym (c .before .obeys-rules .ensures) ∙ not-false _ (c .if2 .left)) in
+    let right : obeys (driveOf (a .shape) (a .r)) (now (a .table)) ≡ true =
+    ap (λ (drive : Drive). obeys drive (now (a .table))) (sym (c .before .before .drive-of .ensures)) ∙ (sym (c .before .obeys-rules .ensures) ∙ not-false _ (c .if2 .left)) in
     rw (← c .before .before .before .before .drive-fault .ensures, c .before .before .before .if1 .left, right)
 
 pub table-fault-spec : {M : Type 1} → statement M
-table-fault-spec = tie.close (tie.spec drive-fault-requires returns layout-of-requires obeys-rules-requires returns-2 returns-3)
+table-fault-spec = tie.close (tie.spec drive-fault-requires returns drive-of-requires obeys-rules-requires returns-2 returns-3)

@@ -1,12 +1,12 @@
 -- `skip::Cursor::step` meets its contract: the cursor belongs, so its count is passed already, and the walk goes on from there.
 -- Assumes nothing.
 use borrow.Author.Needs.{needs}
-use mathlib.Core.Path.{sym, _∙_}
+use mathlib.Core.Path.{sym, _∙_, refl}
 use native.Mathlib.Omega.{arith}
 use denote.Ref.{now}
 use Rattle.paper.proofs.Chain.{answer-refused}
 use Rattle.paper.proofs.Kept.{gives}
-use Rattle.skip.proofs.Cursoring.{stepped-says, step-proper, step-most, step-known, step-on}
+use Rattle.skip.proofs.Cursoring.{step-proper, step-most, step-known, step-on}
 use Rattle.skip.proofs.Walks.{passes-le}
 use Rattle.skip.proofs.Cursor.step.Statement.{statement}
 use Rattle.skip.proofs.Cursor.step.Tie as tie
@@ -15,7 +15,7 @@ step-fault-requires : tie.Need-step-fault-requires
 step-fault-requires c κs = search needs
 
 returns : tie.Need-returns
-returns c = gives (stepped-says _ _ _ _) (rw (← c .before .step-fault .ensures) (sym (answer-refused _ _ _ (c .if1 .taken))))
+returns c = gives (λ k. refl) (rw (← c .before .step-fault .ensures) (sym (answer-refused _ _ _ (c .if1 .taken))))
 
 passed-requires : tie.Need-passed-requires
 passed-requires c κs = (
@@ -30,7 +30,7 @@ add-t9 : tie.Need-add-t9
 add-t9 c = omega (arith, step-most (c .before .before .before .before .args .n) (now (c .before .before .before .before .args .list)) (c .before .before .before .before .args .self) (sym (c .before .before .step-fault .ensures) ∙ c .before .if1 .left))
 
 returns-2 : tie.Need-returns-2
-returns-2 c = gives (stepped-says _ _ _ _) (step-on (c .before .before .before .before .args .n) (now (c .before .before .before .before .args .list)) (c .before .before .before .before .args .self) (sym (c .before .before .step-fault .ensures) ∙ c .before .if1 .left) (c .passed .result) (c .passed .ensures))
+returns-2 c = gives (λ k. refl) (step-on (c .before .before .before .before .args .n) (now (c .before .before .before .before .args .list)) (c .before .before .before .before .args .self) (sym (c .before .before .step-fault .ensures) ∙ c .before .if1 .left) (c .passed .result) (c .passed .ensures))
 
 pub step-spec : {M : Type 1} → statement M
 step-spec =
