@@ -1,5 +1,6 @@
 -- A read of a replaced block moves the right way and hands back the spare's bytes: in a table that passes one place alone names the block, and the shift and the read both go by that place.
 -- Assumes nothing.
+use Rattle.paper.proofs.Kept.{gives-number, fills-gives}
 use Prim.Native.Nat.{ℕ, zero, suc, _+_, _-_, _%_, _<_}
 use mathlib.Core.Path.{_≡_, refl, sym, _∙_, ap}
 use mathlib.Core.Bool.{true, false}
@@ -45,9 +46,9 @@ use Rattle.reading.specs.Faults.{lentFault, blockReadFault}
 use Rattle.reading.specs.Promises.{Data, Judge}
 use Rattle.reading.proofs.Alike.{home-unread, verdict-alike, part-alike}
 use Rattle.reading.proofs.Parts.{refused-empty, accepted-data}
-use Rattle.reading.proofs.Spots.{spot-says}
 use Rattle.reading.proofs.Tracks.{seated-only, data-inside}
 use Rattle.reading.proofs.Written.{good-read, good-part}
+use Rattle.demands.proofs.ByKind.{spot-says}
 use Rattle.demands.specs.Mission.{AllowsOnly}
 use Rattle.demands.specs.Inputs.{small, afterEight}
 use Rattle.demands.specs.Incident.{spareStart, spareData, imageFrom, WholeTrack, SamePart, HandsBack, Safe}
@@ -76,7 +77,7 @@ module _ (shape : Shape) (r : ℕ) (t : List ℕ) (b q : ℕ) (passed : blockFau
   its-place : placeOf t b ≡ q
   its-place = replaced-place (block-ready shape r t b passed .obeys) is-named
 
-  its-sector : sectorIn (driveOf shape r) t b ≡ driveOf shape r .home + q % r
+  its-sector : sectorIn (driveOf shape r) t b ≡ driveOf shape r .l + q % r
   its-sector = seated-only (driveOf shape r) t b {Track = ℕ} 0 1 (block-ready shape r t b passed .obeys) (on-spare q in-table named) .1
 
   its-shift : shiftOf (driveOf shape r) t b ≡ pos (spareCylinder (driveOf shape r) q) -ℤ pos (homeCylinder (driveOf shape r) b)
@@ -167,7 +168,7 @@ module _ (shape : Shape) (r : ℕ) (t : List ℕ) (b q : ℕ) (passed : blockFau
         spots = λ home spare.
             allows-where (spot-says (blockReadFault dataSize shape r t b home spare) (isReplaced t b) (dataStart dataSize (driveOf shape r) t b))
             (λ answer given-spot none.
-            let passes : blockReadFault dataSize shape r t b home spare ≡ 0 = sym (ap (λ (numbers : ℕ × ℕ × ℕ). numbers .0) (given-spot .says)) ∙ none in
+            let passes : blockReadFault dataSize shape r t b home spare ≡ 0 = sym (gives-number given-spot (λ said. said .0) (λ k. refl) (spot-says _ _)) ∙ none in
             given-spot .says ∙ rw (passes, is-replaced, its-sector));
         lends = λ home spare. allows-part (part-filled home spare);
         same-part = part-unread;
@@ -187,7 +188,7 @@ one-less a (suc c) one = let none : suc c - suc a ≡ 0 = omega arith in minus-b
 -- an accepted replacement, and the table that it leaves
 module _ (shape : Shape) (r : ℕ) (t : List ℕ) (b q : ℕ) (after : List ℕ) (replacement : Replacement shape r t b (Place q) after) where
   passes : replaceFault shape r t b ≡ 0
-  passes = sym (ap (λ (numbers : ℕ × ℕ). numbers .0) (replacement .says))
+  passes = sym (gives-number (fills-gives replacement) (λ said. said .0) (λ k. refl) refl)
 
   altered : Altered (driveOf shape r) t b q after
   altered = replacement-alters shape r t b q after replacement
@@ -226,7 +227,7 @@ module _
         imageFrom (spareStart shape r q) (spare .now) ≡ take (dataSize + imageExtra) image →
         HandsBack shape r t b q home spare bytes
     written-back room image answer writes none stands =
-        let fits : writeFault dataSize bytes room ≡ 0 = sym (ap (λ (numbers : ℕ × ℕ). numbers .0) (writes .says)) ∙ none in
+        let fits : writeFault dataSize bytes room ≡ 0 = sym (gives-number (fills-gives writes) (λ said. said .0) (λ k. refl) refl) ∙ none in
         safe .gives-back home spare bytes whole whole′ (write-shows dataSize bytes room fits .0) h
         (stands ∙ rw (writes .holds) (room-image dataSize b bytes false room fits))
 
