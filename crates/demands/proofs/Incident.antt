@@ -11,6 +11,7 @@ use lib.ListN.{length, getD, take, drop}
 use denote.Ref.{RefT}
 use borrow.Author.Tests.{eq-eqb}
 use Rattle.paper.specs.Answers.{saidWritten}
+use Rattle.paper.specs.Checks.{answer}
 use Rattle.paper.specs.Limits.{dataSize, imageExtra}
 use Rattle.paper.specs.declared.Written.{Written}
 use Rattle.paper.proofs.Cases.{byFault}
@@ -27,12 +28,12 @@ use Rattle.table.specs.Lookup.{placeOf, Replaced, isReplaced}
 use Rattle.table.proofs.Lookups.{tells-replaced, replaced-place}
 use Rattle.order.specs.Order.{outward}
 use Rattle.order.proofs.Signs.{minus-below}
-use Rattle.replacing.specs.Replacing.{Altered}
+use Rattle.replacing.specs.Replacing.{spareFor, Altered}
 use Rattle.spares.specs.declared.Replaced as Answers
-use Rattle.spares.specs.declared.Replaced.the-variants.{Place}
+use Rattle.spares.specs.declared.Replaced.the-variants.{Place, Refused as NotReplaced}
 use Rattle.spares.specs.Spares.{shiftOf, replaceFault}
 use Rattle.table.specs.Rules.{blockFault}
-use Rattle.spares.specs.Promises.{Replacement, replaced}
+use Rattle.spares.specs.Promises.{Replacement}
 use Rattle.spares.proofs.Accepted.{replace-block, after-passes}
 use Rattle.table.proofs.Exact.{block-ready}
 use Rattle.spares.proofs.Shifts.{shift-replaced, shift-leads}
@@ -163,19 +164,19 @@ module _ (shape : Shape) (r : ℕ) (t : List ℕ) (b q : ℕ) (passed : blockFau
   pub named-safe : Safe shape r t b q (pos (spareCylinder (driveOf shape r) q) -ℤ pos (homeCylinder (driveOf shape r) b))
   named-safe =
       record {
-        answers = allows (shifted-says (blockFault shape r t b) (shiftOf (driveOf shape r) t b)) (rw (passed, its-shift));
+        answers = allows (λ k. refl) (rw (passed, its-shift));
         leads = rw its-shift at shift-goes;
         spots = λ home spare.
-            allows-where (spot-says (blockReadFault dataSize shape r t b home spare) (isReplaced t b) (dataStart dataSize (driveOf shape r) t b))
+            allows-where (λ k. refl)
             (λ answer given-spot none.
-            let passes : blockReadFault dataSize shape r t b home spare ≡ 0 = sym (gives-number given-spot (λ said. said .0) (λ k. refl) (spot-says _ _)) ∙ none in
+            let passes : blockReadFault dataSize shape r t b home spare ≡ 0 = sym (gives-number given-spot (λ said. said .0) (λ k. refl) (spot-says (isReplaced t b) (dataStart dataSize (driveOf shape r) t b))) ∙ none in
             given-spot .says ∙ rw (passes, is-replaced, its-sector));
         lends = λ home spare. allows-part (part-filled home spare);
         same-part = part-unread;
         same-verdict = verdict-unread;
         gives-back = λ home spare bytes whole whole′ long h stands.
             record {
-              accepted = allows (verdict-says (blockReadFault dataSize shape r t b (home .now) (spare .now))) (read-passes home spare bytes whole whole′ long h stands);
+              accepted = allows (λ k. refl) (rw (read-passes home spare bytes whole whole′ long h stands));
               bytes-lent = allows-part (data-lent home spare bytes whole whole′ long h stands);
             };
       }
@@ -232,8 +233,8 @@ module _
         (stands ∙ rw (writes .holds) (room-image dataSize b bytes false room fits))
 
 -- the paper's own numbers: C 2, H 2, S 5, r 2, and block 6 goes to place 3, from cylinder 1 to cylinder 0
-module _ (answer : Answers.Replaced) (after : List ℕ) (replacement : Replacement small 2 afterEight 6 answer after) where
-  goes-to-3 : replaced small 2 afterEight 6 ≡ Place 3
+module _ (given : Answers.Replaced) (after : List ℕ) (replacement : Replacement small 2 afterEight 6 given after) where
+  goes-to-3 : answer (replaceFault small 2 afterEight 6) NotReplaced (Place (spareFor (driveOf small 2) afterEight 6)) ≡ Place 3
   unfolding allBelow placeOf firstBelow firstOr outward rising
   goes-to-3 = refl
 

@@ -25,7 +25,8 @@ use Rattle.lists.specs.Union.{isIn, into, union}
 use Rattle.skip.specs.Skipping.{Lies, goodsBefore, place}
 use Rattle.skip.specs.Walk.{entriesBelow}
 use Rattle.skip.specs.Translation.{sectorOfFault, SectorOfJudged}
-use Rattle.skip.specs.Cursors.{cursorAt, stepped}
+use Rattle.skip.specs.Cursors.{cursorAt}
+use Rattle.skip.proofs.Cursoring.{stepped}
 use Rattle.skip.proofs.Lying.{lies-one-block}
 use Rattle.skip.proofs.Composition.{place-after}
 use Rattle.skip.proofs.Exact.{sector-of-exactly}
@@ -58,7 +59,8 @@ use Rattle.image.proofs.Exact.{judge-exactly}
 use Rattle.image.proofs.Images.{replicate-below, length-image, written-data, written-good}
 use Rattle.reading.specs.Tracks.{Seated, on-spare, bytesIn, imageAt, sectorIn, headerFor}
 use Rattle.reading.specs.Faults.{lentFault}
-use Rattle.reading.specs.Promises.{AtSpot, in-spare, spotted}
+use Rattle.reading.specs.Promises.{AtSpot, in-spare}
+use Rattle.reading.proofs.Spots.{spotted}
 use Rattle.reading.specs.declared.answers.Spot.the-variants.{InSpare}
 use Rattle.reading.proofs.Tracks.{image-inside, data-inside}
 use Rattle.reading.proofs.Written.{good-read}
@@ -114,10 +116,10 @@ pub same-spare-shared :
     (s : ℕ) →
     (sameSpare s small 2 noneReplaced 0 ≡ At s)
     × (sameSpare s small 2 noneReplaced 1 ≡ At s)
-    × (Table.Lies (driveOf small 2) noneReplaced 0 s → Table.Lies (driveOf small 2) noneReplaced 1 s → ⊥)
+    × (Table.Resides (driveOf small 2) noneReplaced 0 s → Table.Resides (driveOf small 2) noneReplaced 1 s → ⊥)
 same-spare-shared s = (rw noneReplaced-passes, rw noneReplaced-passes, shared)
   where
-    shared : Table.Lies (driveOf small 2) noneReplaced 0 s → Table.Lies (driveOf small 2) noneReplaced 1 s → ⊥
+    shared : Table.Resides (driveOf small 2) noneReplaced 0 s → Table.Resides (driveOf small 2) noneReplaced 1 s → ⊥
     shared first second =
         let ready = table-ready small 2 noneReplaced noneReplaced-passes in
         let same = lies-only (driveOf small 2) noneReplaced 0 (ready .obeys) first ∙ sym (lies-only (driveOf small 2) noneReplaced 1 (ready .obeys) second) in
@@ -267,11 +269,11 @@ writes-early-keeps-not = (refl, λ keeps. omega (arith, ap (λ (l : List ℕ). g
 
 -- every mismatch taken for a forced error: the code is neither, and no row gives 17
 damaged-fault : imageFault dataSize damaged 6 ≡ badCode
-unfolding damaged imageFault contentsFault copiesFault headerOf times alike copies storedIn foundIn dataOf Code.codeOf codeFrom Code.stepped rotated wordsOf bytesOf bytes32 word16At word32At entriesAt
+unfolding damaged imageFault contentsFault copiesFault headerOf times alike copies storedIn foundIn dataOf Code.dataCode codeFrom Code.codeAfter rotated wordsOf bytesOf bytes32 word16At word32At entriesAt
 damaged-fault = refl
 
 pub every-forced-unjudged : (everyForced damaged 6 ≡ NotGood forcedError) × (ImageJudged dataSize damaged 6 forcedError → ⊥)
-unfolding damaged copiesFault headerOf times alike copies storedIn foundIn dataOf Code.codeOf codeFrom Code.stepped rotated wordsOf bytesOf bytes32 word16At word32At entriesAt
+unfolding damaged copiesFault headerOf times alike copies storedIn foundIn dataOf Code.dataCode codeFrom Code.codeAfter rotated wordsOf bytesOf bytes32 word16At word32At entriesAt
 every-forced-unjudged =
     (refl, no-other (judge-exactly damaged dataSize 6) (λ same. let clash : badCode ≡ forcedError = sym damaged-fault ∙ same in omega arith))
 
