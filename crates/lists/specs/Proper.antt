@@ -10,7 +10,7 @@ use Rattle.paper.specs.Refusals.{tooLong, notRising, outside}
 use Rattle.paper.specs.Limits.{listMost, sizeFault, SizeJudged}
 use Rattle.paper.specs.Exactly.{When, _andThen_}
 use Rattle.paper.specs.Conditions.{TooLong}
-use Rattle.seek.specs.First.{faultBelow}
+use Rattle.seek.specs.Lowest.{faultBelow}
 
 -- each entry is greater than the one before
 abbrev pub Rising : List ℕ → Type 0
