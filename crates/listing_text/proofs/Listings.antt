@@ -14,14 +14,16 @@ use Rattle.paper.specs.Exactly.{Exactly, When, earlier, later}
 use Rattle.paper.proofs.Cases.{byBool}
 use Rattle.paper.proofs.Chain.{orElse-first, orElse-next}
 use Rattle.paper.proofs.Rows.{row, rows, tells-lt, not-over}
-use Rattle.lists.specs.Proper.{Proper, Inside, LowestFault}
+use Rattle.seek.specs.Lowest.{LowestAt}
+use Rattle.lists.specs.Proper.{Proper, Inside}
 use Rattle.words.proofs.Runs.{length-entriesAt}
-use Rattle.page.specs.Layout.{LaidOut, kindOf, unitsOf, entryCount, entriesOf, entriesPlace}
+use Rattle.page.specs.Layout.{unitsOf, entryCount, entriesOf, entriesPlace}
 use Rattle.page.specs.Pages.{pageFault, PageJudged}
-use Rattle.page.proofs.Exact.{page-laid-out, page-exactly}
+use Rattle.page.proofs.Exact.{LaidOut, page-laid-out, page-exactly}
 use Rattle.page.proofs.Back.{read-proper}
 use Rattle.page.proofs.Bytes.{stored-written}
-use Rattle.listing_text.specs.Text.{ListingJudged, listing, listingFault, refusedWord, line, lineMost, listingRoom, frameText, entriesText, pageText, Puts, Lists}
+use Rattle.listing_text.specs.Text.{ListingJudged, listing, listingFault, refusedWord, line, frameText, entriesText, pageText, Lists}
+use Rattle.listing_text.specs.Steps.{lineMost, listingRoom, Puts}
 use Rattle.listing_text.proofs.Lines.{line-short, frame-short, entries-short, proper-few}
 
 -- what a page that passes is known by
@@ -49,8 +51,8 @@ pub text-short : (page : List ℕ) → Ready page → length page ≤ listingMos
 text-short page known short =
     omega (
       arith,
-      length-append (frameText (kindOf page) (unitsOf page) (length (entriesOf page))) (entriesText (entriesOf page)),
-      frame-short (kindOf page) (unitsOf page) (length (entriesOf page)) (known .units-few),
+      length-append (frameText (unitsOf page) (length (entriesOf page))) (entriesText (entriesOf page)),
+      frame-short (unitsOf page) (length (entriesOf page)) (known .units-few),
       entries-short (entriesOf page) (known .inside),
       length-entriesAt page entriesPlace (entryCount page),
       known .whole,
@@ -64,9 +66,11 @@ listing-exactly page = rows _ _ (row (tells-lt listingMost (length page)) badPag
 refused-small : (page : List ℕ) (k : ℕ) → PageJudged page k → k ≤ badPage
 refused-small page k (earlier some (When.given broken)) = omega arith
 refused-small page k (earlier some (When.passed whole)) = omega arith
-refused-small page k (later whole (LowestFault.falls i h before more)) = omega arith
-refused-small page k (later whole (LowestFault.strays i h before rises strays)) = omega arith
-refused-small page k (later whole (LowestFault.sound all)) = omega arith
+refused-small page k (later whole (LowestAt.found i h before some (earlier one (When.given falls)))) = omega arith
+refused-small page k (later whole (LowestAt.found i h before some (earlier one (When.passed rises)))) = omega arith
+refused-small page k (later whole (LowestAt.found i h before some (later rises (When.given strays)))) = omega arith
+refused-small page k (later whole (LowestAt.found i h before some (later rises (When.passed inside)))) = omega arith
+refused-small page k (later whole (LowestAt.none all)) = omega arith
 
 listing-refused-small : (page : List ℕ) → listingFault page ≤ badPage
 listing-refused-small page =
