@@ -63,7 +63,7 @@ entriesOf page = entriesAt page entriesPlace (entryCount page)
 abbrev pub endOf : List ℕ → ℕ
 endOf page = word32At page (length page - endSize)
 
--- a kind that a page has not
+-- row 8, the kind: it is neither of the two that there are
 abbrev pub OtherKind : ℕ → Type 0
 OtherKind kind = kindMost < kind
 
