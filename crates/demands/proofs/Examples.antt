@@ -13,7 +13,7 @@ use Rattle.paper.proofs.Kept.{gives, fills}
 use Rattle.words.specs.Words.{bytes16, bytes32, bytesOf, word16At}
 use Rattle.seek.specs.Count.{countBelow}
 use Rattle.seek.specs.Every.{allBelow}
-use Rattle.seek.specs.First.{firstBelow, faultBelow}
+use Rattle.seek.specs.Lowest.{firstBelow, faultBelow}
 use Rattle.seek.specs.Search.{firstOr, rising}
 use Rattle.lists.specs.Proper.{listFault}
 use Rattle.lists.specs.Union.{isIn}

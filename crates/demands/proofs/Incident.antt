@@ -18,7 +18,7 @@ use Rattle.paper.proofs.Cases.{byFault}
 use Rattle.paper.proofs.Chain.{orElse-first, orElse-next}
 use Rattle.words.specs.Words.{Bytes}
 use Rattle.seek.specs.Every.{allBelow}
-use Rattle.seek.specs.First.{firstBelow}
+use Rattle.seek.specs.Lowest.{firstBelow}
 use Rattle.seek.specs.Search.{firstOr, rising}
 use Rattle.shape.specs.declared.Shape.{Shape}
 use Rattle.layout.specs.Layouts.{driveOf, homeCylinder, spareCylinder}

@@ -17,7 +17,7 @@ use Rattle.paper.specs.Refusals.{outside, noSpare, forcedError, badCode}
 use Rattle.paper.specs.declared.Placed.the-variants.{At}
 use Rattle.seek.specs.Count.{countBelow}
 use Rattle.seek.specs.Every.{allBelow}
-use Rattle.seek.specs.First.{firstBelow, faultBelow}
+use Rattle.seek.specs.Lowest.{firstBelow, faultBelow}
 use Rattle.seek.specs.Search.{firstOr, rising}
 use Rattle.words.specs.Words.{bytes32, bytesOf, word16At, word32At, entriesAt}
 use Rattle.words.proofs.Stores.{part-sets}
