@@ -1,11 +1,11 @@
 // Skipping over N sectors with a list of bad ones: block ↔ sector, and the job cursor.
 ghost use mathlib.Core.Path.{_≡_};
-ghost use Prim.Native.Nat.{_≤_, _<_};
-ghost use lib.Dec.{eqb};
+ghost use Prim.Native.Nat.{_≤_};
+ghost use lib.Dec.{leb, eqb};
 ghost use lib.ListN.{length};
 ghost use Rattle.paper.specs.Limits.{listMost, unitsMost};
 ghost use Rattle.lists.specs.Proper.{Rising, Proper};
-ghost use Rattle.skip.specs.Walk.{passes, walked, entriesBelow, isBehind, isAhead};
+ghost use Rattle.skip.specs.Walk.{passes, walked, entriesBelow};
 ghost use Rattle.skip.specs.Translation.{blocks, sectorOfFault, blockOnFault, blockOn};
 ghost use Rattle.skip.specs.Cursors.{belongs, checkFault, stepFault};
 ghost use Rattle.skip.specs.Promises.{SectorOf, BlockOn, Starts, Checks, Steps};
@@ -150,26 +150,21 @@ pub fn block_on(n: u32, list: &[u32], sector: u32) -> Named
     name(list, sector)
 }
 
-// Whether the entries before a place are passed on the way to an address: the last of them lies below it.
-fn behind(list: &[u32], count: usize, address: u32) -> bool
-    requires { ⌜ count ≤ length (now list) ⌝ }
-    ensures { λ result. ⌜ result ≡ isBehind (now (list .entry)) count address ⌝ }
+// Whether a block passes at least so many entries: the last of them lies below the address that they lead to.
+fn passes_at_least(list: &[u32], block: u32, count: u32) -> bool
+    requires { ⌜ Rising (now list) ⌝ }
+    requires { ⌜ length (now list) ≤ listMost ⌝ }
+    requires { ⌜ block ≤ unitsMost ⌝ }
+    ensures { λ result. ⌜ result ≡ leb count (passes (now (list .entry)) block) ⌝ }
 {
-    if count == 0 {
+    let at = count as usize;
+    if at == 0 {
         return true;
     }
-    list[count - 1] < address
-}
-
-// Whether the entries from a place on are still ahead of an address: the first of them lies above it.
-fn ahead(list: &[u32], count: usize, address: u32) -> bool
-    requires { ⌜ count ≤ length (now list) ⌝ }
-    ensures { λ result. ⌜ result ≡ isAhead (now (list .entry)) count address ⌝ }
-{
-    if count == list.len() {
-        return true;
+    if list.len() < at {
+        return false;
     }
-    address < list[count]
+    list[at - 1] < block + count
 }
 
 // Whether a block passes just so many entries.
@@ -179,14 +174,10 @@ fn passes_just(list: &[u32], block: u32, count: u32) -> bool
     requires { ⌜ block ≤ unitsMost ⌝ }
     ensures { λ result. ⌜ result ≡ eqb count (passes (now (list .entry)) block) ⌝ }
 {
-    let at = count as usize;
-    if list.len() < at {
+    if !passes_at_least(list, block, count) {
         return false;
     }
-    if !behind(list, at, block + count) {
-        return false;
-    }
-    ahead(list, at, block + count)
+    !passes_at_least(list, block, count + 1)
 }
 
 // Whether a cursor is one of a proper list over n.
