@@ -19,7 +19,7 @@ use Rattle.skip.specs.declared.Cursor.{Cursor}
 use Rattle.skip.specs.Skipping.{place}
 use Rattle.skip.specs.Translation.{sectorOfFault, blockOnFault, blockOn}
 use Rattle.skip.specs.Cursors.{cursorAt, noCursor, checkFault, stepFault}
-use Rattle.skipped.specs.Drive.{addressOfFault as skippedBlockFault, blockAtFault}
+use Rattle.skipped.specs.Faults.{addressOfFault as skippedBlockFault, blockAtFault}
 use Rattle.page.specs.Layout.{kindOf, unitsOf, entriesOf}
 use Rattle.page.specs.Pages.{readFault as pageFault, writeFault as pageWriteFault, pageLength, pageBytes}
 use Rattle.format.specs.Spaces.{formatFault, newGrown, newList, newSpace}

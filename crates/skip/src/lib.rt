@@ -15,14 +15,14 @@ use paper::Named;
 use paper::Placed;
 use paper::STRAY_CURSOR;
 
-// The next block of a job, and how many entries of the list lie below the sector of the block before it.
+// A job's next block, and how many entries of the list lie below the sector of the block before that one: 0 at block 0.
 #[repr(C)]
 pub struct Cursor {
     pub block: u32,
     pub skipped: u32,
 }
 
-// A job that is ready at its cursor, or the sector of a block and the cursor after it.
+// A job that is ready at its cursor; the sector of a block, and the cursor of the next block; or a refusal, and the cursor that it hands back.
 pub enum Job {
     Ready(Cursor),
     At(u32, Cursor),
@@ -63,7 +63,7 @@ fn entries_below(list: &[u32], sector: u32) -> u32
     count
 }
 
-// The number of blocks. Only other crates call this.
+// How many blocks a list leaves of n sectors. Only other crates call this.
 pub fn block_count(n: u32, list: &[u32]) -> u32
     ensures { λ result. ⌜ result ≡ blocks n (now (list .entry)) ⌝ }
 {
@@ -73,7 +73,7 @@ pub fn block_count(n: u32, list: &[u32]) -> u32
     n - list.len() as u32
 }
 
-// The sector of a block of a proper list. Only other crates call this.
+// Where the walk from a block ends. Only other crates call this.
 pub fn walk(list: &[u32], block: u32) -> u32
     requires { ⌜ Rising (now list) ⌝ }
     requires { ⌜ length (now list) ≤ listMost ⌝ }
@@ -83,7 +83,7 @@ pub fn walk(list: &[u32], block: u32) -> u32
     block + passed(list, block, 0)
 }
 
-// The block on a sector of a proper list. Only other crates call this.
+// The block on a sector, or no block where the sector is in the list. Only other crates call this.
 pub fn name(list: &[u32], sector: u32) -> Named
     requires { ⌜ Rising (now list) ⌝ }
     requires { ⌜ length (now list) ≤ listMost ⌝ }
@@ -250,7 +250,7 @@ impl Cursor {
         Job::Ready(Cursor { block, skipped })
     }
 
-    // Whether the cursor is one of this list. Checks 1, list, 9.
+    // The cursor as it is, where it is one of this list. Checks 1, list, 9.
     pub fn check(self, n: u32, list: &[u32]) -> Job
         ensures { λ result. ⌜ Checks n (now (list .entry)) self result ⌝ }
     {
@@ -267,7 +267,7 @@ impl Cursor {
         Job::Ready(self)
     }
 
-    // The sector of the cursor's block, and the cursor for the block after it. Checks 1, list, 9, 5.
+    // The sector of the cursor's block, and the cursor for the block after it; a refusal hands back the cursor as it is. Checks 1, list, 9, 5.
     pub fn step(self, n: u32, list: &[u32]) -> Job
         ensures { λ result. ⌜ Steps n (now (list .entry)) self result ⌝ }
     {
