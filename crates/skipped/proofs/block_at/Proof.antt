@@ -5,9 +5,6 @@ use mathlib.Core.Path.{sym, _∙_, ap, refl}
 use denote.Ref.{now}
 use Rattle.paper.proofs.Chain.{answer-refused, answer-accepted}
 use Rattle.paper.proofs.Kept.{gives}
-use Rattle.lists.specs.Union.{isIn}
-use Rattle.shape.specs.Addresses.{sectorAt}
-use Rattle.skip.specs.Skipping.{goodsBefore}
 use Rattle.skip.specs.Translation.{blockOn}
 use Rattle.skipped.proofs.Shown.{drive-shaped, drive-proper, place-drive, place-on-drive}
 use Rattle.skipped.proofs.block_at.Statement.{statement}
