@@ -19,7 +19,7 @@ use Rattle.reading.specs.Promises.{Judge as ReadVerdict, Spots}
 use Rattle.shape.specs.Addresses.{SectorOfJudged as ShapeSectorOfJudged, AddressOfJudged as ShapeAddressOfJudged}
 use Rattle.skip.specs.Translation.{SectorOfJudged as SkipSectorOfJudged, BlockOnJudged as SkipBlockOnJudged}
 use Rattle.skip.specs.Cursors.{CheckJudged, StepJudged}
-use Rattle.skipped.specs.Drive.{AddressOfJudged as SkippedAddressOfJudged, BlockAtJudged as SkippedBlockAtJudged}
+use Rattle.skipped.specs.Faults.{AddressOfJudged as SkippedAddressOfJudged, BlockAtJudged as SkippedBlockAtJudged}
 use Rattle.page.specs.Pages.{ReadJudged as PageReadJudged, WriteJudged as PageWriteJudged}
 use Rattle.format.specs.Spaces.{FormatJudged}
 use Rattle.table.specs.Rules.{TableJudged, BlockJudged}

@@ -31,7 +31,7 @@ use Rattle.skip.specs.Promises.{SectorOf, BlockOn, Starts, Checks, Steps}
 use Rattle.skip.specs.declared.Cursor.{Cursor}
 use Rattle.skip.specs.declared.Job.{Job}
 use Rattle.skip.proofs.Exact.{sector-of-exactly, block-on-exactly, check-exactly, step-exactly}
-use Rattle.skipped.specs.Drive.{AddressOfJudged as SkippedAddressOfJudged, BlockAtJudged as SkippedBlockAtJudged}
+use Rattle.skipped.specs.Faults.{AddressOfJudged as SkippedAddressOfJudged, BlockAtJudged as SkippedBlockAtJudged}
 use Rattle.skipped.specs.Promises.{AddressOf as SkippedAddressOf, BlockAt as SkippedBlockAt}
 use Rattle.skipped.proofs.Exact.{address-of-exactly as skipped-address-of-exactly, block-at-exactly as skipped-block-at-exactly}
 use Rattle.page.specs.Layout.{kindOf, unitsOf, entriesOf}

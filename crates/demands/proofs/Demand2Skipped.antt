@@ -17,7 +17,7 @@ use Rattle.paper.specs.declared.Placed.the-variants.{At, Refused as NotPlaced}
 use Rattle.paper.specs.declared.Named.{Named}
 use Rattle.paper.specs.declared.Named.the-variants.{Block, NoBlock, Refused as NotNamed}
 use Rattle.paper.proofs.Cases.{byBool}
-use Rattle.paper.proofs.Chain.{orElse-next, answer-accepted}
+use Rattle.paper.proofs.Chain.{orElse-next, answer-refused, answer-accepted}
 use Rattle.paper.proofs.Rows.{below-shows, size-passes}
 use Rattle.lists.specs.Proper.{Proper, spaceFault}
 use Rattle.lists.specs.Union.{isIn}
@@ -31,7 +31,7 @@ use Rattle.shape.proofs.Inverse.{there-and-back, address-on-drive}
 use Rattle.shape.proofs.Exact.{tells-on-drive}
 use Rattle.skip.specs.Skipping.{Lies, place}
 use Rattle.skip.specs.Translation.{blocks, sectorOfFault, blockOnFault, blockOn}
-use Rattle.skip.specs.Cursors.{Belongs, skippedBefore, cursorAt, checkFault, stepFault}
+use Rattle.skip.specs.Cursors.{Belongs, countAt, cursorAt, checkFault, stepFault}
 use Rattle.skip.specs.Promises.{SectorOf, BlockOn, Starts, Steps}
 use Rattle.skip.specs.declared.Cursor.{Cursor}
 use Rattle.skip.specs.declared.Job.{Job}
@@ -39,8 +39,8 @@ use Rattle.skip.specs.declared.Job.the-variants.{Ready, At as SteppedAt, Refuse
 use Rattle.skip.proofs.Lying.{Somewhere, somewhere, lies-one-unit, lies-one-block, lies-place, lies-below, place-lies}
 use Rattle.skip.proofs.Walks.{goods-are-blocks}
 use Rattle.skip.proofs.Shown.{block-proper, block-below}
-use Rattle.skip.proofs.Cursoring.{tells-belongs, step-fresh, step-block, step-refused}
-use Rattle.skipped.specs.Drive.{skippedFault, addressOfFault as skippedBlockFault, blockAtFault as skippedPlaceFault}
+use Rattle.skip.proofs.Cursoring.{tells-belongs, step-fresh, step-block}
+use Rattle.skipped.specs.Faults.{skippedFault, addressOfFault as skippedBlockFault, blockAtFault as skippedPlaceFault}
 use Rattle.skipped.specs.Promises.{AddressOf, BlockAt}
 use Rattle.skipped.proofs.Shown.{drive-shaped, drive-proper, block-drive, block-below as skipped-block-below}
 use Rattle.demands.proofs.ByKind.{naming-says, found-naming}
@@ -121,7 +121,7 @@ module _ (n : ℕ) (a : List ℕ) where
   started-belongs b c promise =
       let passes : sectorOfFault n a b ≡ 0 = sym (gives-number promise (λ said. said .0) (λ k. refl) refl) in
       let block : c .block ≡ b = rw passes at (ap (λ (said : ℕ × ℕ × ℕ × ℕ). said .2) (promise .says)) in
-      let count : c .skipped ≡ skippedBefore n a b = rw passes at (ap (λ (said : ℕ × ℕ × ℕ × ℕ). said .3) (promise .says)) in
+      let count : c .skipped ≡ countAt n a b = rw passes at (ap (λ (said : ℕ × ℕ × ℕ × ℕ). said .3) (promise .says)) in
       (block, record { within = omega (arith, block, block-below n a b passes); counts = rw block count })
 
   -- a step that is accepted answers what a fresh translation answers, and the cursor after it is that of the next block and belongs
@@ -132,8 +132,8 @@ module _ (n : ℕ) (a : List ℕ) where
       let passes : stepFault n a c ≡ 0 = sym (gives-number promise (λ said. said .0) (λ k. refl) refl) in
       let here : s ≡ place (isIn a) n (c .block) = rw passes at (ap (λ (said : ℕ × ℕ × ℕ × ℕ). said .1) (promise .says)) in
       let block : next .block ≡ suc (c .block) = rw passes at (ap (λ (said : ℕ × ℕ × ℕ × ℕ). said .2) (promise .says)) in
-      let count : next .skipped ≡ skippedBefore n a (suc (c .block)) = rw passes at (ap (λ (said : ℕ × ℕ × ℕ × ℕ). said .3) (promise .says)) in (
-        λ fresh translation. translation .answers ∙ (step-fresh n a c passes .0 ∙ ap At (sym here)),
+      let count : next .skipped ≡ countAt n a (suc (c .block)) = rw passes at (ap (λ (said : ℕ × ℕ × ℕ × ℕ). said .3) (promise .says)) in (
+        λ fresh translation. translation .answers ∙ (answer-accepted _ _ _ (step-fresh n a c passes) ∙ ap At (sym here)),
         record {
           follows = block;
           belongs = record { within = omega (arith, block, step-block n a c passes); counts = rw block count };
@@ -150,14 +150,14 @@ module _ (n : ℕ) (a : List ℕ) where
         result ≡ SteppedAt (place (isIn a) n (c .block)) (cursorAt n a (suc (c .block)))
     step-before-end c belongs h result promise =
         let passes : stepFault n a c ≡ 0 = rw (cursor-passes c belongs, lt-leb (blocks n a) (c .block) h) in
-        promise .answers ∙ step-fresh n a c passes .1
+        promise .answers ∙ answer-accepted _ _ _ passes
 
     -- after the last block a step refuses 5 and the cursor stays
     pub step-at-end :
         (c : Cursor) → Belongs n a c → c .block ≡ n - length a → (result : Job) → Steps n a c result → result ≡ NotReady noSuchBlock c
     step-at-end c belongs end result promise =
         let fault : stepFault n a c ≡ noSuchBlock = rw (cursor-passes c belongs, le-leb (blocks n a) (c .block) (omega (arith, end))) in
-        promise .answers ∙ (step-refused n a c (λ none. absurd (omega (arith, fault, none))) ∙ ap (λ (k : ℕ). NotReady k c) fault)
+        promise .answers ∙ (answer-refused _ _ _ (λ none. absurd (omega (arith, fault, none))) ∙ ap (λ (k : ℕ). NotReady k c) fault)
 
 -- by cylinder, head and sector
 module _ (shape : Shape) (a : List ℕ) where

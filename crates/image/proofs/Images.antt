@@ -11,7 +11,8 @@ use lib.Seq.{sets, sets-eq, take-at, drop-at, take-append-seam, take-append-le, 
 use Rattle.paper.specs.Limits.{imageExtra}
 use Rattle.paper.specs.Refusals.{forcedError}
 use Rattle.paper.proofs.Cases.{byBool}
-use Rattle.words.specs.Words.{bytes16, bytesOf, Below, Bytes}
+use Rattle.words.specs.Words.{bytes16, bytesOf, Bytes}
+use Rattle.words.proofs.Fitting.{Below}
 use Rattle.words.proofs.Digits.{length-bytes16, word16-bytes16}
 use Rattle.words.proofs.Places.{word16-second}
 use Rattle.words.proofs.Runs.{length-bytesOf, entriesAt-bytesOf}

@@ -22,7 +22,8 @@ use Rattle.paper.proofs.Rows.{size-passes}
 use Rattle.lists.specs.Proper.{Proper, lowestFault}
 use Rattle.lists.proofs.Exact.{list-passes, list-shows}
 use Rattle.lists.proofs.Filling.{written-first}
-use Rattle.words.specs.Words.{bytes32, bytesOf, word32At, Bytes, Fits32}
+use Rattle.words.specs.Words.{bytes32, bytesOf, word32At, Bytes}
+use Rattle.words.proofs.Fitting.{Fits32}
 use Rattle.words.proofs.Digits.{length-bytes32, word32-bytes32}
 use Rattle.words.proofs.Places.{word32-first, word32-second, put-word32}
 use Rattle.words.proofs.Runs.{length-bytesOf, length-entriesAt, entriesAt-second, entriesAt-bytesOf, put-entriesAt}

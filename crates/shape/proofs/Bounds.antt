@@ -1,8 +1,7 @@
--- The products of a shape are in their bounds: N fits the units of a space and is not 0, and an address on the drive has a sector number below N.
+-- The products of a shape are in their bounds: N fits the units of a space, and an address on the drive has a sector number below N.
 -- Assumes nothing.
 use Prim.Native.Nat.{ℕ, _+_, _*_, _<_, _≤_}
-use native.Mathlib.Nat.{mul-le-mul, one-le-mul}
-use native.Mathlib.Omega.{arith}
+use native.Mathlib.Nat.{mul-le-mul}
 use lib.Arith.{digits-lt}
 use Rattle.paper.specs.Limits.{unitsMost, cylindersMost, headsMost}
 use Rattle.shape.specs.declared.Shape.{Shape}
@@ -16,9 +15,6 @@ module _ {shape : Shape} (shaped : Shaped shape) where
 
   pub size-fits : sizeOf shape ≤ unitsMost
   size-fits = mul-le-mul tracks-fit (shaped .sectors .1)
-
-  pub size-some : 1 ≤ sizeOf shape
-  size-some = one-le-mul (one-le-mul (shaped .cylinders .0) (shaped .heads .0)) (omega arith)
 
   module _ {cylinder head sector : ℕ} (on-drive : OnDrive shape cylinder head sector) where
     -- the track of an address is one of the drive's tracks

@@ -14,7 +14,7 @@ use Rattle.shape.specs.Shapes.{sizeOf, shapeFault, ShapeJudged}
 abbrev pub sectorAt : Shape → ℕ → ℕ → ℕ → ℕ
 sectorAt shape cylinder head sector = (cylinder * shape .heads + head) * shape .sectors + sector
 
--- the address of a sector number; divisions drop the remainder
+-- the address of a sector number: its track is sector / S, and divisions drop the remainder
 abbrev pub addressAt : Shape → ℕ → Address
 addressAt shape sector =
     record {
@@ -29,17 +29,19 @@ pub record OnDrive (shape : Shape) (cylinder head sector : ℕ) : Type 0 where
   pub head-below : head < shape .heads
   pub sector-below : sector < shape .sectors
 
+-- whether they are
 abbrev pub onDrive : Shape → ℕ → ℕ → ℕ → Bool
 onDrive shape cylinder head sector = ltb cylinder (shape .cylinders) && (ltb head (shape .heads) && ltb sector (shape .sectors))
 
+-- check 6 for cylinder, head and sector
 abbrev pub offDriveFault : Shape → ℕ → ℕ → ℕ → ℕ
 offDriveFault shape cylinder head sector = refuse (not (onDrive shape cylinder head sector)) noSuchSector
 
--- checks 1, 6 for cylinder, head and sector
+-- checks 1, 6 of `shape::sector_of`
 abbrev pub sectorOfFault : Shape → ℕ → ℕ → ℕ → ℕ
 sectorOfFault shape cylinder head sector = shapeFault shape orElse offDriveFault shape cylinder head sector
 
--- checks 1, 6 for a sector number
+-- checks 1, 6 of `shape::address_of`
 abbrev pub addressOfFault : Shape → ℕ → ℕ
 addressOfFault shape sector = shapeFault shape orElse refuse (leb (sizeOf shape) sector) noSuchSector
 

@@ -17,9 +17,11 @@ pub record Shaped (shape : Shape) : Type 0 where
   pub heads : Within 1 headsMost (shape .heads)
   pub sectors : Within sectorsLeast sectorsMost (shape .sectors)
 
+-- whether they do
 abbrev pub shaped : Shape → Bool
 shaped shape = within 1 cylindersMost (shape .cylinders) && (within 1 headsMost (shape .heads) && within sectorsLeast sectorsMost (shape .sectors))
 
+-- check 1 for a shape
 abbrev pub shapeFault : Shape → ℕ
 shapeFault shape = refuse (not (shaped shape)) outOfRange
 

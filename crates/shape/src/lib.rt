@@ -11,6 +11,7 @@ use paper::Placed;
 use paper::SECTORS_LEAST;
 use paper::SECTORS_MOST;
 
+// How many cylinders, heads and sectors per track a drive has: the paper's C, H and S.
 #[repr(C)]
 pub struct Shape {
     pub cylinders: u32,
@@ -18,6 +19,7 @@ pub struct Shape {
     pub sectors: u32,
 }
 
+// A sector by its cylinder, its head and its place on the track.
 #[repr(C)]
 pub struct Address {
     pub cylinder: u32,
@@ -31,7 +33,7 @@ pub enum Located {
     Refused(u32),
 }
 
-// Refusal 1 for a shape number outside its range, else 0. Only other crates call this.
+// 1 for a shape number outside its range, else 0. Only other crates call this.
 pub fn shape_fault(shape: Shape) -> u32
     ensures { λ result. ⌜ result ≡ shapeFault shape ⌝ }
 {
@@ -47,7 +49,7 @@ pub fn shape_fault(shape: Shape) -> u32
     0
 }
 
-// N, the sectors of a drive. Only other crates call this.
+// N, how many sectors a drive has. Only other crates call this.
 pub fn size_of(shape: Shape) -> u32
     requires { ⌜ Shaped shape ⌝ }
     ensures { λ result. ⌜ result ≡ sizeOf shape ⌝ }
@@ -64,7 +66,7 @@ pub fn sector_at(shape: Shape, cylinder: u32, head: u32, sector: u32) -> u32
     (cylinder * shape.heads + head) * shape.sectors + sector
 }
 
-// The address of a sector number: every address that a call answers is made here. Only other crates call this.
+// The address of a sector number. Only other crates call this.
 pub fn address_at(shape: Shape, sector: u32) -> Address
     requires { ⌜ Shaped shape ⌝ }
     ensures { λ result. ⌜ result ≡ addressAt shape sector ⌝ }
@@ -77,7 +79,7 @@ pub fn address_at(shape: Shape, sector: u32) -> Address
     }
 }
 
-// Refusal 6 for a cylinder, head or sector that is not below its bound, else 0. Only other crates call this.
+// 6 for a cylinder, head or sector that is not below its bound, else 0. Only other crates call this.
 pub fn off_drive_fault(shape: Shape, cylinder: u32, head: u32, sector: u32) -> u32
     ensures { λ result. ⌜ result ≡ offDriveFault shape cylinder head sector ⌝ }
 {

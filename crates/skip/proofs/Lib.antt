@@ -4,7 +4,6 @@ pub mod Ranges
 pub mod Walks
 pub mod Nights
 pub mod Passing
-pub mod Just
 pub mod Naming
 pub mod Shown
 pub mod Cursoring

@@ -7,7 +7,7 @@ use native.Mathlib.Omega.{arith}
 use lib.Dec.{eqb}
 use borrow.Author.Tests.{eq-eqb, eqb-true}
 use Rattle.paper.proofs.Cases.{byBool, byLt}
-use Rattle.seek.proofs.Counts.{count-zero, count-more, count-same, count-le, count-mono, count-strict, count-alike}
+use Rattle.seek.proofs.Counts.{count-zero, count-more, count-same, count-mono, count-strict, count-alike}
 use Rattle.seek.proofs.Firsts.{first-is, first-none, first-alike}
 use Rattle.skip.specs.Skipping.{goodsBefore, Lies, place}
 
@@ -24,10 +24,6 @@ module _ (bad : ℕ → Bool) where
   pub goods-bad : (s : ℕ) → bad s ≡ true → goodsBefore bad (suc s) ≡ goodsBefore bad s
   unfolding goodsBefore
   goods-bad s isBad = count-same (λ t. not (bad t)) s (rw isBad)
-
-  pub goods-le : (s : ℕ) → goodsBefore bad s ≤ s
-  unfolding goodsBefore
-  goods-le s = count-le (λ t. not (bad t)) s
 
   pub goods-mono : (s t : ℕ) → s ≤ t → goodsBefore bad s ≤ goodsBefore bad t
   unfolding goodsBefore
@@ -132,10 +128,6 @@ module _ (bad : ℕ → Bool) (n : ℕ) where
       let found : Somewhere bad n b = somewhere bad n b h in
       rw (lies-place bad n b (found .unit) (found .lies)) (found .lies)
 
-  -- the unit of a block names that block again
-  pub place-names : (b : ℕ) → b < goodsBefore bad n → goodsBefore bad (place bad n b) ≡ b
-  place-names b h = place-lies b h .before
-
   -- a good unit is the place of the block that it names
   pub unit-lies : (s : ℕ) → s < n → bad s ≡ false → Lies bad n (goodsBefore bad s) s
   unit-lies s h good = record { inside = h; good = good; before = refl }
@@ -145,9 +137,6 @@ module _ (bad : ℕ → Bool) (n : ℕ) where
 
   pub place-rising : (b c : ℕ) → b < c → c < goodsBefore bad n → place bad n b < place bad n c
   place-rising b c less h = lies-rising bad n (place-lies b (omega arith)) (place-lies c h) less
-
-  pub place-inside : (b : ℕ) → b < goodsBefore bad n → place bad n b < n
-  place-inside b h = place-lies b h .inside
 
 -- tests that agree below n place alike
 pub place-alike : (bad other : ℕ → Bool) (n b : ℕ) → ((s : ℕ) → s < n → bad s ≡ other s) → place bad n b ≡ place other n b

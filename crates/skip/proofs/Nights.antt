@@ -1,4 +1,4 @@
--- A night for lists: the union of a list with the sectors of a list of blocks places each new block where the blocks that stay lay, and two nights are one.
+-- A night for lists: the union of a list with the sectors of a list of blocks places each new block where the blocks that stay lay, and the sectors of two nights' lists joined are those of both.
 -- Assumes nothing.
 use Prim.Native.Nat.{ℕ, zero, suc, _<_}
 use mathlib.Core.Path.{_≡_, refl, sym, _∙_, ap}
@@ -14,18 +14,13 @@ use Rattle.lists.proofs.Unions.{in-union, rising-union, inside-union}
 use Rattle.skip.specs.Skipping.{goodsBefore, Lies, place, after, sectorsOfBlocks}
 use Rattle.skip.specs.Translation.{blocks}
 use Rattle.skip.proofs.Lying.{goods-mono, goods-alike, place-lies, place-rising, named-place, place-alike}
-use Rattle.skip.proofs.Composition.{goods-after, place-after, nights}
+use Rattle.skip.proofs.Composition.{goods-after, place-after}
 use Rattle.skip.proofs.Walks.{goods-are-blocks}
 
 getD-map : (f : ℕ → ℕ) (l : List ℕ) (i : ℕ) → i < length l → getD (map f l) i 0 ≡ f (getD l i 0)
 getD-map f [] i h = absurd (omega arith)
 getD-map f (x ∷ l) zero h = refl
 getD-map f (x ∷ l) (suc i) h = getD-map f l i (omega arith)
-
--- tests that agree are the same once more blocks are bad
-pub after-alike :
-    (bad other more : ℕ → Bool) → ((s : ℕ) → bad s ≡ other s) → (s : ℕ) → after bad more s ≡ after other more s
-after-alike bad other more alike s = rw (alike s, goods-alike bad other s (λ t h. alike t))
 
 module _ (n : ℕ) (a : List ℕ) (rising-a : Rising a) (inside-a : Inside n a) (d : List ℕ) (rising-d : Rising d) (inside-d : Inside (blocks n a) d) where
   -- there are as many good sectors as blocks
@@ -142,26 +137,6 @@ module _
 
     pub joined-inside : Inside (blocks n a) (union d (sectorsOfBlocks (blocks n a) d e))
     joined-inside = inside-night (blocks n a) d rising-d inside-d e rising-e stays
-
-    two-in-one : (s : ℕ) →
-        isIn (union (union a (sectorsOfBlocks n a d)) (sectorsOfBlocks n (union a (sectorsOfBlocks n a d)) e)) s
-        ≡ isIn (union a (sectorsOfBlocks n a (union d (sectorsOfBlocks (blocks n a) d e)))) s
-    two-in-one s =
-        in-night n (union a (sectorsOfBlocks n a d)) (rising-night n a rising-a inside-a d rising-d inside-d) (inside-night n a rising-a inside-a d rising-d inside-d) e rising-e inside-e s
-        ∙ (after-alike (isIn (union a (sectorsOfBlocks n a d))) (after (isIn a) (isIn d)) (isIn e) (in-night n a rising-a inside-a d rising-d inside-d) s
-        ∙ (nights (isIn a) (isIn d) (isIn e) s
-        ∙ (ap (λ (t : Bool). isIn a s || t) (sym (in-night (blocks n a) d rising-d inside-d e rising-e stays (goodsBefore (isIn a) s)))
-        ∙ sym (in-night n a rising-a inside-a (union d (sectorsOfBlocks (blocks n a) d e)) joined-rising joined-inside s))))
-
-    -- two nights equal one night whose list joins the first to the second written in the first night's numbers
-    pub two-nights :
-        union (union a (sectorsOfBlocks n a d)) (sectorsOfBlocks n (union a (sectorsOfBlocks n a d)) e)
-        ≡ union a (sectorsOfBlocks n a (union d (sectorsOfBlocks (blocks n a) d e)))
-    two-nights =
-        same-members _ _
-        (rising-night n (union a (sectorsOfBlocks n a d)) (rising-night n a rising-a inside-a d rising-d inside-d) (inside-night n a rising-a inside-a d rising-d inside-d) e rising-e inside-e)
-        (rising-night n a rising-a inside-a (union d (sectorsOfBlocks (blocks n a) d e)) joined-rising joined-inside)
-        two-in-one
 
     -- the sectors of the joined list are those of both nights
     pub joined-sectors :

@@ -1,15 +1,18 @@
 -- What the loops along a list cite: the walk and the count from a place on, and when a block passes just so many entries.
 -- Assumes nothing.
-use Prim.Native.Nat.{ℕ, zero, suc, _+_, _<_, _≤_}
-use mathlib.Core.Path.{_≡_, _∙_}
+use Prim.Native.Nat.{ℕ, zero, suc, _+_, _-_, _<_, _≤_}
+use mathlib.Core.Path.{_≡_, sym, _∙_}
+use mathlib.Core.Bool.{true, false, not}
 use mathlib.Core.List.{List, [], _∷_}
 use native.Mathlib.Omega.{arith}
+use lib.Dec.{leb, ltb, eqb}
 use lib.ListN.{length, getD, drop}
-use Rattle.paper.proofs.Cases.{byLt}
+use borrow.Author.Tests.{eq-eqb, ne-eqb, le-leb, lt-leb, leb-true, leb-false, lt-ltb, le-ltb}
+use Rattle.paper.proofs.Cases.{byLt, byEq}
 use Rattle.seek.proofs.Drops.{drop-next, drop-past}
 use Rattle.lists.specs.Proper.{Rising}
 use Rattle.lists.proofs.Risings.{rising-tail, rising-above, rising-drop, rising-gap}
-use Rattle.skip.specs.Walk.{passes, walked, entriesBelow}
+use Rattle.skip.specs.Walk.{passes, entriesBelow}
 use Rattle.skip.proofs.Walks.{passes-nil, passes-on, passes-stop, below-nil, below-less, below-more, below-above}
 
 -- entries known to be passed are passed first
@@ -60,19 +63,31 @@ passed-entry (x ∷ a) b (suc d) h =
     (λ stop. absurd (omega (arith, passes-stop x a b stop)))
     (λ on. omega (arith, passed-entry a (suc b) d (omega (arith, passes-on x a b on))))
 
--- the first entry that is not passed is above the walk's end
-pub ahead-entry : (a : List ℕ) (b : ℕ) → passes a b < length a → walked a b < getD a (passes a b) 0
-ahead-entry [] b h = absurd (omega arith)
-ahead-entry (x ∷ a) b h =
-    byLt b x
-    (λ stop. let none : passes (x ∷ a) b ≡ 0 = passes-stop x a b stop in rw none (omega arith))
-    (λ on.
-    let more : passes (x ∷ a) b ≡ suc (passes a (suc b)) = passes-on x a b on in
-    rw more (omega (arith, ahead-entry a (suc b) (omega arith))))
-
 -- where an entry is at most the address on the way to it, the entries up to it are passed
 pub passes-at-least : (a : List ℕ) (b d : ℕ) → Rising a → d < length a → getD a d 0 ≤ b + d → suc d ≤ passes a b
 passes-at-least [] b d rising h on = absurd (omega arith)
 passes-at-least (x ∷ a) b zero rising h on = omega (arith, passes-on x a b (omega arith))
 passes-at-least (x ∷ a) b (suc d) rising h on =
     omega (arith, passes-on x a b (omega (arith, rising-gap x a rising (suc d) h)), passes-at-least a (suc b) d (rising-tail x a rising) (omega arith) (omega arith))
+
+-- a block passes at least so many entries exactly when the last of them lies below the address that they lead to
+pub least-told : (a : List ℕ) (b d : ℕ) → Rising a → (d ≡ 0 → ⊥) → d ≤ length a → ltb (getD a (d - 1) 0) (b + d) ≡ leb d (passes a b)
+least-told a b d rising some h =
+    byLt (getD a (d - 1) 0) (b + d)
+    (λ under.
+    rw (lt-ltb (getD a (d - 1) 0) (b + d) under)
+    (sym (le-leb d (passes a b) (omega (arith, passes-at-least a b (d - 1) rising (omega arith) (omega arith))))))
+    (λ over.
+    rw (le-ltb (getD a (d - 1) 0) (b + d) over)
+    (sym (lt-leb d (passes a b) (byLt (passes a b) d (λ less. less) (λ more. absurd (omega (arith, passed-entry a b (d - 1) (omega arith))))))))
+
+-- and just so many where it does not pass one more
+module _ (d p : ℕ) where
+  pub just-short : leb d p ≡ false → eqb d p ≡ false
+  just-short e = ne-eqb d p (λ same. omega (arith, leb-false d p e))
+
+  pub just-told : leb d p ≡ true → not (leb (d + 1) p) ≡ eqb d p
+  just-told e =
+      byEq d p
+      (λ same. rw (eq-eqb d p same, lt-leb (d + 1) p (omega arith)))
+      (λ other. rw (ne-eqb d p other, le-leb (d + 1) p (omega (arith, leb-true d p e))))

@@ -9,16 +9,16 @@ use Rattle.skip.specs.Skipping.{goodsBefore, Lies, place}
 use Rattle.skip.proofs.Lying.{lies-place, place-lies}
 
 -- the range's own test
-abbrev pub within : (ℕ → Bool) → ℕ → ℕ → Bool
-within bad base t = bad (base + t)
+abbrev pub fromBase : (ℕ → Bool) → ℕ → ℕ → Bool
+fromBase bad base t = bad (base + t)
 
 module _ (bad : ℕ → Bool) (base : ℕ) where
-  pub goods-range : (t : ℕ) → goodsBefore bad (base + t) ≡ goodsBefore bad base + goodsBefore (within bad base) t
+  pub goods-range : (t : ℕ) → goodsBefore bad (base + t) ≡ goodsBefore bad base + goodsBefore (fromBase bad base) t
   unfolding goodsBefore
   goods-range t = count-add (λ u. not (bad u)) base t
 
   module _ (m n : ℕ) (fits : base + m ≤ n) where
-    pub range-lies : (b t : ℕ) → Lies (within bad base) m b t → Lies bad n (goodsBefore bad base + b) (base + t)
+    pub range-lies : (b t : ℕ) → Lies (fromBase bad base) m b t → Lies bad n (goodsBefore bad base + b) (base + t)
     range-lies b t lies =
         record {
           inside = omega (arith, lies .inside);
@@ -26,9 +26,5 @@ module _ (bad : ℕ → Bool) (base : ℕ) where
           before = goods-range t ∙ ap (λ (k : ℕ). goodsBefore bad base + k) (lies .before);
         }
 
-    pub lies-range : (b t : ℕ) → t < m → Lies bad n (goodsBefore bad base + b) (base + t) → Lies (within bad base) m b t
-    lies-range b t h lies =
-        record { inside = h; good = lies .good; before = omega (arith, goods-range t, lies .before) }
-
-    pub range-place : (b : ℕ) → b < goodsBefore (within bad base) m → place bad n (goodsBefore bad base + b) ≡ base + place (within bad base) m b
-    range-place b h = lies-place bad n _ _ (range-lies b _ (place-lies (within bad base) m b h))
+    pub range-place : (b : ℕ) → b < goodsBefore (fromBase bad base) m → place bad n (goodsBefore bad base + b) ≡ base + place (fromBase bad base) m b
+    range-place b h = lies-place bad n _ _ (range-lies b _ (place-lies (fromBase bad base) m b h))

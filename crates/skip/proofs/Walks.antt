@@ -40,13 +40,6 @@ pub below-all : (n : ℕ) (a : List ℕ) → Inside n a → entriesBelow a n ≡
 below-all n [] inside = below-nil n
 below-all n (x ∷ a) inside = below-less x a n (inside 0 (omega arith)) ∙ ap suc (below-all n a (inside-tail n x a inside))
 
-pub below-le : (a : List ℕ) (s : ℕ) → entriesBelow a s ≤ length a
-below-le [] s = omega (arith, below-nil s)
-below-le (x ∷ a) s =
-    byLt x s
-    (λ less. omega (arith, below-less x a s less, below-le a s))
-    (λ more. omega (arith, below-more x a s more, below-le a s))
-
 pub below-zero : (a : List ℕ) → entriesBelow a 0 ≡ 0
 below-zero [] = below-nil 0
 below-zero (x ∷ a) = below-more x a 0 (omega arith) ∙ below-zero a

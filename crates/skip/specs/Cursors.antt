@@ -15,31 +15,32 @@ use Rattle.skip.specs.Translation.{blocks, PastBlocks}
 use Rattle.skip.specs.declared.Cursor.{Cursor}
 
 -- the count of a cursor whose next block is b: the entries below the sector of block b − 1, and 0 at block 0
-abbrev pub skippedBefore : ℕ → List ℕ → ℕ → ℕ
-skippedBefore n a zero = 0
-skippedBefore n a (suc b) = entriesBelow a (place (isIn a) n b)
+abbrev pub countAt : ℕ → List ℕ → ℕ → ℕ
+countAt n a zero = 0
+countAt n a (suc b) = entriesBelow a (place (isIn a) n b)
 
 -- the cursor whose next block is b
 abbrev pub cursorAt : ℕ → List ℕ → ℕ → Cursor
-cursorAt n a b = record { block = b; skipped = skippedBefore n a b }
+cursorAt n a b = record { block = b; skipped = countAt n a b }
 
 -- the cursor that a refused start or check hands back
 abbrev pub noCursor : Cursor
 noCursor = record { block = 0; skipped = 0 }
 
--- a cursor is one of this list
+-- a cursor belongs to this N and list
 pub record Belongs (n : ℕ) (a : List ℕ) (c : Cursor) : Type 0 where
   pub within : c .block ≤ blocks n a
-  pub counts : c .skipped ≡ skippedBefore n a (c .block)
+  pub counts : c .skipped ≡ countAt n a (c .block)
 
+-- whether it does
 abbrev pub belongs : ℕ → List ℕ → Cursor → Bool
-belongs n a c = leb (c .block) (blocks n a) && eqb (c .skipped) (skippedBefore n a (c .block))
+belongs n a c = leb (c .block) (blocks n a) && eqb (c .skipped) (countAt n a (c .block))
 
--- checks 1, list, 9
+-- checks 1, list, 9 of `Cursor::check`
 abbrev pub checkFault : ℕ → List ℕ → Cursor → ℕ
 checkFault n a c = spaceFault n a orElse refuse (not (belongs n a c)) strayCursor
 
--- checks 1, list, 9, 5
+-- checks 1, list, 9, 5 of `Cursor::step`
 abbrev pub stepFault : ℕ → List ℕ → Cursor → ℕ
 stepFault n a c = checkFault n a c orElse refuse (leb (blocks n a) (c .block)) noSuchBlock
 

@@ -21,29 +21,31 @@ saidJob (Ready next) = (0, 0, next .block, next .skipped)
 saidJob (At sector next) = (0, sector, next .block, next .skipped)
 saidJob (Refused fault next) = (fault, 0, next .block, next .skipped)
 
--- a refusal hands a cursor back, and says it
+-- a job is given by a chain of checks; a refusal carries a cursor, and says it
 abbrev pub GivesJob : Cursor → ℕ → Job → Job → Type 0
 GivesJob back = Gives saidJob (λ fault. (fault, 0, back .block, back .skipped)) (λ fault. Refused fault back)
 
--- the cursor that a job hands back, however it stands
+-- the cursor that a job hands back, refused or not
 abbrev pub handedBack : Job → Cursor
 handedBack (Ready next) = next
 handedBack (At sector next) = next
 handedBack (Refused fault next) = next
 
--- a cursor that such a job hands back
+-- a cursor that a job of this promise hands back
 pub record BackFrom (Promise : Job → Type 0) (next : Cursor) : Type 0 where
   pub job : Job
   pub allowed : Promise job
   pub handed : next ≡ handedBack job
 
+-- the sector that the block lies on
 abbrev pub SectorOf : ℕ → List ℕ → ℕ → Placed → Type 0
 SectorOf n a b = GivesPlaced (sectorOfFault n a b) (PlacedAt (place (isIn a) n b))
 
+-- the block on the sector, or no block
 abbrev pub BlockOn : ℕ → List ℕ → ℕ → Named → Type 0
 BlockOn n a s = GivesNamed (blockOnFault n a s) (blockOn a s)
 
--- a job opens at any block; its checks are those of the block's sector
+-- a job opens at a block, with the cursor of that block
 abbrev pub Starts : ℕ → List ℕ → ℕ → Job → Type 0
 Starts n a b = GivesJob noCursor (sectorOfFault n a b) (Ready (cursorAt n a b))
 

@@ -21,11 +21,11 @@ blocks n a = n - length a
 abbrev pub PastBlocks : ℕ → List ℕ → ℕ → Type 0
 PastBlocks n a b = NotBelow (blocks n a) b
 
--- checks 1, list, 5
+-- checks 1, list, 5 of `skip::sector_of` and `Cursor::start`
 abbrev pub sectorOfFault : ℕ → List ℕ → ℕ → ℕ
 sectorOfFault n a b = spaceFault n a orElse refuse (leb (blocks n a) b) noSuchBlock
 
--- checks 1, list, 6
+-- checks 1, list, 6 of `skip::block_on`
 abbrev pub blockOnFault : ℕ → List ℕ → ℕ → ℕ
 blockOnFault n a s = spaceFault n a orElse refuse (leb n s) noSuchSector
 
@@ -33,7 +33,7 @@ blockOnFault n a s = spaceFault n a orElse refuse (leb n s) noSuchSector
 abbrev pub blockOn : List ℕ → ℕ → Named
 blockOn a s = pick (isIn a s) NoBlock (Block (goodsBefore (isIn a) s))
 
--- exactly when `skip::sector_of` gives each number, and `Cursor::start`
+-- exactly when `skip::sector_of` and `Cursor::start` give each number
 abbrev pub SectorOfJudged : ℕ → List ℕ → ℕ → ℕ → Type 0
 SectorOfJudged n a b = SpaceJudged n a andThen When noSuchBlock (PastBlocks n a b)
 

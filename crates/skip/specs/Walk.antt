@@ -1,29 +1,19 @@
--- Document 01, "Skipping": the walk along a list, and the entries below a sector. These two counts are not the same number.
-use Prim.Native.Nat.{ℕ, suc, _+_, _-_}
-use mathlib.Core.Bool.{Bool, _||_}
+-- Document 01, "Skipping": the walk along a list, and the entries below a sector.
+use Prim.Native.Nat.{ℕ, suc, _+_}
 use mathlib.Core.List.{List, [], _∷_}
-use lib.Dec.{eqb, leb, ltb}
-use lib.ListN.{length, getD}
-use Rattle.paper.specs.Checks.{pick}
+use lib.Dec.{leb, ltb}
+use Rattle.paper.specs.Checks.{pick, oneIf}
 
--- how many entries an address passes: an entry that the address has reached is passed, and moves the address one sector further, before the next entry is looked at
+-- how many entries the walk passes from an address on: an entry that is at most the address is passed and adds one to it, and then the next entry is looked at
 unfoldable pub passes : List ℕ → ℕ → ℕ
 passes [] address = 0
 passes (x ∷ a) address = pick (leb x address) (suc (passes a (suc address))) 0
 
--- where the walk from block b ends
+-- where the walk ends that starts with the address equal to b
 abbrev pub walked : List ℕ → ℕ → ℕ
 walked a b = b + passes a b
 
 -- how many entries lie below a sector
 unfoldable pub entriesBelow : List ℕ → ℕ → ℕ
 entriesBelow [] s = 0
-entriesBelow (x ∷ a) s = entriesBelow a s + pick (ltb x s) 1 0
-
--- the entries before a place are passed on the way to an address: the last of them lies below it
-abbrev pub isBehind : List ℕ → ℕ → ℕ → Bool
-isBehind a count address = eqb count 0 || ltb (getD a (count - 1) 0) address
-
--- the entries from a place on are ahead of an address: the first of them lies above it
-abbrev pub isAhead : List ℕ → ℕ → ℕ → Bool
-isAhead a count address = eqb count (length a) || ltb address (getD a count 0)
+entriesBelow (x ∷ a) s = entriesBelow a s + oneIf (ltb x s)

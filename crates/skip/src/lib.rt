@@ -1,11 +1,11 @@
 // Skipping over N sectors with a list of bad ones: block ↔ sector, and the job cursor.
 ghost use mathlib.Core.Path.{_≡_};
-ghost use Prim.Native.Nat.{_≤_, _<_};
-ghost use lib.Dec.{eqb};
+ghost use Prim.Native.Nat.{_≤_};
+ghost use lib.Dec.{leb, eqb};
 ghost use lib.ListN.{length};
 ghost use Rattle.paper.specs.Limits.{listMost, unitsMost};
 ghost use Rattle.lists.specs.Proper.{Rising, Proper};
-ghost use Rattle.skip.specs.Walk.{passes, walked, entriesBelow, isBehind, isAhead};
+ghost use Rattle.skip.specs.Walk.{passes, walked, entriesBelow};
 ghost use Rattle.skip.specs.Translation.{blocks, sectorOfFault, blockOnFault, blockOn};
 ghost use Rattle.skip.specs.Cursors.{belongs, checkFault, stepFault};
 ghost use Rattle.skip.specs.Promises.{SectorOf, BlockOn, Starts, Checks, Steps};
@@ -15,14 +15,14 @@ use paper::Named;
 use paper::Placed;
 use paper::STRAY_CURSOR;
 
-// The next block of a job, and how many entries of the list lie below the sector of the block before it.
+// A job's next block, and how many entries of the list lie below the sector of the block before that one: 0 at block 0.
 #[repr(C)]
 pub struct Cursor {
     pub block: u32,
     pub skipped: u32,
 }
 
-// A job that is ready at its cursor, or the sector of a block and the cursor after it.
+// A job that is ready at its cursor; the sector of a block, and the cursor of the next block; or a refusal, and the cursor that it hands back.
 pub enum Job {
     Ready(Cursor),
     At(u32, Cursor),
@@ -63,7 +63,7 @@ fn entries_below(list: &[u32], sector: u32) -> u32
     count
 }
 
-// The number of blocks. Only other crates call this.
+// How many blocks a list leaves of n sectors. Only other crates call this.
 pub fn block_count(n: u32, list: &[u32]) -> u32
     ensures { λ result. ⌜ result ≡ blocks n (now (list .entry)) ⌝ }
 {
@@ -73,7 +73,7 @@ pub fn block_count(n: u32, list: &[u32]) -> u32
     n - list.len() as u32
 }
 
-// The sector of a block of a proper list. Only other crates call this.
+// Where the walk from a block ends. Only other crates call this.
 pub fn walk(list: &[u32], block: u32) -> u32
     requires { ⌜ Rising (now list) ⌝ }
     requires { ⌜ length (now list) ≤ listMost ⌝ }
@@ -83,7 +83,7 @@ pub fn walk(list: &[u32], block: u32) -> u32
     block + passed(list, block, 0)
 }
 
-// The block on a sector of a proper list. Only other crates call this.
+// The block on a sector, or no block where the sector is in the list. Only other crates call this.
 pub fn name(list: &[u32], sector: u32) -> Named
     requires { ⌜ Rising (now list) ⌝ }
     requires { ⌜ length (now list) ≤ listMost ⌝ }
@@ -150,26 +150,21 @@ pub fn block_on(n: u32, list: &[u32], sector: u32) -> Named
     name(list, sector)
 }
 
-// Whether the entries before a place are passed on the way to an address: the last of them lies below it.
-fn behind(list: &[u32], count: usize, address: u32) -> bool
-    requires { ⌜ count ≤ length (now list) ⌝ }
-    ensures { λ result. ⌜ result ≡ isBehind (now (list .entry)) count address ⌝ }
+// Whether a block passes at least so many entries: the last of them lies below the address that they lead to.
+fn passes_at_least(list: &[u32], block: u32, count: u32) -> bool
+    requires { ⌜ Rising (now list) ⌝ }
+    requires { ⌜ length (now list) ≤ listMost ⌝ }
+    requires { ⌜ block ≤ unitsMost ⌝ }
+    ensures { λ result. ⌜ result ≡ leb count (passes (now (list .entry)) block) ⌝ }
 {
-    if count == 0 {
+    let at = count as usize;
+    if at == 0 {
         return true;
     }
-    list[count - 1] < address
-}
-
-// Whether the entries from a place on are still ahead of an address: the first of them lies above it.
-fn ahead(list: &[u32], count: usize, address: u32) -> bool
-    requires { ⌜ count ≤ length (now list) ⌝ }
-    ensures { λ result. ⌜ result ≡ isAhead (now (list .entry)) count address ⌝ }
-{
-    if count == list.len() {
-        return true;
+    if list.len() < at {
+        return false;
     }
-    address < list[count]
+    list[at - 1] < block + count
 }
 
 // Whether a block passes just so many entries.
@@ -179,14 +174,10 @@ fn passes_just(list: &[u32], block: u32, count: u32) -> bool
     requires { ⌜ block ≤ unitsMost ⌝ }
     ensures { λ result. ⌜ result ≡ eqb count (passes (now (list .entry)) block) ⌝ }
 {
-    let at = count as usize;
-    if list.len() < at {
+    if !passes_at_least(list, block, count) {
         return false;
     }
-    if !behind(list, at, block + count) {
-        return false;
-    }
-    ahead(list, at, block + count)
+    !passes_at_least(list, block, count + 1)
 }
 
 // Whether a cursor is one of a proper list over n.
@@ -259,7 +250,7 @@ impl Cursor {
         Job::Ready(Cursor { block, skipped })
     }
 
-    // Whether the cursor is one of this list. Checks 1, list, 9.
+    // The cursor as it is, where it is one of this list. Checks 1, list, 9.
     pub fn check(self, n: u32, list: &[u32]) -> Job
         ensures { λ result. ⌜ Checks n (now (list .entry)) self result ⌝ }
     {
@@ -276,7 +267,7 @@ impl Cursor {
         Job::Ready(self)
     }
 
-    // The sector of the cursor's block, and the cursor for the block after it. Checks 1, list, 9, 5.
+    // The sector of the cursor's block, and the cursor for the block after it; a refusal hands back the cursor as it is. Checks 1, list, 9, 5.
     pub fn step(self, n: u32, list: &[u32]) -> Job
         ensures { λ result. ⌜ Steps n (now (list .entry)) self result ⌝ }
     {

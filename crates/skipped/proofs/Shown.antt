@@ -14,7 +14,7 @@ use Rattle.lists.specs.Proper.{Proper, listFault}
 use Rattle.lists.specs.Union.{isIn}
 use Rattle.lists.proofs.Exact.{list-shows}
 use Rattle.shape.specs.Shapes.{Shaped, sizeOf, shapeFault}
-use Rattle.shape.specs.Addresses.{OnDrive, offDriveFault as addressPlaceFault}
+use Rattle.shape.specs.Addresses.{OnDrive, offDriveFault}
 use Rattle.shape.specs.declared.Shape.{Shape}
 use Rattle.shape.proofs.Exact.{shape-shows, place-shows}
 use Rattle.shape.proofs.Bounds.{size-fits}
@@ -22,7 +22,7 @@ use Rattle.skip.specs.Skipping.{place}
 use Rattle.skip.specs.Walk.{walked}
 use Rattle.skip.specs.Translation.{blocks}
 use Rattle.skip.proofs.Walks.{walk-is-place}
-use Rattle.skipped.specs.Drive.{skippedFault, addressOfFault, blockAtFault}
+use Rattle.skipped.specs.Faults.{skippedFault, addressOfFault, blockAtFault}
 
 module _ (shape : Shape) (a : List ℕ) where
   pub drive-shaped : skippedFault shape a ≡ 0 → Shaped shape
@@ -50,7 +50,7 @@ module _ (shape : Shape) (a : List ℕ) where
 
   module _ (cylinder head sector : ℕ) (none : blockAtFault shape a cylinder head sector ≡ 0) where
     pub place-drive : skippedFault shape a ≡ 0
-    place-drive = orElse-first (skippedFault shape a) (addressPlaceFault shape cylinder head sector) none
+    place-drive = orElse-first (skippedFault shape a) (offDriveFault shape cylinder head sector) none
 
     pub place-on-drive : OnDrive shape cylinder head sector
-    place-on-drive = place-shows shape cylinder head sector (orElse-next (skippedFault shape a) (addressPlaceFault shape cylinder head sector) none)
+    place-on-drive = place-shows shape cylinder head sector (orElse-next (skippedFault shape a) (offDriveFault shape cylinder head sector) none)

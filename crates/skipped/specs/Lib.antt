@@ -1,2 +1,2 @@
-pub mod Drive
+pub mod Faults
 pub mod Promises

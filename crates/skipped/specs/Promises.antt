@@ -12,7 +12,7 @@ use Rattle.shape.specs.declared.Located.{Located}
 use Rattle.shape.specs.declared.Located.the-variants.{At}
 use Rattle.skip.specs.Skipping.{place}
 use Rattle.skip.specs.Translation.{blockOn}
-use Rattle.skipped.specs.Drive.{addressOfFault, blockAtFault}
+use Rattle.skipped.specs.Faults.{addressOfFault, blockAtFault}
 
 -- the address of the sector that the block lies on
 abbrev pub AddressOf : Shape → List ℕ → ℕ → Located → Type 0

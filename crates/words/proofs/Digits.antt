@@ -1,13 +1,13 @@
--- The laws of one word: the number of a number's bytes is the number, the bytes of the number of bytes are those bytes, and what each is below.
+-- The laws of one word: the number of a number's bytes is the number, and the bytes of the number of bytes are those bytes.
 -- Assumes nothing.
-use Prim.Native.Nat.{ℕ, zero, suc, _/_, _^_, _<_}
-use mathlib.Core.Path.{_≡_, refl, sym, _∙_, ap}
-use mathlib.Core.List.{List, [], _∷_}
-use native.Mathlib.Nat.{mod-lt, div-add-mod', div-div-eq-div-mul, mod-eq-of-lt}
+use Prim.Native.Nat.{ℕ, _/_, _^_, _<_}
+use mathlib.Core.Path.{_≡_, refl}
+use mathlib.Core.List.{[], _∷_}
+use native.Mathlib.Nat.{div-add-mod', div-div-eq-div-mul, mod-eq-of-lt}
 use native.Mathlib.Omega.{arith}
 use lib.ListN.{length}
-use lib.Arith.{digits-div, digits-mod}
-use Rattle.words.specs.Words.{be16, be32, bytes16, bytes32, word16At, word32At, Bytes}
+use lib.Arith.{digits-mod}
+use Rattle.words.specs.Words.{be16, be32, bytes16, bytes32, word16At, word32At}
 
 pub length-bytes16 : (n : ℕ) → length (bytes16 n) ≡ 2
 unfolding bytes16
@@ -17,33 +17,11 @@ pub length-bytes32 : (n : ℕ) → length (bytes32 n) ≡ 4
 unfolding bytes32
 length-bytes32 n = refl
 
--- a number of bytes is below 2 ^ 16 or 2 ^ 32
+-- a number of two bytes is below 2 ^ 16
 pub be16-below : (hi lo : ℕ) → hi < 256 → lo < 256 → be16 hi lo < 2 ^ 16
 be16-below hi lo h l = omega arith
 
-pub be32-below : (a b c d : ℕ) → a < 256 → b < 256 → c < 256 → d < 256 → be32 a b c d < 2 ^ 32
-be32-below a b c d h i j k = omega arith
-
--- the bytes of a number are below 256
-pub bytes16-below : (n : ℕ) → Bytes (bytes16 n)
-unfolding bytes16
-bytes16-below n zero = mod-lt (n / 256) (omega arith)
-bytes16-below n (suc zero) = mod-lt n (omega arith)
-bytes16-below n (suc (suc k)) = omega arith
-
-pub bytes32-below : (n : ℕ) → Bytes (bytes32 n)
-unfolding bytes32
-bytes32-below n zero = mod-lt (n / 16777216) (omega arith)
-bytes32-below n (suc zero) = mod-lt (n / 65536) (omega arith)
-bytes32-below n (suc (suc zero)) = mod-lt (n / 256) (omega arith)
-bytes32-below n (suc (suc (suc zero))) = mod-lt n (omega arith)
-bytes32-below n (suc (suc (suc (suc k)))) = omega arith
-
--- the bytes of the number of two or four bytes are those bytes
-pub bytes16-be16 : (hi lo : ℕ) → hi < 256 → lo < 256 → bytes16 (be16 hi lo) ≡ hi ∷ lo ∷ []
-unfolding bytes16
-bytes16-be16 hi lo h l = rw (digits-div hi l, digits-mod hi l, mod-eq-of-lt h)
-
+-- the bytes of the number of four bytes are those bytes
 pub bytes32-be32 : (a b c d : ℕ) → a < 256 → b < 256 → c < 256 → d < 256 → bytes32 (be32 a b c d) ≡ a ∷ b ∷ c ∷ d ∷ []
 unfolding bytes32
 bytes32-be32 a b c d h i j k =
@@ -64,22 +42,3 @@ unfolding word32At bytes32
 word32-bytes32 n h =
     let top : n / 16777216 < 256 = omega arith in
     rw (mod-eq-of-lt top, ← div-div-eq-div-mul n 65536 256, div-add-mod' (n / 65536) 256, ← div-div-eq-div-mul n 256 256, div-add-mod' (n / 256) 256) (div-add-mod' n 256)
-
--- bytes with the same number are the same bytes
-pub be16-injective :
-    (a b a′ b′ : ℕ) → a < 256 → b < 256 → a′ < 256 → b′ < 256 → be16 a b ≡ be16 a′ b′ → (a ≡ a′) × (b ≡ b′)
-be16-injective a b a′ b′ h i h′ i′ e = (omega arith, omega arith)
-
-pub be32-injective :
-    (a b c d a′ b′ c′ d′ : ℕ) →
-    a < 256 → b < 256 → c < 256 → d < 256 → a′ < 256 → b′ < 256 → c′ < 256 → d′ < 256 →
-    be32 a b c d ≡ be32 a′ b′ c′ d′ →
-    (a ≡ a′) × (b ≡ b′) × (c ≡ c′) × (d ≡ d′)
-be32-injective a b c d a′ b′ c′ d′ h i j k h′ i′ j′ k′ e = (omega arith, omega arith, omega arith, omega arith)
-
--- numbers with the same bytes are the same number
-pub bytes16-injective : (m n : ℕ) → m < 2 ^ 16 → n < 2 ^ 16 → bytes16 m ≡ bytes16 n → m ≡ n
-bytes16-injective m n h l e = sym (word16-bytes16 m h) ∙ ap (λ (bytes : List ℕ). word16At bytes 0) e ∙ word16-bytes16 n l
-
-pub bytes32-injective : (m n : ℕ) → m < 2 ^ 32 → n < 2 ^ 32 → bytes32 m ≡ bytes32 n → m ≡ n
-bytes32-injective m n h l e = sym (word32-bytes32 m h) ∙ ap (λ (bytes : List ℕ). word32At bytes 0) e ∙ word32-bytes32 n l

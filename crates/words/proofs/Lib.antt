@@ -1,3 +1,4 @@
+pub mod Fitting
 pub mod Bounds
 pub mod Stores
 pub mod Digits

@@ -1,12 +1,12 @@
--- The laws of a run of stores: what stands before it, in it and after it, two runs one after the other, and a run that changes nothing.
+-- The laws of a run of stores: what stands before it and after it, the run itself, two runs one after the other, and a run that changes nothing.
 -- Assumes nothing.
-use Prim.Native.Nat.{ℕ, zero, suc, _+_, _<_, _≤_}
+use Prim.Native.Nat.{ℕ, suc, _+_, _<_, _≤_}
 use mathlib.Core.Path.{_≡_, refl, sym, _∙_}
 use mathlib.Core.List.{List, [], _∷_, _++_, append-assoc}
 use native.Mathlib.Nat.{add-zero, add-suc, suc-add}
 use native.Mathlib.Omega.{arith}
-use lib.ListN.{length, getD, take, drop, set, length-drop, length-set, take-append-drop, length-append}
-use lib.Seq.{sets, sets-eq, getD-set-same, getD-set-other, take-at, drop-at, take-add, length-take-le}
+use lib.ListN.{length, getD, take, drop, set, length-drop, take-append-drop}
+use lib.Seq.{sets, sets-eq, getD-set-other, take-at, drop-at, take-add, length-take-le}
 
 module _ {ℓ} {A : Type ℓ} where
   pub sets-append :
@@ -29,28 +29,12 @@ module _ {ℓ} {A : Type ℓ} where
   getD-sets-after l at k (a ∷ run) d h =
       getD-sets-after (set l at a) (suc at) k run d (omega arith) ∙ getD-set-other l at k a d (λ e. omega arith)
 
-  pub getD-sets-in :
-      (l : List A) (at k : ℕ) (run : List A) (d : A) →
-      k < length run → at + length run ≤ length l → getD (sets l at run) (at + k) d ≡ getD run k d
-  getD-sets-in l at k [] d h fits = absurd (omega arith)
-  getD-sets-in l at zero (a ∷ run) d h fits =
-      rw (add-zero at) (getD-sets-before (set l at a) (suc at) at run d (omega arith) ∙ getD-set-same l at a d (omega arith))
-  getD-sets-in l at (suc k) (a ∷ run) d h fits =
-      rw (add-suc at k, ← suc-add at k)
-      (getD-sets-in (set l at a) (suc at) k run d (omega arith) (rw (length-set l at a) (omega arith)))
-
   module _ (l : List A) (at : ℕ) (run : List A) (fits : at + length run ≤ length l) where
     long : length (take at l) ≡ at
     long = length-take-le at l (omega arith)
 
     split : sets l at run ≡ take at l ++ (run ++ drop (at + length run) l)
     split = sets-eq run l at fits ∙ append-assoc (take at l) run (drop (at + length run) l)
-
-    pub take-sets : take at (sets l at run) ≡ take at l
-    take-sets = rw split (take-at _ _ at long)
-
-    pub drop-sets : drop (at + length run) (sets l at run) ≡ drop (at + length run) l
-    drop-sets = rw (sets-eq run l at fits) (drop-at (take at l ++ run) _ (at + length run) (simp (length-append, long)))
 
     -- the run itself
     pub part-sets : take (length run) (drop at (sets l at run)) ≡ run

@@ -1,5 +1,5 @@
 -- Words: numbers of two and four bytes, the most significant byte first, alone, at a place of a list of bytes, and in a run.
-use Prim.Native.Nat.{ℕ, zero, suc, _+_, _*_, _/_, _%_, _^_, _<_}
+use Prim.Native.Nat.{ℕ, zero, suc, _+_, _*_, _/_, _%_, _<_}
 use mathlib.Core.List.{List, [], _∷_, _++_}
 use lib.ListN.{getD}
 
@@ -37,14 +37,6 @@ unfoldable pub bytesOf : List ℕ → List ℕ
 bytesOf [] = []
 bytesOf (n ∷ list) = bytes32 n ++ bytesOf list
 
--- each number of a list is below a bound
-abbrev pub Below : ℕ → List ℕ → Type 0
-Below bound list = (k : ℕ) → getD list k 0 < bound
-
--- a list of bytes
+-- a list of bytes: each number is below 256
 abbrev pub Bytes : List ℕ → Type 0
-Bytes list = Below 256 list
-
--- a list of numbers that four bytes hold
-abbrev pub Fits32 : List ℕ → Type 0
-Fits32 list = Below (2 ^ 32) list
+Bytes list = (k : ℕ) → getD list k 0 < 256

@@ -5,15 +5,15 @@ ghost use lib.ListN.{length};
 ghost use lib.Seq.{sets};
 ghost use Rattle.words.specs.Words.{be16, be32, bytes16, bytes32, word16At, word32At};
 
-// The number of two bytes. Only other crates call this.
-pub fn be16(hi: u8, lo: u8) -> u16
+// The number of two bytes.
+fn be16(hi: u8, lo: u8) -> u16
     ensures { λ result. ⌜ result ≡ be16 hi lo ⌝ }
 {
     hi as u16 * 256 + lo as u16
 }
 
-// The number of four bytes. Only other crates call this.
-pub fn be32(a: u8, b: u8, c: u8, d: u8) -> u32
+// The number of four bytes.
+fn be32(a: u8, b: u8, c: u8, d: u8) -> u32
     ensures { λ result. ⌜ result ≡ be32 a b c d ⌝ }
 {
     ((a as u32 * 256 + b as u32) * 256 + c as u32) * 256 + d as u32

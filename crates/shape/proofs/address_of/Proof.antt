@@ -3,8 +3,8 @@
 use borrow.Author.Needs.{needs}
 use borrow.Author.Tests.{le-leb, lt-leb}
 use mathlib.Core.Path.{sym, _∙_, refl}
-use Rattle.paper.proofs.Chain.{orElse-some, answer-refused}
-use Rattle.paper.proofs.Kept.{gives}
+use Rattle.paper.proofs.Chain.{orElse-some}
+use Rattle.paper.proofs.Kept.{gives, refuses}
 use Rattle.shape.proofs.Exact.{shape-shows}
 use Rattle.shape.proofs.address_of.Statement.{statement}
 use Rattle.shape.proofs.address_of.Tie as tie
@@ -13,7 +13,7 @@ shape-fault-requires : tie.Need-shape-fault-requires
 shape-fault-requires c κs = search needs
 
 returns : tie.Need-returns
-returns c = gives (λ k. refl) (rw (← c .before .shape-fault .ensures, orElse-some _ _ (c .if1 .taken)) (sym (answer-refused _ _ _ (c .if1 .taken))))
+returns c = refuses (λ k. refl) _ (rw (← c .before .shape-fault .ensures) (orElse-some _ _ (c .if1 .taken))) (c .if1 .taken)
 
 size-of-requires : tie.Need-size-of-requires
 size-of-requires c κs = shape-shows _ (sym (c .before .shape-fault .ensures) ∙ c .if1 .left)

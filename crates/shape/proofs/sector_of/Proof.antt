@@ -2,8 +2,8 @@
 -- Assumes nothing.
 use borrow.Author.Needs.{needs}
 use mathlib.Core.Path.{sym, _∙_, refl}
-use Rattle.paper.proofs.Chain.{orElse-some, answer-refused}
-use Rattle.paper.proofs.Kept.{gives}
+use Rattle.paper.proofs.Chain.{orElse-some}
+use Rattle.paper.proofs.Kept.{gives, refuses}
 use Rattle.shape.proofs.Exact.{shape-shows, place-shows}
 use Rattle.shape.proofs.sector_of.Statement.{statement}
 use Rattle.shape.proofs.sector_of.Tie as tie
@@ -12,13 +12,13 @@ shape-fault-requires : tie.Need-shape-fault-requires
 shape-fault-requires c κs = search needs
 
 returns : tie.Need-returns
-returns c = gives (λ k. refl) (rw (← c .before .shape-fault .ensures, orElse-some _ _ (c .if1 .taken)) (sym (answer-refused _ _ _ (c .if1 .taken))))
+returns c = refuses (λ k. refl) _ (rw (← c .before .shape-fault .ensures) (orElse-some _ _ (c .if1 .taken))) (c .if1 .taken)
 
 off-drive-fault-requires : tie.Need-off-drive-fault-requires
 off-drive-fault-requires c κs = search needs
 
 returns-2 : tie.Need-returns-2
-returns-2 c = gives (λ k. refl) (rw (← c .before .before .before .shape-fault .ensures, c .before .before .if1 .left, ← c .before .off-drive-fault .ensures) (sym (answer-refused _ _ _ (c .if2 .taken))))
+returns-2 c = refuses (λ k. refl) _ (rw (← c .before .before .before .shape-fault .ensures, c .before .before .if1 .left) (sym (c .before .off-drive-fault .ensures))) (c .if2 .taken)
 
 sector-at-requires : tie.Need-sector-at-requires
 sector-at-requires c κs = (shape-shows _ (sym (c .before .before .before .shape-fault .ensures) ∙ c .before .before .if1 .left), place-shows _ _ _ _ (sym (c .before .off-drive-fault .ensures) ∙ c .if2 .left))

@@ -6,7 +6,7 @@ use native.Mathlib.Omega.{arith}
 use denote.Ref.{now}
 use borrow.Author.Tests.{le-leb, lt-leb}
 use Rattle.skip.specs.Translation.{blocks}
-use Rattle.skip.proofs.Cursoring.{skipped-passes}
+use Rattle.skip.proofs.Cursoring.{count-passes}
 use Rattle.skip.proofs.is_of.Statement.{statement}
 use Rattle.skip.proofs.is_of.Tie as tie
 
@@ -30,7 +30,7 @@ passes-just-requires c κs = (c .before .before .before .before .pre .0 .rising,
 returns-3 : tie.Need-returns-3
 returns-3 c =
     let h : c .before .before .before .before .before .args .cursor .block ≤ blocks (c .before .before .before .before .before .args .n) (now (c .before .before .before .before .before .args .list)) = omega (arith, c .before .before .before .block-count .ensures) in
-    rw (le-leb _ _ h, skipped-passes (c .before .before .before .before .before .args .n) (now (c .before .before .before .before .before .args .list)) (c .before .before .before .before .before .pre .0) (c .before .before .before .before .before .args .cursor .block) (c .before .if2 .left) h) (c .passes-just .ensures)
+    rw (le-leb _ _ h, count-passes (c .before .before .before .before .before .args .n) (now (c .before .before .before .before .before .args .list)) (c .before .before .before .before .before .pre .0) (c .before .before .before .before .before .args .cursor .block) (c .before .if2 .left) h) (c .passes-just .ensures)
 
 pub is-of-spec : {M : Type 1} → statement M
 is-of-spec =

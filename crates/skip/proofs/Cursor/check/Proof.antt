@@ -2,8 +2,7 @@
 -- Assumes nothing.
 use borrow.Author.Needs.{needs}
 use mathlib.Core.Path.{sym, _∙_, refl}
-use Rattle.paper.proofs.Chain.{answer-refused, answer-accepted}
-use Rattle.paper.proofs.Kept.{gives}
+use Rattle.paper.proofs.Kept.{refuses, accepts}
 use Rattle.skip.proofs.Cursor.check.Statement.{statement}
 use Rattle.skip.proofs.Cursor.check.Tie as tie
 
@@ -11,10 +10,10 @@ check-fault-requires : tie.Need-check-fault-requires
 check-fault-requires c κs = search needs
 
 returns : tie.Need-returns
-returns c = gives (λ k. refl) (rw (← c .before .check-fault .ensures) (sym (answer-refused _ _ _ (c .if1 .taken))))
+returns c = refuses (λ k. refl) _ (sym (c .before .check-fault .ensures)) (c .if1 .taken)
 
 returns-2 : tie.Need-returns-2
-returns-2 c = gives (λ k. refl) (sym (answer-accepted _ _ _ (sym (c .before .check-fault .ensures) ∙ c .if1 .left)))
+returns-2 c = accepts (λ k. refl) (sym (c .before .check-fault .ensures) ∙ c .if1 .left) refl
 
 pub check-spec : {M : Type 1} → statement M
 check-spec = tie.close (tie.spec check-fault-requires returns returns-2)
