@@ -30,7 +30,7 @@ use Rattle.replacing.specs.Replacing.{spareFor, replacedIn}
 use Rattle.replacing.specs.Counting.{censusOf}
 use Rattle.first.specs.First.{firstTable, firstTableFault}
 use Rattle.spares.specs.Spares.{shiftOf, blockFault as spareBlockFault, blockOnFault, blockAtFault, replaceFault}
-use Rattle.image.specs.Image.{headerOf, imageIn, headerFault, imageFault, writeFault}
+use Rattle.image.specs.Image.{headerOf, imageOf, headerFault, imageFault, writeFault}
 use Rattle.reading.specs.Tracks.{trackOf, dataStart}
 use Rattle.reading.specs.Faults.{blockReadFault}
 use Rattle.board.specs.declared.answers.TbPlaced.{TbPlaced}
@@ -180,7 +180,7 @@ SpareFirst shape r list room w after =
 abbrev pub ImageWrite : ℕ → List ℕ → Bool → List ℕ → TbWritten → List ℕ → Type 0
 ImageWrite block bytes forced room r after =
     Leaves {Rest = ℕ × List ℕ} (writeFault dataSize bytes room) (0, room)
-    (dataSize + imageExtra, imageIn block bytes forced room)
+    (dataSize + imageExtra, written (imageOf block bytes forced) room)
     (r .refusal) (r .length, after)
 
 -- the number that a header carries
