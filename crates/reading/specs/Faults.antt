@@ -31,6 +31,6 @@ abbrev pub lyingFault : ℕ → Shape → ℕ → List ℕ → ℕ → List ℕ 
 lyingFault size shape r t b home spare =
     contentsFault size (imageFor size (driveOf shape r) t b home spare) (headerFor (driveOf shape r) t b)
 
--- 1, 11, 5, 14, 15 to 18: checks of a read
+-- 1, 11, 5, 14, 15 to 18: checks of a read of a block
 unfoldable pub blockReadFault : ℕ → Shape → ℕ → List ℕ → ℕ → List ℕ → List ℕ → ℕ
 blockReadFault size shape r t b home spare = lentFault size shape r t b home spare orElse lyingFault size shape r t b home spare

@@ -27,7 +27,7 @@ pub data LyingJudged (size : ℕ) (drive : Drive) (t : List ℕ) (b : ℕ) (home
       {k : ℕ} (track : List ℕ) (sector : ℕ) → Seated drive t b home spare track sector →
       ContentsJudged size (imageAt size (bytesIn size sector) track) (headerFor drive t b) k → LyingJudged size drive t b home spare k
 
--- exactly when a read gives each number
+-- exactly when a read of a block gives each number
 abbrev pub BlockReadJudged : ℕ → Shape → ℕ → List ℕ → ℕ → List ℕ → List ℕ → ℕ → Type 0
 BlockReadJudged size shape r t b home spare =
     TableJudged shape r t

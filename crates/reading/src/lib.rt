@@ -6,17 +6,18 @@ ghost use Rattle.paper.specs.Checks.{pick};
 ghost use Rattle.paper.specs.Limits.{sectorsMost, imageExtra};
 ghost use Rattle.image.specs.Image.{contentsFault};
 ghost use Rattle.layout.specs.Layouts.{Laid};
-ghost use Rattle.reading.specs.Tracks.{headerFor, seatOf, imageAt};
+ghost use Rattle.reading.specs.Tracks.{headerFor, imageAt};
+ghost use Rattle.reading.specs.Steps.{seatOf};
 ghost use Rattle.reading.specs.Faults.{lentFault};
 ghost use Rattle.reading.specs.Promises.{SpotSized, JudgeSized, DataSized, Judge, Data, Spots};
 
 mod answers;
 
 pub use answers::Spot;
-use image::HEADER_SIZE;
 use image::Verdict;
 use layout::Drive;
 use paper::DATA_SIZE;
+use paper::HEADER_SIZE;
 use paper::IMAGE_EXTRA;
 use paper::NO_SUCH_BLOCK;
 use paper::WRONG_LENGTH;
@@ -101,8 +102,8 @@ fn lent_fault(
     0
 }
 
-// Where the data of a block begins. Checks 1, 11, 5, 14, 15 to 18. Only other crates call this.
-pub fn spot_sized<'a>(
+// Where the data of a block begins. Checks 1, 11, 5, 14, 15 to 18.
+fn spot_sized<'a>(
     size: usize,
     shape: Shape,
     r: u32,
@@ -137,8 +138,8 @@ pub fn spot_sized<'a>(
     Spot::InHome(offset)
 }
 
-// The verdict on a block. Checks 1, 11, 5, 14, 15 to 18. Only other crates call this.
-pub fn judge_sized<'a>(
+// The verdict on a block. Checks 1, 11, 5, 14, 15 to 18.
+fn judge_sized<'a>(
     size: usize,
     shape: Shape,
     r: u32,
@@ -157,8 +158,8 @@ pub fn judge_sized<'a>(
     }
 }
 
-// The data of a good block where it lies, in whichever image that is; else the empty part at the start of home. Only other crates call this.
-pub fn data_sized<'a>(
+// The data of a good block where it lies, in whichever image that is; else the empty part at the start of home.
+fn data_sized<'a>(
     size: usize,
     shape: Shape,
     r: u32,
