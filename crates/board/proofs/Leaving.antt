@@ -14,7 +14,7 @@ use Rattle.skip.specs.Skipping.{goodsBefore}
 use Rattle.skip.specs.Translation.{blockOn}
 use Rattle.skip.specs.Cursors.{noCursor}
 use Rattle.skip.specs.Promises.{namedNumbers}
-use Rattle.replacing.specs.declared.Census.{Census}
+use Rattle.table.specs.declared.Census.{Census}
 use Rattle.spares.specs.Promises.{countedNumbers}
 use Rattle.board.specs.Promises.{Leaves, nowhere, foundAs}
 

@@ -22,7 +22,7 @@ use Rattle.page.specs.declared.Paged.{Paged}
 use Rattle.page.specs.Promises.{saidPaged, Reads, Writes}
 use Rattle.format.specs.declared.Formatted.{Formatted}
 use Rattle.format.specs.Promises.{saidFormatted, Formats}
-use Rattle.first.specs.Promises.{FirstTable}
+use Rattle.first_table.specs.Promises.{FirstTable}
 use Rattle.spares.specs.declared.Shifted.{Shifted}
 use Rattle.spares.specs.declared.Replaced.{Replaced}
 use Rattle.spares.specs.declared.Counted.{Counted}

@@ -27,9 +27,10 @@ use Rattle.layout.specs.Layouts.{driveOf}
 use Rattle.table.specs.Rules.{tableFault, tableLength}
 use Rattle.table.specs.Lookup.{liesOn, lyingOn}
 use Rattle.replacing.specs.Replacing.{spareFor, replacedIn}
-use Rattle.replacing.specs.Counting.{censusOf}
-use Rattle.first.specs.First.{firstTable, firstTableFault}
-use Rattle.spares.specs.Spares.{shiftOf, blockFault as spareBlockFault, blockOnFault, blockAtFault, replaceFault}
+use Rattle.table.specs.Counting.{censusOf}
+use Rattle.first_table.specs.First.{firstTable, firstTableFault}
+use Rattle.spares.specs.Spares.{shiftOf, blockOnFault, blockAtFault, replaceFault}
+use Rattle.table.specs.Rules.{blockFault as spareBlockFault}
 use Rattle.image.specs.Image.{headerOf, imageOf, headerFault, imageFault, writeFault}
 use Rattle.reading.specs.Tracks.{trackOf, dataStart}
 use Rattle.reading.specs.Faults.{blockReadFault}

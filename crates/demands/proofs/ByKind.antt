@@ -35,7 +35,7 @@ use Rattle.spares.specs.declared.Replaced.{Replaced}
 use Rattle.spares.specs.declared.Replaced.the-variants.{Place, Refused as NotReplaced}
 use Rattle.spares.specs.declared.Counted.{Counted}
 use Rattle.spares.specs.declared.Counted.the-variants.{Counts, Refused as NotCounted}
-use Rattle.replacing.specs.declared.Census.{Census}
+use Rattle.table.specs.declared.Census.{Census}
 use Rattle.image.specs.Promises.{saidHead, saidVerdict}
 use Rattle.image.specs.declared.Head.{Head}
 use Rattle.image.specs.declared.Head.the-variants.{Number, Refused as NoHead}

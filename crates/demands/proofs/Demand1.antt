@@ -50,16 +50,18 @@ use Rattle.table.specs.Rules.{tableFault, tableLength, TableJudged}
 use Rattle.table.specs.Lookup.{isReplaced, liesOn, blockAtHome, blockOnSpare, lyingOn}
 use Rattle.table.proofs.Exact.{table-exactly}
 use Rattle.replacing.specs.Replacing.{spareFor}
-use Rattle.replacing.specs.Counting.{censusOf}
-use Rattle.first.specs.First.{firstTableFault, FirstTableJudged}
-use Rattle.first.specs.Promises.{FirstTable}
-use Rattle.first.proofs.Exact.{first-exactly}
-use Rattle.spares.specs.Spares.{shiftOf, blockFault as spareBlockFault, blockOnFault, blockAtFault, replaceFault, BlockJudged, BlockOnJudged as SpareBlockOnJudged, BlockAtJudged as SpareBlockAtJudged, ReplaceJudged}
+use Rattle.table.specs.Counting.{censusOf}
+use Rattle.first_table.specs.First.{firstTableFault, FirstTableJudged}
+use Rattle.first_table.specs.Promises.{FirstTable}
+use Rattle.first_table.proofs.Exact.{first-exactly}
+use Rattle.spares.specs.Spares.{shiftOf, blockOnFault, blockAtFault, replaceFault, BlockOnJudged as SpareBlockOnJudged, BlockAtJudged as SpareBlockAtJudged, ReplaceJudged}
+use Rattle.table.specs.Rules.{blockFault as spareBlockFault, BlockJudged}
 use Rattle.spares.specs.Promises.{saidReplaced, SectorOf as SpareSectorOf, AddressOf as SpareAddressOf, ShiftOf, BlockOn as SpareBlockOn, BlockAt as SpareBlockAt, Replacement, CensusOf}
 use Rattle.spares.specs.declared.Shifted.{Shifted}
 use Rattle.spares.specs.declared.Replaced.{Replaced}
 use Rattle.spares.specs.declared.Counted.{Counted}
-use Rattle.spares.proofs.Exact.{block-exactly, block-on-exactly as spare-block-on-exactly, block-at-exactly as spare-block-at-exactly, replace-exactly}
+use Rattle.spares.proofs.Exact.{block-on-exactly as spare-block-on-exactly, block-at-exactly as spare-block-at-exactly, replace-exactly}
+use Rattle.table.proofs.Exact.{block-exactly}
 use Rattle.image.specs.Image.{headerOf, headerFault, imageFault, writeFault}
 use Rattle.image.specs.Judged.{HeaderJudged, ImageJudged, WriteJudged}
 use Rattle.image.specs.Promises.{Write, Header, Judge, Data}

@@ -12,12 +12,12 @@ use Rattle.layout.specs.Layouts.{driveOf}
 use Rattle.layout.specs.Descriptors.{free}
 use Rattle.layout.specs.declared.Drive.{Drive}
 use Rattle.table.specs.Rules.{tableFault, tableLength}
-use Rattle.replacing.specs.Counting.{codeCount}
-use Rattle.replacing.specs.declared.Census.{Census}
-use Rattle.marking.specs.Marks.{isBadSpare, badSpares, badHomes, goodSpares}
-use Rattle.first.specs.First.{firstTable, firstTableFault}
-use Rattle.first.specs.Promises.{FirstTable}
-use Rattle.first.proofs.Exact.{first-shows, first-made}
+use Rattle.table.specs.Counting.{codeCount}
+use Rattle.table.specs.declared.Census.{Census}
+use Rattle.first_table.specs.Marks.{isBadSpare, badSpares, badHomes, goodSpares}
+use Rattle.first_table.specs.First.{firstTable, firstTableFault}
+use Rattle.first_table.specs.Promises.{FirstTable}
+use Rattle.first_table.proofs.Exact.{first-shows, first-made}
 use Rattle.spares.specs.Promises.{saidCounted, CensusOf}
 use Rattle.spares.specs.History.{Call, afterAll, accepted}
 use Rattle.spares.specs.declared.Counted.{Counted}

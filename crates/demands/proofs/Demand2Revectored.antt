@@ -33,12 +33,14 @@ use Rattle.table.specs.Rules.{tableFault}
 use Rattle.table.specs.Lookup.{Replaced, isReplaced, placeOf, liesOn, lyingOn, Resides, Vacant}
 use Rattle.table.proofs.Lookups.{place-once, lies-shows, lies-only, lies-apart, none-on-unusable, lying-of-lies, vacant-told, lies-below, lies-of-lying, vacant-shows}
 use Rattle.replacing.specs.Replacing.{NoneFree, Altered, spareFor}
-use Rattle.spares.specs.Spares.{shiftOf, blockFault, blockOnFault, blockAtFault, replaceFault}
+use Rattle.spares.specs.Spares.{shiftOf, blockOnFault, blockAtFault, replaceFault}
+use Rattle.table.specs.Rules.{blockFault}
 use Rattle.spares.specs.Promises.{saidReplaced, SectorOf, AddressOf, ShiftOf, BlockOn, BlockAt, Replacement}
 use Rattle.spares.specs.declared.Shifted.the-variants.{By}
 use Rattle.spares.specs.declared.Replaced.{Replaced as ReplaceAnswer}
 use Rattle.spares.specs.declared.Replaced.the-variants.{Place, Refused as NotReplaced}
-use Rattle.spares.proofs.Exact.{Ready, sector-within, table-ready, block-ready, block-below}
+use Rattle.spares.proofs.Exact.{sector-within}
+use Rattle.table.proofs.Exact.{Ready, table-ready, block-ready, block-below}
 use Rattle.spares.proofs.Accepted.{replace-alters, no-spare-shows, no-spare-told}
 use Rattle.spares.proofs.Shifts.{shift-at-home, shift-leads, shift-answered}
 use Rattle.demands.specs.Mission.{Leads}

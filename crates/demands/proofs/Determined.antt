@@ -14,7 +14,7 @@ use Rattle.skip.specs.Promises as Skip
 use Rattle.skipped.specs.Promises as Skipped
 use Rattle.page.specs.Promises as Page
 use Rattle.format.specs.Promises.{Formats}
-use Rattle.first.specs.Promises.{FirstTable}
+use Rattle.first_table.specs.Promises.{FirstTable}
 use Rattle.spares.specs.Promises as Spares
 use Rattle.image.specs.Promises as Image
 use Rattle.image.proofs.Lent.{lends-one}

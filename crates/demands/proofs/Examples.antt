@@ -33,10 +33,10 @@ use Rattle.table.specs.Rules.{tableFault, tableLength}
 use Rattle.table.specs.Lookup.{placeOf, liesOn}
 use Rattle.order.specs.Order.{outward}
 use Rattle.replacing.specs.Replacing.{spareFor}
-use Rattle.replacing.specs.Counting.{censusOf}
-use Rattle.marking.specs.Marks.{passing, badSpares, badHomes, marked}
-use Rattle.first.specs.First.{replacedAll, firstTable, spareFault, firstTableFault as startFault}
-use Rattle.first.proofs.Says.{spares-judge}
+use Rattle.table.specs.Counting.{censusOf}
+use Rattle.first_table.specs.Marks.{passing, badSpares, badHomes, marked}
+use Rattle.first_table.specs.First.{replacedAll, firstTable, spareFault, firstTableFault as startFault}
+use Rattle.first_table.proofs.Says.{spares-judge}
 use Rattle.spares.specs.Spares as Spares
 use Rattle.spares.specs.Promises.{tableAfter}
 use Rattle.image.specs.Code.{wordsOf, rotated, codeAfter, codeFrom, dataCode, carried}

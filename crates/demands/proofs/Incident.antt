@@ -29,10 +29,11 @@ use Rattle.order.proofs.Signs.{minus-below}
 use Rattle.replacing.specs.Replacing.{Altered}
 use Rattle.spares.specs.declared.Replaced as Answers
 use Rattle.spares.specs.declared.Replaced.the-variants.{Place}
-use Rattle.spares.specs.Spares.{shiftOf, blockFault, replaceFault}
+use Rattle.spares.specs.Spares.{shiftOf, replaceFault}
+use Rattle.table.specs.Rules.{blockFault}
 use Rattle.spares.specs.Promises.{Replacement, replaced}
 use Rattle.spares.proofs.Accepted.{replace-block, after-passes}
-use Rattle.spares.proofs.Exact.{block-ready}
+use Rattle.table.proofs.Exact.{block-ready}
 use Rattle.spares.proofs.Shifts.{shift-replaced, shift-leads}
 use Rattle.image.specs.declared.Verdict.{Verdict}
 use Rattle.image.specs.Image.{imageOf, writeFault}

@@ -19,9 +19,9 @@ use Rattle.format.specs.Promises.{Formats}
 use Rattle.format.specs.declared.Formatted.the-variants.{Done}
 use Rattle.shape.specs.declared.Shape.{Shape}
 use Rattle.layout.specs.Layouts.{driveOf}
-use Rattle.first.specs.First.{firstTable, firstTableFault, IsFirstTable}
-use Rattle.first.specs.Promises.{FirstTable}
-use Rattle.first.proofs.Exact.{first-made}
+use Rattle.first_table.specs.First.{firstTable, firstTableFault, IsFirstTable}
+use Rattle.first_table.specs.Promises.{FirstTable}
+use Rattle.first_table.proofs.Exact.{first-made}
 use Rattle.image.specs.Image.{imageOf, writeFault as imageWriteFault}
 use Rattle.image.specs.Promises.{Write}
 use Rattle.image.proofs.ThereAndBack.{room-image, room-rest}

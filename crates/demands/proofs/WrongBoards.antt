@@ -41,13 +41,14 @@ use Rattle.table.specs.Lookup.{placeOf}
 use Rattle.table.proofs.Lookups.{lies-only, lies-apart}
 use Rattle.order.specs.Order.{outward, order, countIn}
 use Rattle.replacing.specs.Replacing.{Altered}
-use Rattle.replacing.specs.declared.Census.{Census}
+use Rattle.table.specs.declared.Census.{Census}
 use Rattle.spares.specs.Spares.{ReplaceJudged}
 use Rattle.spares.specs.Promises.{saidReplaced}
 use Rattle.spares.specs.declared.Replaced.the-variants.{Place, Refused as NotReplaced}
 use Rattle.spares.specs.declared.Shifted.the-variants.{By}
 use Rattle.spares.specs.declared.Counted.the-variants.{Counts as CountedAs}
-use Rattle.spares.proofs.Exact.{table-ready, replace-exactly}
+use Rattle.spares.proofs.Exact.{replace-exactly}
+use Rattle.table.proofs.Exact.{table-ready}
 use Rattle.image.specs.Code as Code
 use Rattle.image.specs.Code.{wordsOf, rotated, codeFrom}
 use Rattle.image.specs.Image.{copies, headerOf, storedIn, foundIn, dataOf, imageOf, copiesFault, contentsFault, imageFault}

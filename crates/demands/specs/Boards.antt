@@ -41,9 +41,9 @@ use Rattle.layout.specs.Descriptors.{primary}
 use Rattle.table.specs.Rules.{tableFault}
 use Rattle.table.specs.Lookup.{placeOf, isReplaced}
 use Rattle.order.specs.Order.{placeIn, kept, outward, blockStart, freeAt}
-use Rattle.replacing.specs.declared.Census.{Census}
+use Rattle.table.specs.declared.Census.{Census}
 use Rattle.replacing.specs.Replacing.{descriptorAt}
-use Rattle.spares.specs.Spares.{blockFault as spareBlockFault}
+use Rattle.table.specs.Rules.{blockFault as spareBlockFault}
 use Rattle.spares.specs.Promises.{replaced}
 use Rattle.spares.specs.declared.Replaced.{Replaced}
 use Rattle.spares.specs.declared.Replaced.the-variants.{Place, Refused as NotReplaced}

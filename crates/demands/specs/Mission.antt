@@ -15,8 +15,8 @@ use Rattle.layout.specs.declared.Drive.{Drive}
 use Rattle.layout.specs.Layouts.{sectorsPerTrack, homeCylinder}
 use Rattle.layout.specs.Descriptors.{free, atPrimary, elsewhere, unusable, null}
 use Rattle.table.specs.Lookup.{liesOn}
-use Rattle.replacing.specs.Counting.{codeCount}
-use Rattle.replacing.specs.declared.Census.{Census}
+use Rattle.table.specs.Counting.{codeCount}
+use Rattle.table.specs.declared.Census.{Census}
 
 -- demand 1: the result's number is given exactly when the paper's table gives it; a refusal says its number and nothing else; and a result that is a refusal has a number, so that 0 means accepted
 pub record ByTheNumbers {Result Said : Type 0} (said : Result → Said) (number : Said → ℕ) (nothing : ℕ → Said) (refused : ℕ → Result) (Judged : ℕ → Type 0) (result : Result) : Type 0 where

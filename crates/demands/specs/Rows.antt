@@ -13,7 +13,7 @@ use Rattle.shape.specs.declared.Shape.{Shape}
 use Rattle.skip.specs.Promises as Skip
 use Rattle.format.specs.declared.Formatted.{Formatted}
 use Rattle.format.specs.Promises.{saidFormatted, Formats}
-use Rattle.first.specs.Promises.{FirstTable}
+use Rattle.first_table.specs.Promises.{FirstTable}
 use Rattle.spares.specs.declared.Replaced.{Replaced}
 use Rattle.spares.specs.Promises as Spares
 use Rattle.image.specs.Image.{storedIn}

@@ -1,8 +1,10 @@
 // A revectored drive: its check, the numbers of its layout, where homes and spares lie, and descriptor words.
 ghost use mathlib.Core.Path.{_≡_};
-ghost use Prim.Native.Nat.{_<_};
+ghost use mathlib.Core.Bool.{false};
+ghost use Prim.Native.Nat.{_<_, _*_};
 ghost use Rattle.shape.specs.Shapes.{Shaped};
-ghost use Rattle.layout.specs.Layouts.{Spared, driveFault, driveOf, Laid, homeSector, spareSector, homeCylinder, spareCylinder};
+ghost use Rattle.layout.specs.Layouts.{Spared, driveFault, driveOf, Laid, sectorsPerTrack, homeSector, spareSector, homeCylinder, spareCylinder};
+ghost use Rattle.layout.specs.Sides.{isHome, blockOfHome, placeOfSpare};
 ghost use Rattle.layout.specs.Descriptors.{free, atPrimary, elsewhere, unusable, null, codeUnit, codeOf, numberOf, primary, isAllocated, names};
 use paper::OUT_OF_RANGE;
 use paper::SPARES_MOST;
@@ -154,4 +156,33 @@ pub fn spare_cylinder(drive: Drive, place: u32) -> u32
     ensures { λ result. ⌜ result ≡ spareCylinder drive place ⌝ }
 {
     place / drive.r / drive.heads
+}
+
+// Whether a sector is the home of a block, and not a spare. Only other crates call this.
+pub fn is_home(drive: Drive, sector: u32) -> bool
+    requires { ⌜ Laid drive ⌝ }
+    ensures { λ result. ⌜ result ≡ isHome drive sector ⌝ }
+{
+    sector % (drive.l + drive.r) < drive.l
+}
+
+// The block whose home a sector is. Only other crates call this.
+pub fn block_of_home(drive: Drive, sector: u32) -> u32
+    requires { ⌜ Laid drive ⌝ }
+    requires { ⌜ sector < drive .tracks * sectorsPerTrack drive ⌝ }
+    ensures { λ result. ⌜ result ≡ blockOfHome drive sector ⌝ }
+{
+    let sectors = drive.l + drive.r;
+    sector / sectors * drive.l + sector % sectors
+}
+
+// The place of the spare that a sector is. Only other crates call this.
+pub fn place_of_spare(drive: Drive, sector: u32) -> u32
+    requires { ⌜ Laid drive ⌝ }
+    requires { ⌜ sector < drive .tracks * sectorsPerTrack drive ⌝ }
+    requires { ⌜ isHome drive sector ≡ false ⌝ }
+    ensures { λ result. ⌜ result ≡ placeOfSpare drive sector ⌝ }
+{
+    let sectors = drive.l + drive.r;
+    sector / sectors * drive.r + (sector % sectors - drive.l)
 }

@@ -13,7 +13,8 @@ use Rattle.layout.specs.Layouts.{driveOf}
 use Rattle.table.specs.Lookup.{placeOf}
 use Rattle.spares.specs.declared.Shifted.{Shifted}
 use Rattle.spares.specs.declared.Shifted.the-variants.{By, Refused}
-use Rattle.spares.specs.Spares.{shiftOf, blockFault}
+use Rattle.spares.specs.Spares.{shiftOf}
+use Rattle.table.specs.Rules.{blockFault}
 
 -- what `spares::shift` answers
 abbrev shifted : Shape → ℕ → List ℕ → ℕ → Shifted

@@ -10,12 +10,12 @@ use Rattle.shape.specs.declared.Shape.{Shape}
 use Rattle.layout.specs.Layouts.{driveOf, driveFault}
 use Rattle.layout.specs.Descriptors.{free}
 use Rattle.table.specs.Rules.{tableFault}
-use Rattle.replacing.specs.Counting.{codeCount}
-use Rattle.marking.specs.Marks.{badSpares, badHomes}
-use Rattle.first.specs.First.{firstTable, firstTableFault}
-use Rattle.first.proofs.Exact.{first-made}
+use Rattle.table.specs.Counting.{codeCount}
+use Rattle.first_table.specs.Marks.{badSpares, badHomes}
+use Rattle.first_table.specs.First.{firstTable, firstTableFault}
+use Rattle.first_table.proofs.Exact.{first-made}
 use Rattle.spares.specs.History.{Call, reads, replaces, afterCall, acceptedBy, afterAll, accepted}
-use Rattle.spares.proofs.Exact.{table-passes}
+use Rattle.table.proofs.Exact.{table-passes}
 use Rattle.spares.proofs.Accepted.{after-passes, free-after}
 
 module _ (shape : Shape) (r : ℕ) where

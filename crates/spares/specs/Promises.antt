@@ -16,14 +16,15 @@ use Rattle.layout.specs.Layouts.{driveOf}
 use Rattle.table.specs.Rules.{tableFault}
 use Rattle.table.specs.Lookup.{liesOn, lyingOn}
 use Rattle.replacing.specs.Replacing.{spareFor, replacedIn}
-use Rattle.replacing.specs.Counting.{censusOf}
+use Rattle.table.specs.Counting.{censusOf}
 use Rattle.spares.specs.declared.Shifted.{Shifted}
 use Rattle.spares.specs.declared.Shifted.the-variants.{By, Refused as NotShifted}
 use Rattle.spares.specs.declared.Replaced.{Replaced}
 use Rattle.spares.specs.declared.Replaced.the-variants.{Place, Refused as NotReplaced}
 use Rattle.spares.specs.declared.Counted.{Counted}
 use Rattle.spares.specs.declared.Counted.the-variants.{Counts, Refused as NotCounted}
-use Rattle.spares.specs.Spares.{shiftOf, blockFault, blockOnFault, blockAtFault, replaceFault}
+use Rattle.spares.specs.Spares.{shiftOf, blockOnFault, blockAtFault, replaceFault}
+use Rattle.table.specs.Rules.{blockFault}
 
 -- refusal, shift
 abbrev pub saidShifted : Shifted → ℕ × ℤ

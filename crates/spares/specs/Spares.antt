@@ -5,7 +5,7 @@ use lib.Dec.{leb}
 use lib.IntN.{ℤ, pos, _-ℤ_}
 use lib.ListN.{length}
 use Rattle.paper.specs.Checks.{pick, refuse, _orElse_}
-use Rattle.paper.specs.Refusals.{noSuchBlock, noSuchSector, alreadyReplaced, noSpare}
+use Rattle.paper.specs.Refusals.{noSuchSector, alreadyReplaced, noSpare}
 use Rattle.paper.specs.Exactly.{When, _andThen_}
 use Rattle.paper.specs.Conditions.{NotBelow}
 use Rattle.shape.specs.declared.Shape.{Shape}
@@ -13,17 +13,13 @@ use Rattle.shape.specs.Shapes.{sizeOf}
 use Rattle.shape.specs.Addresses.{offDriveFault, OffDriveJudged}
 use Rattle.layout.specs.declared.Drive.{Drive}
 use Rattle.layout.specs.Layouts.{driveOf, homeCylinder, spareCylinder}
-use Rattle.table.specs.Rules.{tableFault, TableJudged}
+use Rattle.table.specs.Rules.{tableFault, blockFault, TableJudged, BlockJudged}
 use Rattle.table.specs.Lookup.{placeOf, Replaced, isReplaced}
 use Rattle.replacing.specs.Replacing.{spareFor, NoneFree}
 
 -- the cylinder of the spare less that of the home, and 0 for a block at home
 abbrev pub shiftOf : Drive → List ℕ → ℕ → ℤ
 shiftOf drive t b = pick (isReplaced t b) (pos (spareCylinder drive (placeOf t b)) -ℤ pos (homeCylinder drive b)) (pos 0)
-
--- checks 1, 11, 5
-abbrev pub blockFault : Shape → ℕ → List ℕ → ℕ → ℕ
-blockFault shape r t b = tableFault shape r t orElse refuse (leb (driveOf shape r .blocks) b) noSuchBlock
 
 -- checks 1, 11, 6 for a sector number
 abbrev pub blockOnFault : Shape → ℕ → List ℕ → ℕ → ℕ
@@ -39,10 +35,6 @@ replaceFault shape r t b =
     blockFault shape r t b
     orElse refuse (isReplaced t b) alreadyReplaced
     orElse refuse (leb (length t) (spareFor (driveOf shape r) t b)) noSpare
-
--- exactly when `spares::sector_of`, `address_of` and `shift` give each number
-abbrev pub BlockJudged : Shape → ℕ → List ℕ → ℕ → ℕ → Type 0
-BlockJudged shape r t b = TableJudged shape r t andThen When noSuchBlock (NotBelow (driveOf shape r .blocks) b)
 
 -- exactly when `spares::block_on` gives each number
 abbrev pub BlockOnJudged : Shape → ℕ → List ℕ → ℕ → ℕ → Type 0

@@ -5,13 +5,12 @@ ghost use lib.IntN.{pos, _-ℤ_};
 ghost use Rattle.paper.specs.Limits.{unitsMost};
 ghost use Rattle.layout.specs.Layouts.{Laid};
 ghost use Rattle.table.specs.Rules.{Obeys};
-ghost use Rattle.spares.specs.Spares.{shiftOf, blockFault};
-ghost use Rattle.first.specs.Promises.{FirstTable};
+ghost use Rattle.spares.specs.Spares.{shiftOf};
+ghost use Rattle.first_table.specs.Promises.{FirstTable};
 ghost use Rattle.spares.specs.Promises.{SectorOf, AddressOf, ShiftOf, BlockOn, BlockAt, Replacement, CensusOf};
 use layout::Drive;
 use paper::ALREADY_REPLACED;
 use paper::NO_SPARE;
-use paper::NO_SUCH_BLOCK;
 use paper::NO_SUCH_SECTOR;
 use paper::Named;
 use paper::Placed;
@@ -33,29 +32,15 @@ pub enum Replaced {
 
 // How many places of the table have each code.
 pub enum Counted {
-    Counts(replacing::Census),
+    Counts(table::Census),
     Refused(u32),
-}
-
-// Refusal 1 for the drive's numbers, 11 for its table, 5 for a block number that is too high, else 0. Only other crates call this.
-pub fn block_fault(shape: Shape, r: u32, table: &[u32], block: u32) -> u32
-    ensures { λ result. ⌜ result ≡ blockFault shape r (now (table .entry)) block ⌝ }
-{
-    let fault = table::table_fault(shape, r, table);
-    if fault != 0 {
-        return fault;
-    }
-    if layout::drive_of(shape, r).blocks <= block {
-        return NO_SUCH_BLOCK;
-    }
-    0
 }
 
 // Block to sector number. Checks 1, 11, 5.
 pub fn sector_of(shape: Shape, r: u32, table: &[u32], block: u32) -> Placed
     ensures { λ result. ⌜ SectorOf shape r (now (table .entry)) block result ⌝ }
 {
-    let fault = block_fault(shape, r, table, block);
+    let fault = table::block_fault(shape, r, table, block);
     if fault != 0 {
         return Placed::Refused(fault);
     }
@@ -66,7 +51,7 @@ pub fn sector_of(shape: Shape, r: u32, table: &[u32], block: u32) -> Placed
 pub fn address_of(shape: Shape, r: u32, table: &[u32], block: u32) -> Located
     ensures { λ result. ⌜ AddressOf shape r (now (table .entry)) block result ⌝ }
 {
-    let fault = block_fault(shape, r, table, block);
+    let fault = table::block_fault(shape, r, table, block);
     if fault != 0 {
         return Located::Refused(fault);
     }
@@ -104,7 +89,7 @@ pub fn shift_of(drive: Drive, table: &[u32], block: u32) -> i32
 pub fn shift(shape: Shape, r: u32, table: &[u32], block: u32) -> Shifted
     ensures { λ result. ⌜ ShiftOf shape r (now (table .entry)) block result ⌝ }
 {
-    let fault = block_fault(shape, r, table, block);
+    let fault = table::block_fault(shape, r, table, block);
     if fault != 0 {
         return Shifted::Refused(fault);
     }
@@ -145,7 +130,7 @@ pub fn block_at(shape: Shape, r: u32, table: &[u32], cylinder: u32, head: u32, s
 pub fn replace(shape: Shape, r: u32, table: &mut [u32], block: u32) -> Replaced
     ensures { λ result. ⌜ Replacement shape r (now (table .entry)) block result (now (table .exit)) ⌝ }
 {
-    let fault = block_fault(shape, r, table, block);
+    let fault = table::block_fault(shape, r, table, block);
     if fault != 0 {
         return Replaced::Refused(fault);
     }
@@ -169,12 +154,12 @@ pub fn census(shape: Shape, r: u32, table: &[u32]) -> Counted
     if fault != 0 {
         return Counted::Refused(fault);
     }
-    Counted::Counts(replacing::census_of(table))
+    Counted::Counts(table::census_of(table))
 }
 
 // The first table of a list of bad sectors, into the first places of the room: its length. Checks 1, list, 7, 13.
 pub fn first_table(shape: Shape, r: u32, list: &[u32], room: &mut [u32]) -> Written
     ensures { λ result. ⌜ FirstTable shape r (now (list .entry)) (now (room .entry)) result (now (room .exit)) ⌝ }
 {
-    first::build_first(shape, r, list, room)
+    first_table::build_first(shape, r, list, room)
 }

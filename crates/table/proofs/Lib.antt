@@ -3,3 +3,4 @@ pub mod Once
 pub mod Obeying
 pub mod Exact
 pub mod Lookups
+pub mod Censuses

@@ -1,5 +1,5 @@
 -- Document 01, "Descriptors and spares": the place that names a block, where a block lies, and what lies on a sector.
-use Prim.Native.Nat.{ℕ, _+_, _-_, _*_, _/_, _%_, _<_}
+use Prim.Native.Nat.{ℕ, _<_}
 use mathlib.Core.Path.{_≡_}
 use mathlib.Core.Bool.{Bool}
 use mathlib.Core.List.{List}
@@ -10,7 +10,8 @@ use Rattle.paper.specs.declared.Named.{Named}
 use Rattle.paper.specs.declared.Named.the-variants.{Block, NoBlock}
 use Rattle.seek.specs.First.{firstBelow}
 use Rattle.layout.specs.declared.Drive.{Drive}
-use Rattle.layout.specs.Layouts.{sectorsPerTrack, homeSector, spareSector}
+use Rattle.layout.specs.Layouts.{homeSector, spareSector}
+use Rattle.layout.specs.Sides.{isHome, blockOfHome, placeOfSpare}
 use Rattle.layout.specs.Descriptors.{numberOf, Allocated, isAllocated, Names, names}
 
 -- the place whose descriptor names the block, or the table's length where none does
@@ -48,7 +49,4 @@ blockOnSpare t q = pick (isAllocated (getD t q 0)) (Block (numberOf (getD t q 0)
 
 -- the block that lies on a sector: a track has its homes first and then its spares
 abbrev pub lyingOn : Drive → List ℕ → ℕ → Named
-lyingOn drive t s =
-    pick (ltb (s % sectorsPerTrack drive) (drive .l))
-    (blockAtHome t (s / sectorsPerTrack drive * drive .l + s % sectorsPerTrack drive))
-    (blockOnSpare t (s / sectorsPerTrack drive * drive .r + (s % sectorsPerTrack drive - drive .l)))
+lyingOn drive t s = pick (isHome drive s) (blockAtHome t (blockOfHome drive s)) (blockOnSpare t (placeOfSpare drive s))

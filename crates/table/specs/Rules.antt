@@ -6,9 +6,10 @@ use mathlib.Core.List.{List}
 use lib.Dec.{eqb, ltb, leb}
 use lib.ListN.{length, getD}
 use Rattle.paper.specs.Checks.{pick, refuse, _orElse_}
-use Rattle.paper.specs.Refusals.{badTable}
+use Rattle.paper.specs.Refusals.{badTable, noSuchBlock}
 use Rattle.paper.specs.Limits.{tableBlock}
 use Rattle.paper.specs.Exactly.{When, _andThen_}
+use Rattle.paper.specs.Conditions.{NotBelow}
 use Rattle.seek.specs.Every.{allBelow}
 use Rattle.shape.specs.declared.Shape.{Shape}
 use Rattle.layout.specs.declared.Drive.{Drive}
@@ -84,3 +85,11 @@ tableFault shape r t = driveFault shape r orElse refuse (not (obeys (driveOf sha
 -- exactly when 1 and 11 are given for a table
 abbrev pub TableJudged : Shape → ℕ → List ℕ → ℕ → Type 0
 TableJudged shape r t = DriveJudged shape r andThen When badTable (Breaks (driveOf shape r) t)
+
+-- checks 1, 11, 5
+abbrev pub blockFault : Shape → ℕ → List ℕ → ℕ → ℕ
+blockFault shape r t b = tableFault shape r t orElse refuse (leb (driveOf shape r .blocks) b) noSuchBlock
+
+-- exactly when 1, 11 and 5 are given for a table and a block: each number of `spares::sector_of`, `address_of` and `shift`
+abbrev pub BlockJudged : Shape → ℕ → List ℕ → ℕ → ℕ → Type 0
+BlockJudged shape r t b = TableJudged shape r t andThen When noSuchBlock (NotBelow (driveOf shape r .blocks) b)

@@ -1,9 +1,10 @@
 // The descriptor table of a revectored drive: the table's rules and their check, the place that names a block, where a block lies and what lies on a sector.
 ghost use mathlib.Core.Path.{_≡_};
-ghost use Prim.Native.Nat.{_<_, _*_};
+ghost use Prim.Native.Nat.{_<_, _*_, _^_};
 ghost use lib.ListN.{length};
 ghost use Rattle.layout.specs.Layouts.{Laid, sectorsPerTrack};
-ghost use Rattle.table.specs.Rules.{tableLength, codeAt, mayStand, namedFirst, obeys, Obeys, tableFault};
+ghost use Rattle.table.specs.Rules.{tableLength, codeAt, mayStand, namedFirst, obeys, Obeys, tableFault, blockFault};
+ghost use Rattle.table.specs.Counting.{Countable, counted, censusOf};
 ghost use Rattle.table.specs.Lookup.{placeOf, liesOn, lyingOn};
 use layout::AT_PRIMARY;
 use layout::CODE_UNIT;
@@ -13,9 +14,19 @@ use layout::FREE;
 use layout::NULL;
 use layout::UNUSABLE;
 use paper::BAD_TABLE;
+use paper::NO_SUCH_BLOCK;
 use paper::Named;
 use paper::TABLE_BLOCK;
 use shape::Shape;
+
+// How many places of a table have each code.
+pub struct Census {
+    pub free: u32,
+    pub primary: u32,
+    pub elsewhere: u32,
+    pub unusable: u32,
+    pub null: u32,
+}
 
 // How many descriptors the table has. Only other crates call this.
 pub fn table_length(drive: Drive) -> usize
@@ -113,6 +124,20 @@ pub fn table_fault(shape: Shape, r: u32, table: &[u32]) -> u32
     0
 }
 
+// Refusal 1 for the drive's numbers, 11 for its table, 5 for a block number that is too high, else 0. Only other crates call this.
+pub fn block_fault(shape: Shape, r: u32, table: &[u32], block: u32) -> u32
+    ensures { λ result. ⌜ result ≡ blockFault shape r (now (table .entry)) block ⌝ }
+{
+    let fault = table_fault(shape, r, table);
+    if fault != 0 {
+        return fault;
+    }
+    if layout::drive_of(shape, r).blocks <= block {
+        return NO_SUCH_BLOCK;
+    }
+    0
+}
+
 // The place that names a block, or the table's length where none does. Only other crates call this.
 pub fn place_of(table: &[u32], block: u32) -> usize
     ensures { λ result. ⌜ result ≡ placeOf (now (table .entry)) block ⌝ }
@@ -148,19 +173,50 @@ pub fn lying_on(drive: Drive, table: &[u32], sector: u32) -> Named
     requires { ⌜ sector < drive .tracks * sectorsPerTrack drive ⌝ }
     ensures { λ result. ⌜ result ≡ lyingOn drive (now (table .entry)) sector ⌝ }
 {
-    let sectors = drive.l + drive.r;
-    let track = sector / sectors;
-    let offset = sector % sectors;
-    if offset < drive.l {
-        let block = track * drive.l + offset;
+    if layout::is_home(drive, sector) {
+        let block = layout::block_of_home(drive, sector);
         if place_of(table, block) < table.len() {
             return Named::NoBlock;
         }
         return Named::Block(block);
     }
-    let word = table[(track * drive.r + (offset - drive.l)) as usize];
+    let word = table[layout::place_of_spare(drive, sector) as usize];
     if layout::is_allocated(word) {
         return Named::Block(layout::number_of(word));
     }
     Named::NoBlock
+}
+
+// The census with one more descriptor that has this code.
+fn count_code(census: Census, code: u32) -> Census
+    requires { ⌜ Countable census ⌝ }
+    ensures { λ result. ⌜ result ≡ counted census code ⌝ }
+{
+    Census {
+        free: census.free + paper::one_if(code == FREE),
+        primary: census.primary + paper::one_if(code == AT_PRIMARY),
+        elsewhere: census.elsewhere + paper::one_if(code == ELSEWHERE),
+        unusable: census.unusable + paper::one_if(code == UNUSABLE),
+        null: census.null + paper::one_if(code == NULL),
+    }
+}
+
+// How often each code stands in a table. Only other crates call this.
+pub fn census_of(table: &[u32]) -> Census
+    requires { ⌜ length (now table) < 2 ^ 32 ⌝ }
+    ensures { λ result. ⌜ result ≡ censusOf (now (table .entry)) ⌝ }
+{
+    let mut census = Census {
+        free: 0,
+        primary: 0,
+        elsewhere: 0,
+        unusable: 0,
+        null: 0,
+    };
+    let mut place = 0;
+    while place < table.len() {
+        census = count_code(census, layout::code_of(table[place]));
+        place += 1;
+    }
+    census
 }

@@ -9,7 +9,8 @@ use Rattle.shape.proofs.Exact.{place-shows}
 use Rattle.shape.proofs.Bounds.{sector-below}
 use Rattle.layout.specs.Layouts.{driveOf}
 use Rattle.shape.specs.Addresses.{sectorAt}
-use Rattle.spares.proofs.Exact.{table-ready, sector-within}
+use Rattle.spares.proofs.Exact.{sector-within}
+use Rattle.table.proofs.Exact.{table-ready}
 use Rattle.spares.proofs.block_at.Statement.{statement}
 use Rattle.spares.proofs.block_at.Tie as tie
 

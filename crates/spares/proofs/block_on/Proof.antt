@@ -10,7 +10,8 @@ use denote.Ref.{now}
 use Rattle.paper.proofs.Chain.{orElse-some, answer-refused}
 use Rattle.paper.proofs.Kept.{gives}
 use Rattle.layout.specs.Layouts.{driveOf}
-use Rattle.spares.proofs.Exact.{table-ready, sector-within}
+use Rattle.spares.proofs.Exact.{sector-within}
+use Rattle.table.proofs.Exact.{table-ready}
 use Rattle.spares.proofs.block_on.Statement.{statement}
 use Rattle.spares.proofs.block_on.Tie as tie
 

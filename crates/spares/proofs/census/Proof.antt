@@ -7,7 +7,7 @@ use denote.Ref.{now}
 use Rattle.paper.proofs.Chain.{answer-refused}
 use Rattle.paper.proofs.Kept.{gives}
 use Rattle.table.proofs.Obeying.{table-few}
-use Rattle.spares.proofs.Exact.{table-ready}
+use Rattle.table.proofs.Exact.{table-ready}
 use Rattle.spares.proofs.census.Statement.{statement}
 use Rattle.spares.proofs.census.Tie as tie
 

@@ -13,7 +13,7 @@ use Rattle.layout.specs.Layouts.{driveOf}
 use Rattle.replacing.specs.Replacing.{spareFor, descriptorAt, replacedIn}
 use Rattle.spares.specs.declared.Replaced.the-variants.{Place}
 use Rattle.spares.proofs.Accepted.{replace-twice, replace-fails, replace-passes}
-use Rattle.spares.proofs.Exact.{block-ready, block-below}
+use Rattle.table.proofs.Exact.{block-ready, block-below}
 use Rattle.spares.proofs.replace.Statement.{statement}
 use Rattle.spares.proofs.replace.Tie as tie
 

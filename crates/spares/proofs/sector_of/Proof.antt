@@ -5,7 +5,7 @@ use mathlib.Core.Path.{sym, _∙_, refl}
 use denote.Ref.{now}
 use Rattle.paper.proofs.Chain.{answer-refused}
 use Rattle.paper.proofs.Kept.{gives}
-use Rattle.spares.proofs.Exact.{block-ready, block-below}
+use Rattle.table.proofs.Exact.{block-ready, block-below}
 use Rattle.spares.proofs.sector_of.Statement.{statement}
 use Rattle.spares.proofs.sector_of.Tie as tie
 

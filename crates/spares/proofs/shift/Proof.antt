@@ -9,7 +9,7 @@ use Rattle.spares.specs.Spares.{shiftOf}
 use denote.Ref.{now}
 use Rattle.paper.proofs.Chain.{answer-refused}
 use Rattle.paper.proofs.Kept.{gives}
-use Rattle.spares.proofs.Exact.{block-ready, block-below}
+use Rattle.table.proofs.Exact.{block-ready, block-below}
 use Rattle.spares.proofs.shift.Statement.{statement}
 use Rattle.spares.proofs.shift.Tie as tie
 

@@ -1,0 +1,10 @@
+pub mod Passings
+pub mod Entries
+pub mod Numbering
+pub mod Bads
+pub mod Marked
+pub mod Replacings
+pub mod Tables
+pub mod Along
+pub mod Exact
+pub mod Says

@@ -1,0 +1,3 @@
+pub mod Marks
+pub mod First
+pub mod Promises
