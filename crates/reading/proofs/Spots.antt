@@ -38,14 +38,14 @@ module _ {size : ℕ} {shape : Shape} {r : ℕ} {t : List ℕ} {b : ℕ} {home s
   pub lies-inside : startOf size (driveOf shape r) t b + (size + imageExtra) ≤ bytesIn size (shape .sectors)
   lies-inside =
       image-inside size (sectorIn (driveOf shape r) t b) (shape .sectors)
-      (rw (track-whole (lent .drives)) at (sector-below (driveOf shape r) t b (lent .laid)))
+      (rw (track-whole (lent .ready .drives)) at (sector-below (driveOf shape r) t b (lent .ready .laid)))
 
   pub track-long : length (trackOf t b home spare) ≡ bytesIn size (shape .sectors)
   track-long = track-length t b home spare (bytesIn size (shape .sectors)) (lent .home-long) (lent .spare-long)
 
   -- where it ends fits 32 bits
   pub end-fits : sectorsMost * (size + imageExtra) < 2 ^ 32 → startOf size (driveOf shape r) t b + (size + imageExtra) < 2 ^ 32
-  end-fits fits = omega (arith, lies-inside, mul-le-mul-right (size + imageExtra) (lent .shaped .sectors .1))
+  end-fits fits = omega (arith, lies-inside, mul-le-mul-right (size + imageExtra) (lent .ready .shaped .sectors .1))
 
 module _ (size : ℕ) (shape : Shape) (r : ℕ) (t : List ℕ) (b : ℕ) where
   module _ {drive : Drive} {seat : Seat} (is-drive : drive ≡ driveOf shape r) (found : seat ≡ seatOf drive t b) where

@@ -19,7 +19,6 @@ use layout::Drive;
 use paper::DATA_SIZE;
 use paper::HEADER_SIZE;
 use paper::IMAGE_EXTRA;
-use paper::NO_SUCH_BLOCK;
 use paper::WRONG_LENGTH;
 use shape::Shape;
 
@@ -85,12 +84,9 @@ fn lent_fault(
     requires { ⌜ sectorsMost * (size + imageExtra) < 2 ^ 32 ⌝ }
     ensures { λ result. ⌜ result ≡ lentFault size shape r (now (table .entry)) block (now (home .entry)) (now (spare .entry)) ⌝ }
 {
-    let fault = table::table_fault(shape, r, table);
+    let fault = table::block_fault(shape, r, table, block);
     if fault != 0 {
         return fault;
-    }
-    if layout::drive_of(shape, r).blocks <= block {
-        return NO_SUCH_BLOCK;
     }
     let long = shape.sectors as usize * (size + IMAGE_EXTRA);
     if home.len() != long {
