@@ -26,16 +26,23 @@ module _ (Refused Accepted : RefT (List ℕ) → Type 0) (part : RefT (List ℕ)
   refuses-part zero some lent = absurd (some refl)
   refuses-part (suc fault) some lent = lent
 
-  pub accepts-part : (fault : ℕ) → fault ≡ 0 → Accepted part → answer fault (λ number. Refused) Accepted part
-  accepts-part fault none lent = rw none lent
+-- the part of lent bytes at a place
+abbrev pub partAt : RefT (List ℕ) → ℕ → List ℕ → RefT (List ℕ)
+partAt bytes at held = record { ptr = (bytes .ptr .0, at + bytes .ptr .1); name = bytes .name; now = held }
 
--- two parts that it lends hold the same and lie at the same place
 pub lends-one :
     (bytes : RefT (List ℕ)) (at : ℕ) (held : List ℕ) (first second : RefT (List ℕ)) →
     Lends bytes at held first → Lends bytes at held second → (first .now ≡ second .now) × (first .ptr ≡ second .ptr)
 lends-one bytes at held first second one other = (one .holds ∙ sym (other .holds), one .lies ∙ sym (other .lies))
 
 module _ (bytes : RefT (List ℕ)) (at : ℕ) (held : List ℕ) (bytes′ : RefT (List ℕ)) (at′ : ℕ) (held′ : List ℕ) where
+  -- a chain lends some part
+  pub part-some :
+      (fault : ℕ) → answer fault (λ number. Lends bytes at held) (Lends bytes′ at′ held′) (answer fault (λ number. partAt bytes at held) (partAt bytes′ at′ held′))
+  part-some zero = record { holds = refl; lies = refl }
+  part-some (suc fault) = record { holds = refl; lies = refl }
+
+  -- two parts that it lends hold the same and lie at the same place
   pub part-one :
       (fault : ℕ) (first second : RefT (List ℕ)) →
       answer fault (λ number. Lends bytes at held) (Lends bytes′ at′ held′) first → answer fault (λ number. Lends bytes at held) (Lends bytes′ at′ held′) second →
@@ -56,10 +63,6 @@ module _ (size : ℕ) (image : RefT (List ℕ)) (number : ℕ) where
   pub lends-empty : (part : RefT (List ℕ)) → (imageFault size (image .now) number ≡ 0 → ⊥) → Lends image 0 [] part → DataSized size image number part
   lends-empty part = refuses-part Empty Whole part fault
 
-  pub lends-data :
-      (part : RefT (List ℕ)) → imageFault size (image .now) number ≡ 0 → Lends image headerSize (dataOf size (image .now)) part → DataSized size image number part
-  lends-data part = accepts-part Empty Whole part fault
-
   module _ (part : RefT (List ℕ)) (lent : DataSized size image number part) where
     pub refused-empty : (imageFault size (image .now) number ≡ 0 → ⊥) → part .now ≡ []
     refused-empty some = part-refused Empty Whole part fault some lent .holds
@@ -75,6 +78,7 @@ module _ (size : ℕ) (image : RefT (List ℕ)) (number : ℕ) where
         let long : length (dataOf size (image .now)) ≡ size = length-data size (image .now) (image-length (image .now) size number none) in
         omega (arith, ap length (sym (accepted-data none) ∙ empty))
 
+  -- two parts that the promise allows hold the same and lie at the same place
   pub data-one :
       (first second : RefT (List ℕ)) →
       DataSized size image number first → DataSized size image number second → (first .now ≡ second .now) × (first .ptr ≡ second .ptr)

@@ -14,7 +14,7 @@ use Rattle.table.specs.Lookup.{isReplaced}
 use Rattle.image.specs.Image.{dataOf}
 use Rattle.image.specs.Promises.{Lends}
 use Rattle.image.proofs.Images.{length-data}
-use Rattle.image.proofs.Lent.{part-refused, part-accepted, refuses-part, accepts-part, part-one}
+use Rattle.image.proofs.Lent.{part-refused, part-accepted, refuses-part, part-one}
 use Rattle.reading.specs.declared.answers.Spot.the-variants.{InHome, InSpare, Refused as NotSpotted}
 use Rattle.reading.specs.Tracks.{trackOf, startOf, dataStart, imageFor}
 use Rattle.reading.specs.Faults.{blockReadFault}
@@ -49,7 +49,7 @@ module _ (size : ℕ) (shape : Shape) (r : ℕ) (t : List ℕ) (b : ℕ) where
     lends-home {offset} part same lent =
         let told = home-told size shape r t b (home .now) (spare .now) same in
         let long : offset + size - offset ≡ size = omega arith in
-        accepts-part Empty Whole part fault (told .0)
+        rw (told .0)
         (record {
           holds = lent .holds ∙ rw (long, told .1 .0, told .1 .1) (sym (data-inside size (startOf size (driveOf shape r) t b) (home .now)));
           lies = lent .lies ∙ rw (told .1 .0, told .1 .1);
@@ -61,7 +61,7 @@ module _ (size : ℕ) (shape : Shape) (r : ℕ) (t : List ℕ) (b : ℕ) where
     lends-spare {offset} part same lent =
         let told = spare-told size shape r t b (home .now) (spare .now) same in
         let long : offset + size - offset ≡ size = omega arith in
-        accepts-part Empty Whole part fault (told .0)
+        rw (told .0)
         (record {
           holds = lent .holds ∙ rw (long, told .1 .0, told .1 .1) (sym (data-inside size (startOf size (driveOf shape r) t b) (spare .now)));
           lies = lent .lies ∙ rw (told .1 .0, told .1 .1);

@@ -6,7 +6,7 @@ use native.Mathlib.Omega.{arith}
 use Rattle.image.specs.Image.{imageFault}
 use Rattle.image.proofs.Exact.{image-length}
 use Rattle.image.proofs.Images.{data-part}
-use Rattle.image.proofs.Lent.{lends-empty, lends-data}
+use Rattle.image.proofs.Lent.{lends-empty}
 use Rattle.image.proofs.data_sized.Statement.{statement}
 use Rattle.image.proofs.data_sized.Tie as tie
 
@@ -45,7 +45,7 @@ returns-2 : tie.Need-returns-2
 returns-2 c =
     let a = c .before .before .before .before .args in
     let none : imageFault (a .size) (a .image .now) (a .number) ≡ 0 = sym (c .before .before .image-fault .ensures) ∙ c .before .if1 .left in
-    lends-data (a .size) (a .image) (a .number) _ none (record { holds = data-part (a .size) (a .image .now); lies = refl })
+    rw none (record { holds = data-part (a .size) (a .image .now); lies = refl })
 
 pub data-sized-spec : {M : Type 1} → statement M
 data-sized-spec =
