@@ -1,163 +1,181 @@
--- The contracts of the C face leave no choice: two results that one allows for equal inputs are equal, and so is what two rooms hold. One law for all calls, and each call by it.
+-- The contracts of the C face leave no choice: two results that one allows for equal inputs are equal, and so is what is lent.
 -- Assumes nothing.
 use Prim.Native.Nat.{ℕ}
 use mathlib.Core.Path.{_≡_, sym, ap, _∙_}
 use mathlib.Core.Bool.{Bool}
 use mathlib.Core.List.{List}
 use lib.IntN.{ℤ}
+use Rattle.paper.specs.Answers.{saidWritten}
+use Rattle.paper.proofs.Kept.{fills-one}
 use Rattle.shape.specs.declared.Shape.{Shape}
-use Rattle.shape.specs.declared.Address.{Address}
+use Rattle.shape.specs.Promises.{SectorOf as ShapeSectorOf, AddressOf as ShapeAddressOf}
 use Rattle.skip.specs.declared.Cursor.{Cursor}
-use Rattle.board.specs.declared.answers.TbPlaced.{TbPlaced}
-use Rattle.board.specs.declared.answers.TbNamed.{TbNamed}
-use Rattle.board.specs.declared.answers.TbWritten.{TbWritten}
-use Rattle.board.specs.declared.answers.TbLocated.{TbLocated}
-use Rattle.board.specs.declared.answers.TbJob.{TbJob}
-use Rattle.board.specs.declared.answers.TbPaged.{TbPaged}
-use Rattle.board.specs.declared.answers.TbFormatted.{TbFormatted}
-use Rattle.board.specs.declared.answers.TbShifted.{TbShifted}
-use Rattle.board.specs.declared.answers.TbReplaced.{TbReplaced}
+use Rattle.skip.specs.Promises.{SectorOf as SkipSectorOf, BlockOn as SkipBlockOn, Starts, Checks, Steps}
+use Rattle.skipped.specs.Promises.{AddressOf as SkippedAddressOf, BlockAt as SkippedBlockAt}
+use Rattle.page.specs.Promises.{saidPaged, Reads, Writes}
+use Rattle.format.specs.Promises.{saidFormatted, Formats}
+use Rattle.first_table.specs.Promises.{FirstTable}
+use Rattle.spares.specs.Promises.{SectorOf as SpareSectorOf, AddressOf as SpareAddressOf, ShiftOf, BlockOn as SpareBlockOn, BlockAt as SpareBlockAtOf, Replacement, CensusOf, saidReplaced}
+use Rattle.image.specs.Promises.{Write, Header, Judge as ImageVerdict}
+use Rattle.reading.specs.Promises.{Judge as ReadVerdict, Spots}
+use Rattle.demands.proofs.Determined.{image-header, image-judge, reading-judge, reading-spot, shape-address-of, shape-sector-of, skip-block-on, skip-cursor-check, skip-cursor-start, skip-cursor-step, skip-sector-of, skipped-address-of, skipped-block-at, spares-address-of, spares-block-at, spares-block-on, spares-census, spares-sector-of, spares-shift}
 use Rattle.board.specs.declared.answers.TbCounted.{TbCounted}
+use Rattle.board.specs.declared.answers.TbFormatted.{TbFormatted}
 use Rattle.board.specs.declared.answers.TbHeaded.{TbHeaded}
-use Rattle.board.specs.declared.answers.TbSpotted.{TbSpotted}
+use Rattle.board.specs.declared.answers.TbJob.{TbJob}
 use Rattle.board.specs.declared.answers.TbJudged.{TbJudged}
-use Rattle.board.specs.Promises.{Leaves, SkipSector, SkipBlock, JobStart, JobCheck, JobStep, ShapeSector, ShapeAddress, SkippedAddress, SkippedBlock, SpareFirst, SpareSector, SpareAddress, SpareShift, SpareBlock, SpareBlockAt, SpareReplace, SpareCensus, ReadData, PageRead, PageWrite, Format, ImageWrite, ImageHeader, ImageJudge, ReadJudge}
+use Rattle.board.specs.declared.answers.TbLocated.{TbLocated}
+use Rattle.board.specs.declared.answers.TbNamed.{TbNamed}
+use Rattle.board.specs.declared.answers.TbPaged.{TbPaged}
+use Rattle.board.specs.declared.answers.TbPlaced.{TbPlaced}
+use Rattle.board.specs.declared.answers.TbReplaced.{TbReplaced}
+use Rattle.board.specs.declared.answers.TbShifted.{TbShifted}
+use Rattle.board.specs.declared.answers.TbSpotted.{TbSpotted}
+use Rattle.board.specs.declared.answers.TbWritten.{TbWritten}
+use Rattle.board.specs.Promises.{countedFields, formattedFields, headedFields, jobFields, judgedFields, locatedFields, namedFields, pagedFields, placedFields, replacedFields, shiftedFields, spottedFields, writtenFields, TellsCounted, TellsFormatted, TellsHeaded, TellsJob, TellsJudged, TellsLocated, TellsNamed, TellsPaged, TellsPlaced, TellsReplaced, TellsShifted, TellsSpotted, TellsWritten}
+use Rattle.board.proofs.Carried.{told-one}
 
-pub leaves-alike :
-    {Rest : Type 0} {fault : ℕ} {refused accepted : Rest} {refusal number : ℕ} {rest other : Rest} →
-    Leaves fault refused accepted refusal rest → Leaves fault refused accepted number other → _≡_ {A = ℕ × Rest} (refusal, rest) (number, other)
-leaves-alike a b = rw (a .refuses, a .leaves, b .refuses, b .leaves)
+-- each result as it is made of its fields
+abbrev countedOf : ℕ × ℕ × ℕ × ℕ × ℕ × ℕ → TbCounted
+countedOf n = record { refusal = n .0; free = n .1; primary = n .2; elsewhere = n .3; unusable = n .4; null = n .5 }
 
--- each result as it is made of its numbers
-abbrev placedOf : ℕ × ℕ → TbPlaced
-placedOf n = record { refusal = n .0; sector = n .1 }
-
-abbrev namedOf : ℕ × (ℕ × ℕ) → TbNamed
-namedOf n = record { refusal = n .0; found = n .1 .0; block = n .1 .1 }
-
-abbrev writtenOf : ℕ × ℕ → TbWritten
-writtenOf n = record { refusal = n .0; length = n .1 }
-
-abbrev locatedOf : ℕ × Address → TbLocated
-locatedOf n = record { refusal = n .0; address = n .1 }
-
-abbrev jobOf : ℕ × (ℕ × Cursor) → TbJob
-jobOf n = record { refusal = n .0; sector = n .1 .0; next = n .1 .1 }
-
-abbrev pagedOf : ℕ × (ℕ × ℕ × ℕ) → TbPaged
-pagedOf n = record { refusal = n .0; kind = n .1 .0; n = n .1 .1; entries = n .1 .2 }
-
-abbrev formattedOf : ℕ × (ℕ × ℕ × ℕ) → TbFormatted
-formattedOf n = record { refusal = n .0; grown = n .1 .0; list = n .1 .1; space = n .1 .2 }
-
-abbrev shiftedOf : ℕ × ℤ → TbShifted
-shiftedOf n = record { refusal = n .0; shift = n .1 }
-
-abbrev replacedOf : ℕ × ℕ → TbReplaced
-replacedOf n = record { refusal = n .0; place = n .1 }
-
-abbrev countedOf : ℕ × (ℕ × ℕ × ℕ × ℕ × ℕ) → TbCounted
-countedOf n = record { refusal = n .0; free = n .1 .0; primary = n .1 .1; elsewhere = n .1 .2; unusable = n .1 .3; null = n .1 .4 }
+abbrev formattedOf : ℕ × ℕ × ℕ × ℕ → TbFormatted
+formattedOf n = record { refusal = n .0; grown = n .1; list = n .2; space = n .3 }
 
 abbrev headedOf : ℕ × ℕ → TbHeaded
 headedOf n = record { refusal = n .0; block = n .1 }
 
-abbrev spottedOf : ℕ × (ℕ × ℕ) → TbSpotted
-spottedOf n = record { refusal = n .0; image = n .1 .0; offset = n .1 .1 }
+abbrev jobOf : ℕ × ℕ × ℕ × ℕ → TbJob
+jobOf n = record { refusal = n .0; sector = n .1; next = record { block = n .2; skipped = n .3 } }
 
 abbrev judgedOf : ℕ → TbJudged
-judgedOf refusal = record { refusal = refusal }
+judgedOf n = record { refusal = n }
 
-module _ (n : ℕ) (list : List ℕ) where
-  pub skip-sector-one : (block : ℕ) {first second : TbPlaced} → SkipSector n list block first → SkipSector n list block second → first ≡ second
-  skip-sector-one block a b = ap placedOf (leaves-alike a b)
+abbrev locatedOf : ℕ × ℕ × ℕ × ℕ → TbLocated
+locatedOf n = record { refusal = n .0; address = record { cylinder = n .1; head = n .2; sector = n .3 } }
 
-  pub skip-block-one : (sector : ℕ) {first second : TbNamed} → SkipBlock n list sector first → SkipBlock n list sector second → first ≡ second
-  skip-block-one sector a b = ap namedOf (leaves-alike a b)
+abbrev namedOf : ℕ × ℕ × ℕ → TbNamed
+namedOf n = record { refusal = n .0; found = n .1; block = n .2 }
 
-  pub job-start-one : (block : ℕ) {first second : TbJob} → JobStart n list block first → JobStart n list block second → first ≡ second
-  job-start-one block a b = ap jobOf (leaves-alike a b)
+abbrev pagedOf : ℕ × ℕ × ℕ × ℕ → TbPaged
+pagedOf n = record { refusal = n .0; kind = n .1; n = n .2; entries = n .3 }
 
-  pub job-check-one : (cursor : Cursor) {first second : TbJob} → JobCheck cursor n list first → JobCheck cursor n list second → first ≡ second
-  job-check-one cursor a b = ap jobOf (leaves-alike a b)
+abbrev placedOf : ℕ × ℕ → TbPlaced
+placedOf n = record { refusal = n .0; sector = n .1 }
 
-  pub job-step-one : (cursor : Cursor) {first second : TbJob} → JobStep cursor n list first → JobStep cursor n list second → first ≡ second
-  job-step-one cursor a b = ap jobOf (leaves-alike a b)
+abbrev replacedOf : ℕ × ℕ → TbReplaced
+replacedOf n = record { refusal = n .0; place = n .1 }
 
-module _ (shape : Shape) where
-  pub shape-sector-one : (cylinder head sector : ℕ) {first second : TbPlaced} → ShapeSector shape cylinder head sector first → ShapeSector shape cylinder head sector second → first ≡ second
-  shape-sector-one cylinder head sector a b = ap placedOf (leaves-alike a b)
+abbrev shiftedOf : ℕ × ℤ → TbShifted
+shiftedOf n = record { refusal = n .0; shift = n .1 }
 
-  pub shape-address-one : (sector : ℕ) {first second : TbLocated} → ShapeAddress shape sector first → ShapeAddress shape sector second → first ≡ second
-  shape-address-one sector a b = ap locatedOf (leaves-alike a b)
+abbrev spottedOf : ℕ × ℕ × ℕ → TbSpotted
+spottedOf n = record { refusal = n .0; image = n .1; offset = n .2 }
 
-  pub skipped-address-one : (list : List ℕ) (block : ℕ) {first second : TbLocated} → SkippedAddress shape list block first → SkippedAddress shape list block second → first ≡ second
-  skipped-address-one list block a b = ap locatedOf (leaves-alike a b)
+abbrev writtenOf : ℕ × ℕ → TbWritten
+writtenOf n = record { refusal = n .0; length = n .1 }
 
-  pub skipped-block-one : (list : List ℕ) (cylinder head sector : ℕ) {first second : TbNamed} → SkippedBlock shape list cylinder head sector first → SkippedBlock shape list cylinder head sector second → first ≡ second
-  skipped-block-one list cylinder head sector a b = ap namedOf (leaves-alike a b)
+pub skip-sector-one : (n : ℕ) (list : List ℕ) (block : ℕ) {first second : TbPlaced} → TellsPlaced (SkipSectorOf n list block) first → TellsPlaced (SkipSectorOf n list block) second → first ≡ second
+skip-sector-one n list block one other = ap placedOf (told-one (skip-sector-of n list block) one other)
 
-  pub spare-first-one :
-      (r : ℕ) (list room : List ℕ) {first second : TbWritten} {after other : List ℕ} → SpareFirst shape r list room first after → SpareFirst shape r list room second other →
-      (first ≡ second) × (after ≡ other)
-  spare-first-one r list room a b = (ap (λ n. writtenOf (n .0, n .1 .0)) (leaves-alike a b), ap (λ n. n .1 .1) (leaves-alike a b))
+pub skip-block-one : (n : ℕ) (list : List ℕ) (sector : ℕ) {first second : TbNamed} → TellsNamed (SkipBlockOn n list sector) first → TellsNamed (SkipBlockOn n list sector) second → first ≡ second
+skip-block-one n list sector one other = ap namedOf (told-one (skip-block-on n list sector) one other)
 
-  module _ (r : ℕ) (table : List ℕ) where
-    pub spare-sector-one : (block : ℕ) {first second : TbPlaced} → SpareSector shape r table block first → SpareSector shape r table block second → first ≡ second
-    spare-sector-one block a b = ap placedOf (leaves-alike a b)
+pub job-start-one : (n : ℕ) (list : List ℕ) (block : ℕ) {first second : TbJob} → TellsJob (Starts n list block) first → TellsJob (Starts n list block) second → first ≡ second
+job-start-one n list block one other = ap jobOf (told-one (skip-cursor-start n list block) one other)
 
-    pub spare-address-one : (block : ℕ) {first second : TbLocated} → SpareAddress shape r table block first → SpareAddress shape r table block second → first ≡ second
-    spare-address-one block a b = ap locatedOf (leaves-alike a b)
+pub job-check-one : (n : ℕ) (list : List ℕ) (cursor : Cursor) {first second : TbJob} → TellsJob (Checks n list cursor) first → TellsJob (Checks n list cursor) second → first ≡ second
+job-check-one n list cursor one other = ap jobOf (told-one (skip-cursor-check n list cursor) one other)
 
-    pub spare-shift-one : (block : ℕ) {first second : TbShifted} → SpareShift shape r table block first → SpareShift shape r table block second → first ≡ second
-    spare-shift-one block a b = ap shiftedOf (leaves-alike a b)
+pub job-step-one : (n : ℕ) (list : List ℕ) (cursor : Cursor) {first second : TbJob} → TellsJob (Steps n list cursor) first → TellsJob (Steps n list cursor) second → first ≡ second
+job-step-one n list cursor one other = ap jobOf (told-one (skip-cursor-step n list cursor) one other)
 
-    pub spare-block-one : (sector : ℕ) {first second : TbNamed} → SpareBlock shape r table sector first → SpareBlock shape r table sector second → first ≡ second
-    spare-block-one sector a b = ap namedOf (leaves-alike a b)
+pub shape-sector-one : (shape : Shape) (cylinder head sector : ℕ) {first second : TbPlaced} → TellsPlaced (ShapeSectorOf shape cylinder head sector) first → TellsPlaced (ShapeSectorOf shape cylinder head sector) second → first ≡ second
+shape-sector-one shape cylinder head sector one other = ap placedOf (told-one (shape-sector-of shape cylinder head sector) one other)
 
-    pub spare-block-at-one : (cylinder head sector : ℕ) {first second : TbNamed} → SpareBlockAt shape r table cylinder head sector first → SpareBlockAt shape r table cylinder head sector second → first ≡ second
-    spare-block-at-one cylinder head sector a b = ap namedOf (leaves-alike a b)
+pub shape-address-one : (shape : Shape) (sector : ℕ) {first second : TbLocated} → TellsLocated (ShapeAddressOf shape sector) first → TellsLocated (ShapeAddressOf shape sector) second → first ≡ second
+shape-address-one shape sector one other = ap locatedOf (told-one (shape-address-of shape sector) one other)
 
-    pub spare-replace-one :
-        (block : ℕ) {first second : TbReplaced} {after other : List ℕ} → SpareReplace shape r table block first after → SpareReplace shape r table block second other →
-        (first ≡ second) × (after ≡ other)
-    spare-replace-one block a b = (ap (λ n. replacedOf (n .0, n .1 .0)) (leaves-alike a b), ap (λ n. n .1 .1) (leaves-alike a b))
+pub skipped-address-one : (shape : Shape) (list : List ℕ) (block : ℕ) {first second : TbLocated} → TellsLocated (SkippedAddressOf shape list block) first → TellsLocated (SkippedAddressOf shape list block) second → first ≡ second
+skipped-address-one shape list block one other = ap locatedOf (told-one (skipped-address-of shape list block) one other)
 
-    pub spare-census-one : {first second : TbCounted} → SpareCensus shape r table first → SpareCensus shape r table second → first ≡ second
-    spare-census-one a b = ap countedOf (leaves-alike a b)
-
-    pub read-data-one : (block : ℕ) (home spare : List ℕ) {first second : TbSpotted} → ReadData shape r table block home spare first → ReadData shape r table block home spare second → first ≡ second
-    read-data-one block home spare a b = ap spottedOf (leaves-alike a b)
+pub skipped-block-one : (shape : Shape) (list : List ℕ) (cylinder head sector : ℕ) {first second : TbNamed} → TellsNamed (SkippedBlockAt shape list cylinder head sector) first → TellsNamed (SkippedBlockAt shape list cylinder head sector) second → first ≡ second
+skipped-block-one shape list cylinder head sector one other = ap namedOf (told-one (skipped-block-at shape list cylinder head sector) one other)
 
 pub page-read-one :
-    (page room : List ℕ) {first second : TbPaged} {after other : List ℕ} → PageRead page room first after → PageRead page room second other →
-    (first ≡ second) × (after ≡ other)
-page-read-one page room a b = (ap (λ n. pagedOf (n .0, n .1 .0)) (leaves-alike a b), ap (λ n. n .1 .1) (leaves-alike a b))
+    (page room : List ℕ) {after otherAfter : List ℕ} {first second : TbPaged} → TellsPaged (λ answer. Reads page room answer after) first → TellsPaged (λ answer. Reads page room answer otherAfter) second →
+    (first ≡ second) × (after ≡ otherAfter)
+page-read-one page room {first} {second} one other =
+    let same = fills-one (one .promised) (other .promised) in
+    let fields : pagedFields first ≡ pagedFields second = one .are-said ∙ (ap saidPaged (same .0) ∙ sym (other .are-said)) in
+    (ap pagedOf fields, same .1)
 
 pub page-write-one :
-    (n kind : ℕ) (list room : List ℕ) {first second : TbWritten} {after other : List ℕ} → PageWrite n kind list room first after → PageWrite n kind list room second other →
-    (first ≡ second) × (after ≡ other)
-page-write-one n kind list room a b = (ap (λ n. writtenOf (n .0, n .1 .0)) (leaves-alike a b), ap (λ n. n .1 .1) (leaves-alike a b))
+    (n kind : ℕ) (list room : List ℕ) {after otherAfter : List ℕ} {first second : TbWritten} → TellsWritten (λ answer. Writes n kind list room answer after) first → TellsWritten (λ answer. Writes n kind list room answer otherAfter) second →
+    (first ≡ second) × (after ≡ otherAfter)
+page-write-one n kind list room {first} {second} one other =
+    let same = fills-one (one .promised) (other .promised) in
+    let fields : writtenFields first ≡ writtenFields second = one .are-said ∙ (ap saidWritten (same .0) ∙ sym (other .are-said)) in
+    (ap writtenOf fields, same .1)
 
 pub format-one :
-    (n : ℕ) (p g : List ℕ) (space option : ℕ) (d grown list : List ℕ) {first second : TbFormatted} {grownAfter grownOther listAfter listOther : List ℕ} →
-    Format n p g space option d grown list first grownAfter listAfter → Format n p g space option d grown list second grownOther listOther →
-    (first ≡ second) × (grownAfter ≡ grownOther) × (listAfter ≡ listOther)
-format-one n p g space option d grown list a b =
-    (ap (λ n. formattedOf (n .0, n .1 .0 .0)) (leaves-alike a b), ap (λ n. n .1 .0 .1) (leaves-alike a b), ap (λ n. n .1 .1) (leaves-alike a b))
+    (n : ℕ) (p g : List ℕ) (space option : ℕ) (d grown list : List ℕ) {grownAfter listAfter grownOther listOther : List ℕ} {first second : TbFormatted} → TellsFormatted (λ answer. Formats n p g space option d grown list answer grownAfter listAfter) first → TellsFormatted (λ answer. Formats n p g space option d grown list answer grownOther listOther) second →
+    (first ≡ second) × (_≡_ {A = List ℕ × List ℕ} (grownAfter, listAfter) (grownOther, listOther))
+format-one n p g space option d grown list {first} {second} one other =
+    let same = fills-one (one .promised) (other .promised) in
+    let fields : formattedFields first ≡ formattedFields second = one .are-said ∙ (ap saidFormatted (same .0) ∙ sym (other .are-said)) in
+    (ap formattedOf fields, same .1)
+
+pub spare-sector-one : (shape : Shape) (r : ℕ) (table : List ℕ) (block : ℕ) {first second : TbPlaced} → TellsPlaced (SpareSectorOf shape r table block) first → TellsPlaced (SpareSectorOf shape r table block) second → first ≡ second
+spare-sector-one shape r table block one other = ap placedOf (told-one (spares-sector-of shape r table block) one other)
+
+pub spare-address-one : (shape : Shape) (r : ℕ) (table : List ℕ) (block : ℕ) {first second : TbLocated} → TellsLocated (SpareAddressOf shape r table block) first → TellsLocated (SpareAddressOf shape r table block) second → first ≡ second
+spare-address-one shape r table block one other = ap locatedOf (told-one (spares-address-of shape r table block) one other)
+
+pub spare-shift-one : (shape : Shape) (r : ℕ) (table : List ℕ) (block : ℕ) {first second : TbShifted} → TellsShifted (ShiftOf shape r table block) first → TellsShifted (ShiftOf shape r table block) second → first ≡ second
+spare-shift-one shape r table block one other = ap shiftedOf (told-one (spares-shift shape r table block) one other)
+
+pub spare-block-one : (shape : Shape) (r : ℕ) (table : List ℕ) (sector : ℕ) {first second : TbNamed} → TellsNamed (SpareBlockOn shape r table sector) first → TellsNamed (SpareBlockOn shape r table sector) second → first ≡ second
+spare-block-one shape r table sector one other = ap namedOf (told-one (spares-block-on shape r table sector) one other)
+
+pub spare-block-at-one : (shape : Shape) (r : ℕ) (table : List ℕ) (cylinder head sector : ℕ) {first second : TbNamed} → TellsNamed (SpareBlockAtOf shape r table cylinder head sector) first → TellsNamed (SpareBlockAtOf shape r table cylinder head sector) second → first ≡ second
+spare-block-at-one shape r table cylinder head sector one other = ap namedOf (told-one (spares-block-at shape r table cylinder head sector) one other)
+
+pub spare-replace-one :
+    (shape : Shape) (r : ℕ) (table : List ℕ) (block : ℕ) {after otherAfter : List ℕ} {first second : TbReplaced} → TellsReplaced (λ answer. Replacement shape r table block answer after) first → TellsReplaced (λ answer. Replacement shape r table block answer otherAfter) second →
+    (first ≡ second) × (after ≡ otherAfter)
+spare-replace-one shape r table block {first} {second} one other =
+    let same = fills-one (one .promised) (other .promised) in
+    let fields : replacedFields first ≡ replacedFields second = one .are-said ∙ (ap saidReplaced (same .0) ∙ sym (other .are-said)) in
+    (ap replacedOf fields, same .1)
+
+pub spare-census-one : (shape : Shape) (r : ℕ) (table : List ℕ) {first second : TbCounted} → TellsCounted (CensusOf shape r table) first → TellsCounted (CensusOf shape r table) second → first ≡ second
+spare-census-one shape r table one other = ap countedOf (told-one (spares-census shape r table) one other)
+
+pub spare-first-one :
+    (shape : Shape) (r : ℕ) (list room : List ℕ) {after otherAfter : List ℕ} {first second : TbWritten} → TellsWritten (λ answer. FirstTable shape r list room answer after) first → TellsWritten (λ answer. FirstTable shape r list room answer otherAfter) second →
+    (first ≡ second) × (after ≡ otherAfter)
+spare-first-one shape r list room {first} {second} one other =
+    let same = fills-one (one .promised) (other .promised) in
+    let fields : writtenFields first ≡ writtenFields second = one .are-said ∙ (ap saidWritten (same .0) ∙ sym (other .are-said)) in
+    (ap writtenOf fields, same .1)
 
 pub image-write-one :
-    (block : ℕ) (bytes : List ℕ) (forced : Bool) (room : List ℕ) {first second : TbWritten} {after other : List ℕ} → ImageWrite block bytes forced room first after → ImageWrite block bytes forced room second other →
-    (first ≡ second) × (after ≡ other)
-image-write-one block bytes forced room a b = (ap (λ n. writtenOf (n .0, n .1 .0)) (leaves-alike a b), ap (λ n. n .1 .1) (leaves-alike a b))
+    (block : ℕ) (bytes : List ℕ) (forced : Bool) (room : List ℕ) {after otherAfter : List ℕ} {first second : TbWritten} → TellsWritten (λ answer. Write block bytes forced room answer after) first → TellsWritten (λ answer. Write block bytes forced room answer otherAfter) second →
+    (first ≡ second) × (after ≡ otherAfter)
+image-write-one block bytes forced room {first} {second} one other =
+    let same = fills-one (one .promised) (other .promised) in
+    let fields : writtenFields first ≡ writtenFields second = one .are-said ∙ (ap saidWritten (same .0) ∙ sym (other .are-said)) in
+    (ap writtenOf fields, same .1)
 
-pub image-header-one : (image : List ℕ) {first second : TbHeaded} → ImageHeader image first → ImageHeader image second → first ≡ second
-image-header-one image a b = ap headedOf (leaves-alike a b)
+pub image-header-one : (image : List ℕ) {first second : TbHeaded} → TellsHeaded (Header image) first → TellsHeaded (Header image) second → first ≡ second
+image-header-one image one other = ap headedOf (told-one (image-header image) one other)
 
-pub image-judge-one : (image : List ℕ) (block : ℕ) {first second : TbJudged} → ImageJudge image block first → ImageJudge image block second → first ≡ second
-image-judge-one image block a b = ap judgedOf (a ∙ sym b)
+pub image-judge-one : (image : List ℕ) (block : ℕ) {first second : TbJudged} → TellsJudged (ImageVerdict image block) first → TellsJudged (ImageVerdict image block) second → first ≡ second
+image-judge-one image block one other = ap judgedOf (told-one (image-judge image block) one other)
 
-pub read-judge-one :
-    (shape : Shape) (r : ℕ) (table : List ℕ) (block : ℕ) (home spare : List ℕ) {first second : TbJudged} →
-    ReadJudge shape r table block home spare first → ReadJudge shape r table block home spare second → first ≡ second
-read-judge-one shape r table block home spare a b = ap judgedOf (a ∙ sym b)
+pub read-judge-one : (shape : Shape) (r : ℕ) (table : List ℕ) (block : ℕ) (home spare : List ℕ) {first second : TbJudged} → TellsJudged (ReadVerdict shape r table block home spare) first → TellsJudged (ReadVerdict shape r table block home spare) second → first ≡ second
+read-judge-one shape r table block home spare one other = ap judgedOf (told-one (reading-judge shape r table block home spare) one other)
+
+pub read-data-one : (shape : Shape) (r : ℕ) (table : List ℕ) (block : ℕ) (home spare : List ℕ) {first second : TbSpotted} → TellsSpotted (Spots shape r table block home spare) first → TellsSpotted (Spots shape r table block home spare) second → first ≡ second
+read-data-one shape r table block home spare one other = ap spottedOf (told-one (reading-spot shape r table block home spare) one other)

@@ -1,4 +1,3 @@
-pub mod Leaving
-pub mod Refused
+pub mod Carried
+pub mod Numbers
 pub mod Determined
-pub mod Said

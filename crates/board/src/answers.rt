@@ -8,6 +8,7 @@ ghost use Rattle.format.specs.Promises.{saidFormatted};
 ghost use Rattle.spares.specs.Promises.{saidShifted, saidReplaced, saidCounted};
 ghost use Rattle.image.specs.Promises.{saidHead, saidVerdict};
 ghost use Rattle.reading.specs.Promises.{saidSpot};
+ghost use Rattle.board.specs.Promises.{placedFields, namedFields, writtenFields, locatedFields, jobFields, pagedFields, formattedFields, shiftedFields, replacedFields, countedFields, headedFields, judgedFields, spottedFields};
 use format::Formatted;
 use image::Head;
 use image::Verdict;
@@ -126,8 +127,7 @@ pub struct TbSpotted {
 }
 
 pub fn placed(answer: Placed) -> TbPlaced
-    ensures { λ result. ⌜ result .refusal ≡ saidPlaced answer .0 ⌝ }
-    ensures { λ result. ⌜ result .sector ≡ saidPlaced answer .1 ⌝ }
+    ensures { λ result. ⌜ placedFields result ≡ saidPlaced answer ⌝ }
 {
     match answer {
         Placed::At(sector) => TbPlaced { refusal: 0, sector },
@@ -136,9 +136,7 @@ pub fn placed(answer: Placed) -> TbPlaced
 }
 
 pub fn named(answer: Named) -> TbNamed
-    ensures { λ result. ⌜ result .refusal ≡ saidNamed answer .0 ⌝ }
-    ensures { λ result. ⌜ result .found ≡ saidNamed answer .1 ⌝ }
-    ensures { λ result. ⌜ result .block ≡ saidNamed answer .2 ⌝ }
+    ensures { λ result. ⌜ namedFields result ≡ saidNamed answer ⌝ }
 {
     match answer {
         Named::Block(block) => TbNamed {
@@ -160,8 +158,7 @@ pub fn named(answer: Named) -> TbNamed
 }
 
 pub fn written(answer: Written) -> TbWritten
-    ensures { λ result. ⌜ result .refusal ≡ saidWritten answer .0 ⌝ }
-    ensures { λ result. ⌜ result .length ≡ saidWritten answer .1 ⌝ }
+    ensures { λ result. ⌜ writtenFields result ≡ saidWritten answer ⌝ }
 {
     match answer {
         Written::Length(length) => TbWritten { refusal: 0, length },
@@ -170,10 +167,7 @@ pub fn written(answer: Written) -> TbWritten
 }
 
 pub fn located(answer: Located) -> TbLocated
-    ensures { λ result. ⌜ result .refusal ≡ saidLocated answer .0 ⌝ }
-    ensures { λ result. ⌜ result .address .cylinder ≡ saidLocated answer .1 ⌝ }
-    ensures { λ result. ⌜ result .address .head ≡ saidLocated answer .2 ⌝ }
-    ensures { λ result. ⌜ result .address .sector ≡ saidLocated answer .3 ⌝ }
+    ensures { λ result. ⌜ locatedFields result ≡ saidLocated answer ⌝ }
 {
     match answer {
         Located::At(address) => TbLocated {
@@ -192,10 +186,7 @@ pub fn located(answer: Located) -> TbLocated
 }
 
 pub fn job(answer: Job) -> TbJob
-    ensures { λ result. ⌜ result .refusal ≡ saidJob answer .0 ⌝ }
-    ensures { λ result. ⌜ result .sector ≡ saidJob answer .1 ⌝ }
-    ensures { λ result. ⌜ result .next .block ≡ saidJob answer .2 ⌝ }
-    ensures { λ result. ⌜ result .next .skipped ≡ saidJob answer .3 ⌝ }
+    ensures { λ result. ⌜ jobFields result ≡ saidJob answer ⌝ }
 {
     match answer {
         Job::Ready(next) => TbJob {
@@ -217,10 +208,7 @@ pub fn job(answer: Job) -> TbJob
 }
 
 pub fn paged(answer: Paged) -> TbPaged
-    ensures { λ result. ⌜ result .refusal ≡ saidPaged answer .0 ⌝ }
-    ensures { λ result. ⌜ result .kind ≡ saidPaged answer .1 ⌝ }
-    ensures { λ result. ⌜ result .n ≡ saidPaged answer .2 ⌝ }
-    ensures { λ result. ⌜ result .entries ≡ saidPaged answer .3 ⌝ }
+    ensures { λ result. ⌜ pagedFields result ≡ saidPaged answer ⌝ }
 {
     match answer {
         Paged::Page(kind, n, entries) => TbPaged {
@@ -239,10 +227,7 @@ pub fn paged(answer: Paged) -> TbPaged
 }
 
 pub fn formatted(answer: Formatted) -> TbFormatted
-    ensures { λ result. ⌜ result .refusal ≡ saidFormatted answer .0 ⌝ }
-    ensures { λ result. ⌜ result .grown ≡ saidFormatted answer .1 ⌝ }
-    ensures { λ result. ⌜ result .list ≡ saidFormatted answer .2 ⌝ }
-    ensures { λ result. ⌜ result .space ≡ saidFormatted answer .3 ⌝ }
+    ensures { λ result. ⌜ formattedFields result ≡ saidFormatted answer ⌝ }
 {
     match answer {
         Formatted::Done(grown, list, space) => TbFormatted {
@@ -261,8 +246,7 @@ pub fn formatted(answer: Formatted) -> TbFormatted
 }
 
 pub fn shifted(answer: Shifted) -> TbShifted
-    ensures { λ result. ⌜ result .refusal ≡ saidShifted answer .0 ⌝ }
-    ensures { λ result. ⌜ result .shift ≡ saidShifted answer .1 ⌝ }
+    ensures { λ result. ⌜ shiftedFields result ≡ saidShifted answer ⌝ }
 {
     match answer {
         Shifted::By(shift) => TbShifted { refusal: 0, shift },
@@ -271,8 +255,7 @@ pub fn shifted(answer: Shifted) -> TbShifted
 }
 
 pub fn replaced(answer: Replaced) -> TbReplaced
-    ensures { λ result. ⌜ result .refusal ≡ saidReplaced answer .0 ⌝ }
-    ensures { λ result. ⌜ result .place ≡ saidReplaced answer .1 ⌝ }
+    ensures { λ result. ⌜ replacedFields result ≡ saidReplaced answer ⌝ }
 {
     match answer {
         Replaced::Place(place) => TbReplaced { refusal: 0, place },
@@ -281,12 +264,7 @@ pub fn replaced(answer: Replaced) -> TbReplaced
 }
 
 pub fn counted(answer: Counted) -> TbCounted
-    ensures { λ result. ⌜ result .refusal ≡ saidCounted answer .0 ⌝ }
-    ensures { λ result. ⌜ result .free ≡ saidCounted answer .1 ⌝ }
-    ensures { λ result. ⌜ result .primary ≡ saidCounted answer .2 ⌝ }
-    ensures { λ result. ⌜ result .elsewhere ≡ saidCounted answer .3 ⌝ }
-    ensures { λ result. ⌜ result .unusable ≡ saidCounted answer .4 ⌝ }
-    ensures { λ result. ⌜ result .null ≡ saidCounted answer .5 ⌝ }
+    ensures { λ result. ⌜ countedFields result ≡ saidCounted answer ⌝ }
 {
     match answer {
         Counted::Counts(census) => TbCounted {
@@ -309,8 +287,7 @@ pub fn counted(answer: Counted) -> TbCounted
 }
 
 pub fn headed(answer: Head) -> TbHeaded
-    ensures { λ result. ⌜ result .refusal ≡ saidHead answer .0 ⌝ }
-    ensures { λ result. ⌜ result .block ≡ saidHead answer .1 ⌝ }
+    ensures { λ result. ⌜ headedFields result ≡ saidHead answer ⌝ }
 {
     match answer {
         Head::Number(block) => TbHeaded { refusal: 0, block },
@@ -319,7 +296,7 @@ pub fn headed(answer: Head) -> TbHeaded
 }
 
 pub fn judged(answer: Verdict) -> TbJudged
-    ensures { λ result. ⌜ result .refusal ≡ saidVerdict answer ⌝ }
+    ensures { λ result. ⌜ judgedFields result ≡ saidVerdict answer ⌝ }
 {
     match answer {
         Verdict::Good => TbJudged { refusal: 0 },
@@ -328,9 +305,7 @@ pub fn judged(answer: Verdict) -> TbJudged
 }
 
 pub fn spotted(answer: Spot) -> TbSpotted
-    ensures { λ result. ⌜ result .refusal ≡ saidSpot answer .0 ⌝ }
-    ensures { λ result. ⌜ result .image ≡ saidSpot answer .1 ⌝ }
-    ensures { λ result. ⌜ result .offset ≡ saidSpot answer .2 ⌝ }
+    ensures { λ result. ⌜ spottedFields result ≡ saidSpot answer ⌝ }
 {
     match answer {
         Spot::InHome(offset) => TbSpotted {

@@ -1,5 +1,14 @@
-// The C face: every public call of the house under a plain name, each answering the numbers that the call's answer says.
-ghost use Rattle.board.specs.Promises.{SkipSector, SkipBlock, JobStart, JobCheck, JobStep, ShapeSector, ShapeAddress, SkippedAddress, SkippedBlock, PageRead, PageWrite, Format, SpareSector, SpareAddress, SpareShift, SpareBlock, SpareBlockAt, SpareReplace, SpareCensus, SpareFirst, ImageWrite, ImageHeader, ImageJudge, ReadJudge, ReadData};
+// The C face: every public call that hands back numbers, under a plain name, each answering the numbers that the call's answer says. The two calls that hand back a part, `image::data` and `reading::data`, are not here; `tb_read_data` is `reading::spot`.
+ghost use Rattle.shape.specs.Promises.{SectorOf as ShapeSectorOf, AddressOf as ShapeAddressOf};
+ghost use Rattle.skip.specs.Promises.{SectorOf as SkipSectorOf, BlockOn as SkipBlockOn, Starts, Checks, Steps};
+ghost use Rattle.skipped.specs.Promises.{AddressOf as SkippedAddressOf, BlockAt as SkippedBlockAt};
+ghost use Rattle.page.specs.Promises.{Reads, Writes};
+ghost use Rattle.format.specs.Promises.{Formats};
+ghost use Rattle.first_table.specs.Promises.{FirstTable};
+ghost use Rattle.spares.specs.Promises.{SectorOf as SpareSectorOf, AddressOf as SpareAddressOf, ShiftOf, BlockOn as SpareBlockOn, BlockAt as SpareBlockAtOf, Replacement, CensusOf};
+ghost use Rattle.image.specs.Promises.{Write, Header, Judge as ImageVerdict};
+ghost use Rattle.reading.specs.Promises.{Judge as ReadVerdict, Spots};
+ghost use Rattle.board.specs.Promises.{TellsPlaced, TellsNamed, TellsWritten, TellsLocated, TellsJob, TellsPaged, TellsFormatted, TellsShifted, TellsReplaced, TellsCounted, TellsHeaded, TellsJudged, TellsSpotted};
 
 mod answers;
 
@@ -22,7 +31,7 @@ use skip::Cursor;
 // The sector that a block lies on. Checks 1, list, 5.
 #[no_mangle]
 pub extern "C" fn tb_skip_sector(n: u32, list: &[u32], block: u32) -> TbPlaced
-    ensures { λ result. ⌜ SkipSector n (now (list .entry)) block result ⌝ }
+    ensures { λ result. ⌜ TellsPlaced (SkipSectorOf n (now (list .entry)) block) result ⌝ }
 {
     answers::placed(skip::sector_of(n, list, block))
 }
@@ -30,7 +39,7 @@ pub extern "C" fn tb_skip_sector(n: u32, list: &[u32], block: u32) -> TbPlaced
 // The block that lies on a sector, or none. Checks 1, list, 6.
 #[no_mangle]
 pub extern "C" fn tb_skip_block(n: u32, list: &[u32], sector: u32) -> TbNamed
-    ensures { λ result. ⌜ SkipBlock n (now (list .entry)) sector result ⌝ }
+    ensures { λ result. ⌜ TellsNamed (SkipBlockOn n (now (list .entry)) sector) result ⌝ }
 {
     answers::named(skip::block_on(n, list, sector))
 }
@@ -38,7 +47,7 @@ pub extern "C" fn tb_skip_block(n: u32, list: &[u32], sector: u32) -> TbNamed
 // Opens a job at a block. Checks 1, list, 5.
 #[no_mangle]
 pub extern "C" fn tb_job_start(n: u32, list: &[u32], block: u32) -> TbJob
-    ensures { λ result. ⌜ JobStart n (now (list .entry)) block result ⌝ }
+    ensures { λ result. ⌜ TellsJob (Starts n (now (list .entry)) block) result ⌝ }
 {
     answers::job(Cursor::start(n, list, block))
 }
@@ -46,7 +55,7 @@ pub extern "C" fn tb_job_start(n: u32, list: &[u32], block: u32) -> TbJob
 // Whether a cursor is one of this list. Checks 1, list, 9.
 #[no_mangle]
 pub extern "C" fn tb_job_check(cursor: Cursor, n: u32, list: &[u32]) -> TbJob
-    ensures { λ result. ⌜ JobCheck cursor n (now (list .entry)) result ⌝ }
+    ensures { λ result. ⌜ TellsJob (Checks n (now (list .entry)) cursor) result ⌝ }
 {
     answers::job(cursor.check(n, list))
 }
@@ -54,7 +63,7 @@ pub extern "C" fn tb_job_check(cursor: Cursor, n: u32, list: &[u32]) -> TbJob
 // The sector of the cursor's block, and the cursor after it; refused, the cursor as it was given. Checks 1, list, 9, 5.
 #[no_mangle]
 pub extern "C" fn tb_job_step(cursor: Cursor, n: u32, list: &[u32]) -> TbJob
-    ensures { λ result. ⌜ JobStep cursor n (now (list .entry)) result ⌝ }
+    ensures { λ result. ⌜ TellsJob (Steps n (now (list .entry)) cursor) result ⌝ }
 {
     answers::job(cursor.step(n, list))
 }
@@ -62,7 +71,7 @@ pub extern "C" fn tb_job_step(cursor: Cursor, n: u32, list: &[u32]) -> TbJob
 // Cylinder, head and sector to sector number. Checks 1, 6.
 #[no_mangle]
 pub extern "C" fn tb_shape_sector(shape: Shape, cylinder: u32, head: u32, sector: u32) -> TbPlaced
-    ensures { λ result. ⌜ ShapeSector shape cylinder head sector result ⌝ }
+    ensures { λ result. ⌜ TellsPlaced (ShapeSectorOf shape cylinder head sector) result ⌝ }
 {
     answers::placed(shape::sector_of(shape, cylinder, head, sector))
 }
@@ -70,7 +79,7 @@ pub extern "C" fn tb_shape_sector(shape: Shape, cylinder: u32, head: u32, sector
 // Sector number to cylinder, head and sector. Checks 1, 6.
 #[no_mangle]
 pub extern "C" fn tb_shape_address(shape: Shape, sector: u32) -> TbLocated
-    ensures { λ result. ⌜ ShapeAddress shape sector result ⌝ }
+    ensures { λ result. ⌜ TellsLocated (ShapeAddressOf shape sector) result ⌝ }
 {
     answers::located(shape::address_of(shape, sector))
 }
@@ -78,7 +87,7 @@ pub extern "C" fn tb_shape_address(shape: Shape, sector: u32) -> TbLocated
 // The address that a block of a skipped drive lies at. Checks 1, list, 5.
 #[no_mangle]
 pub extern "C" fn tb_skipped_address(shape: Shape, list: &[u32], block: u32) -> TbLocated
-    ensures { λ result. ⌜ SkippedAddress shape (now (list .entry)) block result ⌝ }
+    ensures { λ result. ⌜ TellsLocated (SkippedAddressOf shape (now (list .entry)) block) result ⌝ }
 {
     answers::located(skipped::address_of(shape, list, block))
 }
@@ -92,7 +101,7 @@ pub extern "C" fn tb_skipped_block(
     head: u32,
     sector: u32,
 ) -> TbNamed
-    ensures { λ result. ⌜ SkippedBlock shape (now (list .entry)) cylinder head sector result ⌝ }
+    ensures { λ result. ⌜ TellsNamed (SkippedBlockAt shape (now (list .entry)) cylinder head sector) result ⌝ }
 {
     answers::named(skipped::block_at(shape, list, cylinder, head, sector))
 }
@@ -100,7 +109,7 @@ pub extern "C" fn tb_skipped_block(
 // Reads a page: its kind, N and number of entries, and the entries into the room. Checks 8, 3 and 4, 7.
 #[no_mangle]
 pub extern "C" fn tb_page_read(page: &[u8], room: &mut [u32]) -> TbPaged
-    ensures { λ result. ⌜ PageRead (now (page .entry)) (now (room .entry)) result (now (room .exit)) ⌝ }
+    ensures { λ result. ⌜ TellsPaged (λ answer. Reads (now (page .entry)) (now (room .entry)) answer (now (room .exit))) result ⌝ }
 {
     answers::paged(page::read(page, room))
 }
@@ -108,7 +117,7 @@ pub extern "C" fn tb_page_read(page: &[u8], room: &mut [u32]) -> TbPaged
 // Writes a page into the room, and answers its length. Checks 1, 8, list, 7.
 #[no_mangle]
 pub extern "C" fn tb_page_write(n: u32, kind: u32, list: &[u32], room: &mut [u8]) -> TbWritten
-    ensures { λ result. ⌜ PageWrite n kind (now (list .entry)) (now (room .entry)) result (now (room .exit)) ⌝ }
+    ensures { λ result. ⌜ TellsWritten (λ answer. Writes n kind (now (list .entry)) (now (room .entry)) answer (now (room .exit))) result ⌝ }
 {
     answers::written(page::write(n, kind, list, room))
 }
@@ -125,7 +134,7 @@ pub extern "C" fn tb_format(
     grown: &mut [u32],
     list: &mut [u32],
 ) -> TbFormatted
-    ensures { λ result. ⌜ Format n (now (p .entry)) (now (g .entry)) space option (now (d .entry)) (now (grown .entry)) (now (list .entry)) result (now (grown .exit)) (now (list .exit)) ⌝ }
+    ensures { λ result. ⌜ TellsFormatted (λ answer. Formats n (now (p .entry)) (now (g .entry)) space option (now (d .entry)) (now (grown .entry)) (now (list .entry)) answer (now (grown .exit)) (now (list .exit))) result ⌝ }
 {
     answers::formatted(format::format(n, p, g, space, option, d, grown, list))
 }
@@ -133,7 +142,7 @@ pub extern "C" fn tb_format(
 // The sector that a block of a revectored drive lies on. Checks 1, 11, 5.
 #[no_mangle]
 pub extern "C" fn tb_spare_sector(shape: Shape, r: u32, table: &[u32], block: u32) -> TbPlaced
-    ensures { λ result. ⌜ SpareSector shape r (now (table .entry)) block result ⌝ }
+    ensures { λ result. ⌜ TellsPlaced (SpareSectorOf shape r (now (table .entry)) block) result ⌝ }
 {
     answers::placed(spares::sector_of(shape, r, table, block))
 }
@@ -141,7 +150,7 @@ pub extern "C" fn tb_spare_sector(shape: Shape, r: u32, table: &[u32], block: u3
 // The address that a block of a revectored drive lies at. Checks 1, 11, 5.
 #[no_mangle]
 pub extern "C" fn tb_spare_address(shape: Shape, r: u32, table: &[u32], block: u32) -> TbLocated
-    ensures { λ result. ⌜ SpareAddress shape r (now (table .entry)) block result ⌝ }
+    ensures { λ result. ⌜ TellsLocated (SpareAddressOf shape r (now (table .entry)) block) result ⌝ }
 {
     answers::located(spares::address_of(shape, r, table, block))
 }
@@ -149,7 +158,7 @@ pub extern "C" fn tb_spare_address(shape: Shape, r: u32, table: &[u32], block: u
 // How many cylinders a block is moved, negative toward cylinder 0. Checks 1, 11, 5.
 #[no_mangle]
 pub extern "C" fn tb_spare_shift(shape: Shape, r: u32, table: &[u32], block: u32) -> TbShifted
-    ensures { λ result. ⌜ SpareShift shape r (now (table .entry)) block result ⌝ }
+    ensures { λ result. ⌜ TellsShifted (ShiftOf shape r (now (table .entry)) block) result ⌝ }
 {
     answers::shifted(spares::shift(shape, r, table, block))
 }
@@ -157,7 +166,7 @@ pub extern "C" fn tb_spare_shift(shape: Shape, r: u32, table: &[u32], block: u32
 // The block that lies on a sector of a revectored drive, or none. Checks 1, 11, 6.
 #[no_mangle]
 pub extern "C" fn tb_spare_block(shape: Shape, r: u32, table: &[u32], sector: u32) -> TbNamed
-    ensures { λ result. ⌜ SpareBlock shape r (now (table .entry)) sector result ⌝ }
+    ensures { λ result. ⌜ TellsNamed (SpareBlockOn shape r (now (table .entry)) sector) result ⌝ }
 {
     answers::named(spares::block_on(shape, r, table, sector))
 }
@@ -172,7 +181,7 @@ pub extern "C" fn tb_spare_block_at(
     head: u32,
     sector: u32,
 ) -> TbNamed
-    ensures { λ result. ⌜ SpareBlockAt shape r (now (table .entry)) cylinder head sector result ⌝ }
+    ensures { λ result. ⌜ TellsNamed (SpareBlockAtOf shape r (now (table .entry)) cylinder head sector) result ⌝ }
 {
     answers::named(spares::block_at(shape, r, table, cylinder, head, sector))
 }
@@ -185,7 +194,7 @@ pub extern "C" fn tb_spare_replace(
     table: &mut [u32],
     block: u32,
 ) -> TbReplaced
-    ensures { λ result. ⌜ SpareReplace shape r (now (table .entry)) block result (now (table .exit)) ⌝ }
+    ensures { λ result. ⌜ TellsReplaced (λ answer. Replacement shape r (now (table .entry)) block answer (now (table .exit))) result ⌝ }
 {
     answers::replaced(spares::replace(shape, r, table, block))
 }
@@ -193,7 +202,7 @@ pub extern "C" fn tb_spare_replace(
 // Counts the descriptors of each code. Checks 1, 11.
 #[no_mangle]
 pub extern "C" fn tb_spare_census(shape: Shape, r: u32, table: &[u32]) -> TbCounted
-    ensures { λ result. ⌜ SpareCensus shape r (now (table .entry)) result ⌝ }
+    ensures { λ result. ⌜ TellsCounted (CensusOf shape r (now (table .entry))) result ⌝ }
 {
     answers::counted(spares::census(shape, r, table))
 }
@@ -201,7 +210,7 @@ pub extern "C" fn tb_spare_census(shape: Shape, r: u32, table: &[u32]) -> TbCoun
 // The first table of a list of bad sectors into the room, and its length. Checks 1, list, 7, 13.
 #[no_mangle]
 pub extern "C" fn tb_spare_first(shape: Shape, r: u32, list: &[u32], room: &mut [u32]) -> TbWritten
-    ensures { λ result. ⌜ SpareFirst shape r (now (list .entry)) (now (room .entry)) result (now (room .exit)) ⌝ }
+    ensures { λ result. ⌜ TellsWritten (λ answer. FirstTable shape r (now (list .entry)) (now (room .entry)) answer (now (room .exit))) result ⌝ }
 {
     answers::written(spares::first_table(shape, r, list, room))
 }
@@ -214,7 +223,7 @@ pub extern "C" fn tb_image_write(
     forced: bool,
     room: &mut [u8],
 ) -> TbWritten
-    ensures { λ result. ⌜ ImageWrite block (now («data» .entry)) forced (now (room .entry)) result (now (room .exit)) ⌝ }
+    ensures { λ result. ⌜ TellsWritten (λ answer. Write block (now («data» .entry)) forced (now (room .entry)) answer (now (room .exit))) result ⌝ }
 {
     answers::written(image::write(block, data, forced, room))
 }
@@ -222,7 +231,7 @@ pub extern "C" fn tb_image_write(
 // The number that the header of an image carries. Checks 14, 15.
 #[no_mangle]
 pub extern "C" fn tb_image_header(image: &[u8]) -> TbHeaded
-    ensures { λ result. ⌜ ImageHeader (now (image .entry)) result ⌝ }
+    ensures { λ result. ⌜ TellsHeaded (Header (now (image .entry))) result ⌝ }
 {
     answers::headed(image::header(image))
 }
@@ -230,7 +239,7 @@ pub extern "C" fn tb_image_header(image: &[u8]) -> TbHeaded
 // The verdict on the image of a block. Checks 14, 15, 16, then 17 or 18.
 #[no_mangle]
 pub extern "C" fn tb_image_judge(image: &[u8], block: u32) -> TbJudged
-    ensures { λ result. ⌜ ImageJudge (now (image .entry)) block result ⌝ }
+    ensures { λ result. ⌜ TellsJudged (ImageVerdict (now (image .entry)) block) result ⌝ }
 {
     answers::judged(image::judge(image, block))
 }
@@ -245,7 +254,7 @@ pub extern "C" fn tb_read_judge<'a>(
     home: &'a [u8],
     spare: &'a [u8],
 ) -> TbJudged
-    ensures { λ result. ⌜ ReadJudge shape r (now (table .entry)) block (now (home .entry)) (now (spare .entry)) result ⌝ }
+    ensures { λ result. ⌜ TellsJudged (ReadVerdict shape r (now (table .entry)) block (now (home .entry)) (now (spare .entry))) result ⌝ }
 {
     answers::judged(reading::judge(shape, r, table, block, home, spare))
 }
@@ -260,7 +269,7 @@ pub extern "C" fn tb_read_data<'a>(
     home: &'a [u8],
     spare: &'a [u8],
 ) -> TbSpotted
-    ensures { λ result. ⌜ ReadData shape r (now (table .entry)) block (now (home .entry)) (now (spare .entry)) result ⌝ }
+    ensures { λ result. ⌜ TellsSpotted (Spots shape r (now (table .entry)) block (now (home .entry)) (now (spare .entry))) result ⌝ }
 {
     answers::spotted(reading::spot(shape, r, table, block, home, spare))
 }

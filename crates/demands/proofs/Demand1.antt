@@ -2,8 +2,9 @@
 -- That a call takes anything and ends: no public call has a `requires`, and Rattle proves of each function that it is safe and ends. The rest stands here for each public call, over whatever result its promise allows.
 -- A call's theorem says three things (`ByTheNumbers`): its number is the one that the paper's table gives, exactly then, and no other; a refusal says 0 for every other number, save that a refused step returns its cursor; and no call answers a refusal with number 0, so that 0 means accepted. Theorems that end in `-keeps` say that lent memory keeps its bytes.
 -- Assumes nothing.
+use Rattle.paper.proofs.Kept.{fills-gives}
 use Prim.Native.Nat.{ℕ, _+_, _-_, _*_, _/_, _%_}
-use mathlib.Core.Path.{_≡_, _∙_, ap}
+use mathlib.Core.Path.{_≡_, refl, _∙_, ap}
 use mathlib.Core.Bool.{Bool}
 use mathlib.Core.List.{List}
 use lib.Dec.{ltb}
@@ -20,22 +21,21 @@ use Rattle.paper.specs.Promise.{written}
 use Rattle.shape.specs.declared.Shape.{Shape}
 use Rattle.shape.specs.declared.Located.{Located}
 use Rattle.shape.specs.Shapes.{sizeOf}
-use Rattle.shape.specs.Addresses.{sectorAt, addressAt, sectorOfFault, SectorOfJudged as ShapeSectorOfJudged, AddressOfJudged as ShapeAddressOfJudged}
-use Rattle.shape.specs.Addresses.{addressOfFault as shapeSectorFault}
+use Rattle.shape.specs.Addresses.{sectorAt, SectorOfJudged as ShapeSectorOfJudged, AddressOfJudged as ShapeAddressOfJudged}
 use Rattle.shape.specs.Promises.{SectorOf as ShapeSectorOf, AddressOf as ShapeAddressOf}
 use Rattle.shape.proofs.Exact.{sector-of-exactly as shape-sector-of-exactly, address-of-exactly as shape-address-of-exactly}
 use Rattle.skip.specs.Skipping.{goodsBefore, place}
-use Rattle.skip.specs.Translation.{sectorOfFault, blockOnFault, SectorOfJudged, BlockOnJudged}
-use Rattle.skip.specs.Cursors.{noCursor, cursorAt, checkFault, stepFault, StartJudged, CheckJudged, StepJudged}
+use Rattle.skip.specs.Translation.{SectorOfJudged, BlockOnJudged}
+use Rattle.skip.specs.Cursors.{noCursor, CheckJudged, StepJudged}
 use Rattle.skip.specs.Promises.{SectorOf, BlockOn, Starts, Checks, Steps}
 use Rattle.skip.specs.declared.Cursor.{Cursor}
 use Rattle.skip.specs.declared.Job.{Job}
-use Rattle.skip.proofs.Exact.{sector-of-exactly, block-on-exactly, start-exactly, check-exactly, step-exactly}
-use Rattle.skipped.specs.Drive.{addressOfFault as skippedBlockFault, blockAtFault as skippedPlaceFault, AddressOfJudged as SkippedAddressOfJudged, BlockAtJudged as SkippedBlockAtJudged}
+use Rattle.skip.proofs.Exact.{sector-of-exactly, block-on-exactly, check-exactly, step-exactly}
+use Rattle.skipped.specs.Drive.{AddressOfJudged as SkippedAddressOfJudged, BlockAtJudged as SkippedBlockAtJudged}
 use Rattle.skipped.specs.Promises.{AddressOf as SkippedAddressOf, BlockAt as SkippedBlockAt}
 use Rattle.skipped.proofs.Exact.{address-of-exactly as skipped-address-of-exactly, block-at-exactly as skipped-block-at-exactly}
 use Rattle.page.specs.Layout.{kindOf, unitsOf, entriesOf}
-use Rattle.page.specs.Pages.{readFault as pageReadFault, writeFault as pageWriteFault, pageLength, ReadJudged as PageReadJudged, WriteJudged as PageWriteJudged}
+use Rattle.page.specs.Pages.{ReadJudged as PageReadJudged, WriteJudged as PageWriteJudged}
 use Rattle.page.specs.Promises.{saidPaged, Reads, Writes}
 use Rattle.page.specs.declared.Paged.{Paged}
 use Rattle.page.proofs.Exact.{read-exactly as page-read-exactly, write-exactly as page-write-exactly}
@@ -79,75 +79,63 @@ use Rattle.reading.proofs.Exact.{read-exactly}
 use Rattle.reading.proofs.Parts.{read-length, refused-empty as read-refused-empty, accepted-data as read-accepted-data}
 use Rattle.demands.specs.Mission.{Keeps, PartBy}
 use Rattle.demands.specs.Numbered.{PlacedBy, NamedBy, WrittenBy, LocatedBy, JobBy, PagedBy, FormattedBy, ShiftedBy, ReplacedBy, CountedBy, HeadBy, VerdictBy, SpotBy}
-use Rattle.demands.proofs.Chains.{keeps-bytes}
-use Rattle.demands.proofs.ByKind.{Naming, block-naming, none-naming, pick-naming, placed-by, named-by, written-by, located-by, ready-by, stepped-by, paged-by, formatted-by, shifted-by, replaced-by, counted-by, head-by, verdict-by, spot-by}
+use Rattle.demands.proofs.Chains.{keeps}
+use Rattle.demands.proofs.ByKind.{found-naming, lying-naming, placed-by, named-by, written-by, located-by, ready-by, stepped-by, paged-by, formatted-by, shifted-by, replaced-by, counted-by, head-by, verdict-by, spot-by}
 
 -- a drive by its shape
 module _ (shape : Shape) where
   pub shape-sector-of :
       (cylinder head sector : ℕ) (result : Placed) → ShapeSectorOf shape cylinder head sector result →
       PlacedBy (ShapeSectorOfJudged shape cylinder head sector) result
-  shape-sector-of cylinder head sector result promise =
-      placed-by (sectorOfFault shape cylinder head sector) (shape-sector-of-exactly shape cylinder head sector)
-      (sectorAt shape cylinder head sector) result (promise .answers)
+  shape-sector-of cylinder head sector result promise = placed-by (shape-sector-of-exactly shape cylinder head sector) promise
 
   pub shape-address-of : (sector : ℕ) (result : Located) → ShapeAddressOf shape sector result → LocatedBy (ShapeAddressOfJudged shape sector) result
-  shape-address-of sector result promise =
-      located-by (shapeSectorFault shape sector) (shape-address-of-exactly shape sector) (addressAt shape sector) result (promise .answers)
+  shape-address-of sector result promise = located-by (shape-address-of-exactly shape sector) promise
 
 -- a skipped drive: N sectors and a list
 module _ (n : ℕ) (a : List ℕ) where
   pub skip-sector-of : (b : ℕ) (result : Placed) → SectorOf n a b result → PlacedBy (SectorOfJudged n a b) result
-  skip-sector-of b result promise =
-      placed-by (sectorOfFault n a b) (sector-of-exactly n a b) (place (isIn a) n b) result (promise .answers)
+  skip-sector-of b result promise = placed-by (sector-of-exactly n a b) promise
 
   pub skip-block-on : (s : ℕ) (result : Named) → BlockOn n a s result → NamedBy (BlockOnJudged n a s) result
-  skip-block-on s result promise =
-      named-by (blockOnFault n a s) (block-on-exactly n a s) _ result
-      (pick-naming (isIn a s) NoBlock (Block (goodsBefore (isIn a) s)) none-naming (block-naming (goodsBefore (isIn a) s)))
-      (promise .answers)
+  skip-block-on s result promise = named-by (block-on-exactly n a s) (found-naming a s) promise
 
   -- a refusal of these two comes with an empty cursor
-  pub cursor-start : (b : ℕ) (result : Job) → Starts n a b result → JobBy noCursor (StartJudged n a b) result
-  cursor-start b result promise = ready-by (sectorOfFault n a b) (start-exactly n a b) noCursor (cursorAt n a b) result (promise .answers)
+  pub cursor-start : (b : ℕ) (result : Job) → Starts n a b result → JobBy noCursor (SectorOfJudged n a b) result
+  cursor-start b result promise = ready-by (sector-of-exactly n a b) promise
 
   pub cursor-check : (c : Cursor) (result : Job) → Checks n a c result → JobBy noCursor (CheckJudged n a c) result
-  cursor-check c result promise = ready-by (checkFault n a c) (check-exactly n a c) noCursor c result (promise .answers)
+  cursor-check c result promise = ready-by (check-exactly n a c) promise
 
   -- a refused step returns its cursor
   pub cursor-step : (c : Cursor) (result : Job) → Steps n a c result → JobBy c (StepJudged n a c) result
-  cursor-step c result promise =
-      stepped-by (stepFault n a c) (step-exactly n a c) c (place (isIn a) n (c .block)) _ result (promise .answers)
+  cursor-step c result promise = stepped-by (step-exactly n a c) promise
 
 -- a skipped drive by its shape
 module _ (shape : Shape) (a : List ℕ) where
   pub skipped-address-of : (b : ℕ) (result : Located) → SkippedAddressOf shape a b result → LocatedBy (SkippedAddressOfJudged shape a b) result
-  skipped-address-of b result promise =
-      located-by (skippedBlockFault shape a b) (skipped-address-of-exactly shape a b) (addressAt shape (place (isIn a) (sizeOf shape) b)) result (promise .answers)
+  skipped-address-of b result promise = located-by (skipped-address-of-exactly shape a b) promise
 
   pub skipped-block-at :
       (cylinder head sector : ℕ) (result : Named) → SkippedBlockAt shape a cylinder head sector result →
       NamedBy (SkippedBlockAtJudged shape a cylinder head sector) result
   skipped-block-at cylinder head sector result promise =
-      named-by (skippedPlaceFault shape a cylinder head sector) (skipped-block-at-exactly shape a cylinder head sector) _ result
-      (pick-naming (isIn a (sectorAt shape cylinder head sector)) NoBlock _ none-naming (block-naming (goodsBefore (isIn a) (sectorAt shape cylinder head sector))))
-      (promise .answers)
+      named-by (skipped-block-at-exactly shape a cylinder head sector) (found-naming a (sectorAt shape cylinder head sector)) promise
 
 -- the list page
 module _ (page room : List ℕ) (result : Paged) (after : List ℕ) (promise : Reads page room result after) where
   pub page-read : PagedBy (PageReadJudged page room) result
-  page-read =
-      paged-by (pageReadFault page room) (page-read-exactly page room) (kindOf page) (unitsOf page) (length (entriesOf page)) result (promise .answers)
+  page-read = paged-by (page-read-exactly page room) (fills-gives promise)
 
   pub page-read-keeps : Keeps (saidPaged result .0) room after
-  page-read-keeps = keeps-bytes _ (pageReadFault page room) room after _ (ap (λ (said : ℕ × ℕ × ℕ × ℕ). said .0) (promise .says)) (promise .holds)
+  page-read-keeps = keeps (λ said. said .0) (λ k. refl) refl promise
 
 module _ (n kind : ℕ) (list room : List ℕ) (result : Written) (after : List ℕ) (promise : Writes n kind list room result after) where
   pub page-write : WrittenBy (PageWriteJudged n kind list room) result
-  page-write = written-by (pageWriteFault n kind list room) (page-write-exactly n kind list room) (pageLength (length list)) result (promise .answers)
+  page-write = written-by (page-write-exactly n kind list room) (fills-gives promise)
 
   pub page-write-keeps : Keeps (saidWritten result .0) room after
-  page-write-keeps = keeps-bytes _ (pageWriteFault n kind list room) room after _ (ap (λ (said : ℕ × ℕ). said .0) (promise .says)) (promise .holds)
+  page-write-keeps = keeps (λ said. said .0) (λ k. refl) refl promise
 
 -- Format
 module _
@@ -160,90 +148,62 @@ module _
     (promise : Formats n p g space option d grown list result grownAfter listAfter)
   where
     pub format-format : FormattedBy (FormatJudged n p g space option d grown list) result
-    format-format =
-        formatted-by (formatFault n p g space option d grown list) (format-exactly n p g space option d grown list)
-        (length (newGrown n p g space option d)) (length (newList n p g space option d)) (newSpace space option) result (promise .answers)
+    format-format = formatted-by (format-exactly n p g space option d grown list) (fills-gives promise)
 
     -- neither room is written where either is short
-    pub format-keeps : Keeps (saidFormatted result .0) grown grownAfter × Keeps (saidFormatted result .0) list listAfter
-    format-keeps =
-        let says : saidFormatted result .0 ≡ formatFault n p g space option d grown list = ap (λ (said : ℕ × ℕ × ℕ × ℕ). said .0) (promise .says) in (
-          keeps-bytes _ (formatFault n p g space option d grown list) grown grownAfter _ says (promise .grown-holds),
-          keeps-bytes _ (formatFault n p g space option d grown list) list listAfter _ says (promise .list-holds),
-        )
-
--- what lies on a sector is a block or no block
-lying-naming : (g : Drive) (t : List ℕ) (s : ℕ) → Naming (lyingOn g t s)
-lying-naming g t s =
-    pick-naming (ltb (s % sectorsPerTrack g) (g .home))
-    (blockAtHome t (s / sectorsPerTrack g * g .home + s % sectorsPerTrack g))
-    (blockOnSpare t (s / sectorsPerTrack g * g .spare + (s % sectorsPerTrack g - g .home)))
-    (at-home (s / sectorsPerTrack g * g .home + s % sectorsPerTrack g))
-    (on-spare (s / sectorsPerTrack g * g .spare + (s % sectorsPerTrack g - g .home)))
-  where
-    at-home : (b : ℕ) → Naming (blockAtHome t b)
-    at-home b = pick-naming (isReplaced t b) NoBlock (Block b) none-naming (block-naming b)
-
-    on-spare : (q : ℕ) → Naming (blockOnSpare t q)
-    on-spare q = pick-naming (isAllocated (getD t q 0)) (Block (numberOf (getD t q 0))) NoBlock (block-naming (numberOf (getD t q 0))) none-naming
+    pub format-keeps : Keeps {Lent = List ℕ × List ℕ} (saidFormatted result .0) (grown, list) (grownAfter, listAfter)
+    format-keeps = keeps (λ said. said .0) (λ k. refl) refl promise
 
 -- a revectored drive: shape, spares of a track and table
 module _ (shape : Shape) (r : ℕ) (t : List ℕ) where
   pub spares-sector-of : (b : ℕ) (result : Placed) → SpareSectorOf shape r t b result → PlacedBy (BlockJudged shape r t b) result
-  spares-sector-of b result promise =
-      placed-by (spareBlockFault shape r t b) (block-exactly shape r t b) (liesOn (driveOf shape r) t b) result (promise .answers)
+  spares-sector-of b result promise = placed-by (block-exactly shape r t b) promise
 
   pub spares-address-of : (b : ℕ) (result : Located) → SpareAddressOf shape r t b result → LocatedBy (BlockJudged shape r t b) result
-  spares-address-of b result promise =
-      located-by (spareBlockFault shape r t b) (block-exactly shape r t b) (addressAt shape (liesOn (driveOf shape r) t b)) result (promise .answers)
+  spares-address-of b result promise = located-by (block-exactly shape r t b) promise
 
   pub spares-shift : (b : ℕ) (result : Shifted) → ShiftOf shape r t b result → ShiftedBy (BlockJudged shape r t b) result
-  spares-shift b result promise =
-      shifted-by (spareBlockFault shape r t b) (block-exactly shape r t b) (shiftOf (driveOf shape r) t b) result (promise .answers)
+  spares-shift b result promise = shifted-by (block-exactly shape r t b) promise
 
   pub spares-block-on : (s : ℕ) (result : Named) → SpareBlockOn shape r t s result → NamedBy (SpareBlockOnJudged shape r t s) result
-  spares-block-on s result promise =
-      named-by (blockOnFault shape r t s) (spare-block-on-exactly shape r t s) _ result (lying-naming (driveOf shape r) t s) (promise .answers)
+  spares-block-on s result promise = named-by (spare-block-on-exactly shape r t s) (lying-naming (driveOf shape r) t s) promise
 
   pub spares-block-at :
       (cylinder head sector : ℕ) (result : Named) → SpareBlockAt shape r t cylinder head sector result →
       NamedBy (SpareBlockAtJudged shape r t cylinder head sector) result
   spares-block-at cylinder head sector result promise =
-      named-by (blockAtFault shape r t cylinder head sector) (spare-block-at-exactly shape r t cylinder head sector) _ result
-      (lying-naming (driveOf shape r) t (sectorAt shape cylinder head sector))
-      (promise .answers)
+      named-by (spare-block-at-exactly shape r t cylinder head sector) (lying-naming (driveOf shape r) t (sectorAt shape cylinder head sector)) promise
 
   pub spares-census : (result : Counted) → CensusOf shape r t result → CountedBy (TableJudged shape r t) result
-  spares-census result promise = counted-by (tableFault shape r t) (table-exactly shape r t) (censusOf t) result (promise .answers)
+  spares-census result promise = counted-by (table-exactly shape r t) promise
 
 module _ (shape : Shape) (r : ℕ) (t : List ℕ) (b : ℕ) (result : Replaced) (after : List ℕ) (promise : Replacement shape r t b result after) where
   pub spares-replace : ReplacedBy (ReplaceJudged shape r t b) result
-  spares-replace = replaced-by (replaceFault shape r t b) (replace-exactly shape r t b) (spareFor (driveOf shape r) t b) result (promise .answers)
+  spares-replace = replaced-by (replace-exactly shape r t b) (fills-gives promise)
 
   pub spares-replace-keeps : Keeps (saidReplaced result .0) t after
-  spares-replace-keeps = keeps-bytes _ (replaceFault shape r t b) t after _ (ap (λ (said : ℕ × ℕ). said .0) (promise .says)) (promise .holds)
+  spares-replace-keeps = keeps (λ said. said .0) (λ k. refl) refl promise
 
 module _ (shape : Shape) (r : ℕ) (list room : List ℕ) (result : Written) (after : List ℕ) (promise : FirstTable shape r list room result after) where
   pub spares-first-table : WrittenBy (FirstTableJudged shape r list room) result
-  spares-first-table =
-      written-by (firstTableFault shape r list room) (first-exactly shape r list room) (tableLength (driveOf shape r)) result (promise .answers)
+  spares-first-table = written-by (first-exactly shape r list room) (fills-gives promise)
 
   pub spares-first-table-keeps : Keeps (saidWritten result .0) room after
-  spares-first-table-keeps = keeps-bytes _ (firstTableFault shape r list room) room after _ (ap (λ (said : ℕ × ℕ). said .0) (promise .says)) (promise .holds)
+  spares-first-table-keeps = keeps (λ said. said .0) (λ k. refl) refl promise
 
 -- the sector image
 module _ (number : ℕ) (bytes : List ℕ) (forced : Bool) (room : List ℕ) (result : Written) (after : List ℕ) (promise : Write number bytes forced room result after) where
   pub image-write : WrittenBy (WriteJudged dataSize bytes room) result
-  image-write = written-by (writeFault dataSize bytes room) (write-exactly dataSize bytes room) _ result (promise .answers)
+  image-write = written-by (write-exactly dataSize bytes room) (fills-gives promise)
 
   pub image-write-keeps : Keeps (saidWritten result .0) room after
-  image-write-keeps = keeps-bytes _ (writeFault dataSize bytes room) room after _ (ap (λ (said : ℕ × ℕ). said .0) (promise .says)) (promise .holds)
+  image-write-keeps = keeps (λ said. said .0) (λ k. refl) refl promise
 
 pub image-header : (image : List ℕ) (result : Head) → Header image result → HeadBy (HeaderJudged dataSize image) result
-image-header image result promise = head-by (headerFault dataSize image) (header-exactly image dataSize) (headerOf image) result (promise .answers)
+image-header image result promise = head-by (header-exactly image dataSize) promise
 
 pub image-judge : (image : List ℕ) (number : ℕ) (result : Verdict) → Judge image number result → VerdictBy (ImageJudged dataSize image number) result
-image-judge image number result promise = verdict-by (imageFault dataSize image number) (judge-exactly image dataSize number) result (promise .answers)
+image-judge image number result promise = verdict-by (judge-exactly image dataSize number) promise
 
 -- the part is empty exactly where the verdict refuses
 pub image-data : (image : RefT (List ℕ)) (number : ℕ) (part : RefT (List ℕ)) → Data image number part → PartBy (ImageJudged dataSize (image .now) number) dataSize (part .now)
@@ -263,15 +223,12 @@ module _ (shape : Shape) (r : ℕ) (t : List ℕ) (b : ℕ) where
   pub reading-judge :
       (home spare : List ℕ) (result : Verdict) → ReadJudge shape r t b home spare result →
       VerdictBy (BlockReadJudged dataSize shape r t b home spare) result
-  reading-judge home spare result promise =
-      verdict-by (blockReadFault dataSize shape r t b home spare) (read-exactly dataSize shape r t b home spare) result (promise .answers)
+  reading-judge home spare result promise = verdict-by (read-exactly dataSize shape r t b home spare) promise
 
   pub reading-spot :
       (home spare : List ℕ) (result : Spot) → Spots shape r t b home spare result →
       SpotBy (BlockReadJudged dataSize shape r t b home spare) result
-  reading-spot home spare result promise =
-      spot-by (blockReadFault dataSize shape r t b home spare) (read-exactly dataSize shape r t b home spare)
-      (isReplaced t b) (dataStart dataSize (driveOf shape r) t b) result (promise .answers)
+  reading-spot home spare result promise = spot-by (read-exactly dataSize shape r t b home spare) (isReplaced t b) (dataStart dataSize (driveOf shape r) t b) promise
 
   pub reading-data :
       (home spare part : RefT (List ℕ)) → ReadData shape r t b home spare part →

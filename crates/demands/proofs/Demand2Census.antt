@@ -1,7 +1,8 @@
 -- A census counts the places of each code. Whatever calls follow a first table, the spares that it counts as free are those that neither the list of bad sectors nor an accepted replacement has taken.
 -- Assumes nothing.
+use Rattle.paper.proofs.Kept.{gives-number, fills-gives}
 use Prim.Native.Nat.{ℕ, _+_, _-_, _≤_}
-use mathlib.Core.Path.{_≡_, sym, _∙_, ap}
+use mathlib.Core.Path.{_≡_, sym, _∙_, ap, refl}
 use mathlib.Core.List.{List}
 use native.Mathlib.Omega.{arith}
 use lib.ListN.{length, take}
@@ -30,7 +31,7 @@ use Rattle.demands.proofs.Rooms.{first-table-hands}
 -- a census that is answered counts each code of the table
 pub census-counts : (shape : Shape) (r : ℕ) (t : List ℕ) (census : Census) → CensusOf shape r t (Census-of census) → Counts t census
 census-counts shape r t census promise =
-    let passes : tableFault shape r t ≡ 0 = sym (ap (λ (said : ℕ × ℕ × ℕ × ℕ × ℕ × ℕ). said .0) (promise .says)) in
+    let passes : tableFault shape r t ≡ 0 = sym (gives-number promise (λ said. said .0) (λ k. refl) refl) in
     record {
       are-free = rw passes at (ap (λ (said : ℕ × ℕ × ℕ × ℕ × ℕ × ℕ). said .1) (promise .says));
       are-primary = rw passes at (ap (λ (said : ℕ × ℕ × ℕ × ℕ × ℕ × ℕ). said .2) (promise .says));
@@ -44,7 +45,7 @@ pub census-leaves-none-out :
     (shape : Shape) (r : ℕ) (t : List ℕ) (census : Census) → CensusOf shape r t (Census-of census) →
     census .free + (census .primary + (census .elsewhere + (census .unusable + census .null))) ≡ tableLength (driveOf shape r)
 census-leaves-none-out shape r t census promise =
-    let passes : tableFault shape r t ≡ 0 = sym (ap (λ (said : ℕ × ℕ × ℕ × ℕ × ℕ × ℕ). said .0) (promise .says)) in
+    let passes : tableFault shape r t ≡ 0 = sym (gives-number promise (λ said. said .0) (λ k. refl) refl) in
     let counts : Counts t census = census-counts shape r t census promise in
     rw (counts .are-free, counts .are-primary, counts .are-elsewhere, counts .are-unusable, counts .are-null) (census-whole shape r t passes)
 
@@ -54,7 +55,7 @@ spares-hold g list = count-le (isBadSpare g list) (g .spares)
 
 module _ (shape : Shape) (r : ℕ) (list room : List ℕ) (long : ℕ) (after : List ℕ) (made : FirstTable shape r list room (Length long) after) where
   first-fault : firstTableFault shape r list room ≡ 0
-  first-fault = sym (ap (λ (said : ℕ × ℕ). said .0) (made .says))
+  first-fault = sym (gives-number (fills-gives made) (λ said. said .0) (λ k. refl) refl)
 
   first-is : take long after ≡ firstTable (driveOf shape r) list
   first-is = first-table-hands shape r list room long after made .0 .first
@@ -63,7 +64,7 @@ module _ (shape : Shape) (r : ℕ) (list room : List ℕ) (long : ℕ) (after : 
     -- after any history of calls, accepted or refused, the table passes and a census is answered
     pub census-answered : (result : Counted) → CensusOf shape r (afterAll shape r (take long after) calls) result → saidCounted result .0 ≡ 0
     census-answered result promise =
-        ap (λ (said : ℕ × ℕ × ℕ × ℕ × ℕ × ℕ). said .0) (promise .says)
+        gives-number promise (λ said. said .0) (λ k. refl) refl
         ∙ history-passes shape r (take long after) calls (rw first-is (first-passes shape r list room first-fault))
 
     -- of the spares, the bad ones, those of the bad homes and those of the accepted calls are free no more

@@ -1,5 +1,6 @@
 -- Demand 2 on a revectored drive: every block has one sector, its home or else the spare whose descriptor names it, and no other block has that sector. An unusable spare has no block. A replacement changes a single descriptor, and 13 means that every spare is taken.
 -- Assumes nothing.
+use Rattle.paper.proofs.Kept.{gives-number, fills-gives}
 use Prim.Native.Nat.{ℕ, _*_, _/_, _<_}
 use mathlib.Core.Path.{_≡_, refl, sym, _∙_, ap}
 use mathlib.Core.List.{List}
@@ -43,11 +44,12 @@ use Rattle.spares.proofs.Exact.{sector-within}
 use Rattle.table.proofs.Exact.{Ready, table-ready, block-ready, block-below}
 use Rattle.spares.proofs.Accepted.{replace-alters, no-spare-shows, no-spare-told}
 use Rattle.spares.proofs.Shifts.{shift-at-home, shift-leads, shift-answered}
+use Rattle.demands.proofs.ByKind.{naming-says, lying-naming}
 use Rattle.demands.specs.Mission.{Leads}
 
 module _ (shape : Shape) (r : ℕ) (t : List ℕ) where
   answered-passes : (b s : ℕ) → SectorOf shape r t b (At s) → blockFault shape r t b ≡ 0
-  answered-passes b s promise = sym (ap (λ (said : ℕ × ℕ). said .0) (promise .says))
+  answered-passes b s promise = sym (gives-number promise (λ said. said .0) (λ k. refl) refl)
 
   answered-is : (b s : ℕ) → SectorOf shape r t b (At s) → s ≡ liesOn (driveOf shape r) t b
   answered-is b s promise = rw (answered-passes b s promise) at (ap (λ (said : ℕ × ℕ). said .1) (promise .says))
@@ -96,7 +98,7 @@ module _ (shape : Shape) (r : ℕ) (t : List ℕ) where
 
   module _ (s : ℕ) where
     asked-passes : (lying : Named) → BlockOn shape r t s lying → saidNamed lying .0 ≡ 0 → blockOnFault shape r t s ≡ 0
-    asked-passes lying promise accepted = sym (ap (λ (said : ℕ × ℕ × ℕ). said .0) (promise .says)) ∙ accepted
+    asked-passes lying promise accepted = sym (gives-number promise (λ said. said .0) (λ k. refl) (naming-says (lyingOn (driveOf shape r) t s) (lying-naming (driveOf shape r) t s))) ∙ accepted
 
     asked-is : (lying : Named) → BlockOn shape r t s lying → saidNamed lying .0 ≡ 0 → lyingOn (driveOf shape r) t s ≡ lying
     asked-is lying promise accepted =
@@ -142,7 +144,7 @@ module _ (shape : Shape) (r : ℕ) (t : List ℕ) where
       OnDrive shape (address .cylinder) (address .head) (address .sector)
       × Resides (driveOf shape r) t b (sectorAt shape (address .cylinder) (address .head) (address .sector))
   address-lies b address promise =
-      let none : blockFault shape r t b ≡ 0 = sym (ap (λ (said : ℕ × ℕ × ℕ × ℕ). said .0) (promise .says)) in
+      let none : blockFault shape r t b ≡ 0 = sym (gives-number promise (λ said. said .0) (λ k. refl) refl) in
       let ready = block-ready shape r t b none in
       let inside : liesOn (driveOf shape r) t b < sizeOf shape = rw (drive-whole (ready .drives)) at (lies-below (ready .laid) t (ready .obeys) b (block-below shape r t b none)) in
       let cylinder : address .cylinder ≡ addressAt shape (liesOn (driveOf shape r) t b) .cylinder = rw none at (ap (λ (said : ℕ × ℕ × ℕ × ℕ). said .1) (promise .says)) in
@@ -157,7 +159,7 @@ module _ (shape : Shape) (r : ℕ) (t : List ℕ) where
       (b : ℕ) (address : Address) → AddressOf shape r t b (LocatedAt address) → (result : Named) →
       BlockAt shape r t (address .cylinder) (address .head) (address .sector) result → result ≡ Block b
   address-names-block b address promise result names =
-      let none : blockFault shape r t b ≡ 0 = sym (ap (λ (said : ℕ × ℕ × ℕ × ℕ). said .0) (promise .says)) in
+      let none : blockFault shape r t b ≡ 0 = sym (gives-number promise (λ said. said .0) (λ k. refl) refl) in
       let ready = block-ready shape r t b none in
       let there = address-lies b address promise in
       let is : liesOn (driveOf shape r) t b ≡ sectorAt shape (address .cylinder) (address .head) (address .sector) =
@@ -172,25 +174,25 @@ module _ (shape : Shape) (r : ℕ) (t : List ℕ) where
   -- an accepted replacement alters one descriptor, which was free, and leaves a table that obeys the rules, with every other block where it was
   pub replacement-alters : (b q : ℕ) (after : List ℕ) → Replacement shape r t b (Place q) after → Altered (driveOf shape r) t b q after
   replacement-alters b q after promise =
-      let accepted : replaceFault shape r t b ≡ 0 = sym (ap (λ (said : ℕ × ℕ). said .0) (promise .says)) in
+      let accepted : replaceFault shape r t b ≡ 0 = sym (gives-number (fills-gives promise) (λ said. said .0) (λ k. refl) refl) in
       let place : q ≡ spareFor (driveOf shape r) t b = rw accepted at (ap (λ (said : ℕ × ℕ). said .1) (promise .says)) in
       rw (place, promise .holds) (replace-alters shape r t b accepted)
 
   -- it is refused for want of a spare only when none is free
   pub no-spare-none-free : (b : ℕ) (after : List ℕ) → Replacement shape r t b (NotReplaced noSpare) after → NoneFree t
-  no-spare-none-free b after promise = no-spare-shows shape r t b (sym (ap (λ (said : ℕ × ℕ). said .0) (promise .says))) .1 .1
+  no-spare-none-free b after promise = no-spare-shows shape r t b (sym (gives-number (fills-gives promise) (λ said. said .0) (λ k. refl) refl)) .1 .1
 
   -- and exactly then, where 1, 11, 5 and 12 do not refuse
   pub none-free-no-spare :
       (b : ℕ) → blockFault shape r t b ≡ 0 → (Replaced t b → ⊥) → NoneFree t → (result : ReplaceAnswer) (after : List ℕ) →
       Replacement shape r t b result after → saidReplaced result .0 ≡ noSpare
   none-free-no-spare b none at-home none-free result after promise =
-      ap (λ (said : ℕ × ℕ). said .0) (promise .says) ∙ no-spare-told shape r t b none at-home none-free
+      gives-number (fills-gives promise) (λ said. said .0) (λ k. refl) refl ∙ no-spare-told shape r t b none at-home none-free
 
   -- the shift leads from the cylinder of the home to the cylinder that the block lies on, and is less than C to either side
   pub shift-leads-there : (b : ℕ) (shift : ℤ) → ShiftOf shape r t b (By shift) → Leads (driveOf shape r) t b (shape .cylinders) shift
   shift-leads-there b shift promise =
-      let none : blockFault shape r t b ≡ 0 = sym (ap (λ (said : ℕ × ℤ). said .0) (promise .says)) in
+      let none : blockFault shape r t b ≡ 0 = sym (gives-number promise (λ said. said .0) (λ k. refl) refl) in
       let is : shift ≡ shiftOf (driveOf shape r) t b = rw none at (ap (λ (said : ℕ × ℤ). said .1) (promise .says)) in
       rw is (record { leads = leads (block-ready shape r t b none .laid); within = shift-answered shape r t b none })
     where
@@ -205,5 +207,5 @@ module _ (shape : Shape) (r : ℕ) (t : List ℕ) where
   -- a block that has not moved has shift 0
   pub shift-0-at-home : (b : ℕ) (shift : ℤ) → ShiftOf shape r t b (By shift) → (Replaced t b → ⊥) → shift ≡ pos 0
   shift-0-at-home b shift promise at-home =
-      let none : blockFault shape r t b ≡ 0 = sym (ap (λ (said : ℕ × ℤ). said .0) (promise .says)) in
+      let none : blockFault shape r t b ≡ 0 = sym (gives-number promise (λ said. said .0) (λ k. refl) refl) in
       rw none at (ap (λ (said : ℕ × ℤ). said .1) (promise .says)) ∙ shift-at-home (driveOf shape r) t b at-home

@@ -1,7 +1,8 @@
 -- Demand 2 on a skipped drive: counted from 0, a block's number is the number of good sectors before its own; each sector leads back to its block, and no sector has two.
 -- Assumes nothing.
+use Rattle.paper.proofs.Kept.{gives-number}
 use Prim.Native.Nat.{ℕ, suc, _-_, _<_}
-use mathlib.Core.Path.{_≡_, sym, _∙_, ap}
+use mathlib.Core.Path.{_≡_, sym, _∙_, ap, refl}
 use mathlib.Core.Bool.{true}
 use mathlib.Core.List.{List}
 use native.Mathlib.Omega.{arith}
@@ -42,13 +43,14 @@ use Rattle.skip.proofs.Cursoring.{tells-belongs, step-fresh, step-block, step-r
 use Rattle.skipped.specs.Drive.{skippedFault, addressOfFault as skippedBlockFault, blockAtFault as skippedPlaceFault}
 use Rattle.skipped.specs.Promises.{AddressOf, BlockAt}
 use Rattle.skipped.proofs.Shown.{drive-shaped, drive-proper, block-drive, block-below as skipped-block-below}
+use Rattle.demands.proofs.ByKind.{naming-says, found-naming}
 use Rattle.demands.specs.Mission.{Onward}
 
 module _ (n : ℕ) (a : List ℕ) where
   -- a sector that is answered is the one that the block lies on
   pub answered-lies : (b s : ℕ) → SectorOf n a b (At s) → Lies (isIn a) n b s
   answered-lies b s promise =
-      let passes : sectorOfFault n a b ≡ 0 = sym (ap (λ (said : ℕ × ℕ). said .0) (promise .says)) in
+      let passes : sectorOfFault n a b ≡ 0 = sym (gives-number promise (λ said. said .0) (λ k. refl) refl) in
       let here : s ≡ place (isIn a) n b = rw passes at (ap (λ (said : ℕ × ℕ). said .1) (promise .says)) in
       let proper : Proper n a = block-proper n a b passes in
       rw here (place-lies (isIn a) n b (rw (goods-are-blocks n a (proper .rising) (proper .inside)) (block-below n a b passes)))
@@ -96,7 +98,7 @@ module _ (n : ℕ) (a : List ℕ) where
   -- a block that is named lies on the sector
   pub named-lies : (b s : ℕ) → BlockOn n a s (Block b) → Lies (isIn a) n b s
   named-lies b s promise =
-      let passes : blockOnFault n a s ≡ 0 = sym (ap (λ (said : ℕ × ℕ × ℕ). said .0) (promise .says)) in
+      let passes : blockOnFault n a s ≡ 0 = sym (gives-number promise (λ said. said .0) (λ k. refl) (naming-says (blockOn a s) (found-naming a s))) in
       byBool (isIn a s)
       (λ bad. absurd (omega (arith, rw (passes, bad) at (ap (λ (said : ℕ × ℕ × ℕ). said .1) (promise .says)))))
       (λ good.
@@ -109,7 +111,7 @@ module _ (n : ℕ) (a : List ℕ) where
   -- no block is answered for a sector of the list alone
   pub none-is-bad : (s : ℕ) → BlockOn n a s NoBlock → isIn a s ≡ true
   none-is-bad s promise =
-      let passes : blockOnFault n a s ≡ 0 = sym (ap (λ (said : ℕ × ℕ × ℕ). said .0) (promise .says)) in
+      let passes : blockOnFault n a s ≡ 0 = sym (gives-number promise (λ said. said .0) (λ k. refl) (naming-says (blockOn a s) (found-naming a s))) in
       byBool (isIn a s)
       (λ bad. bad)
       (λ good. absurd (omega (arith, rw (passes, good) at (ap (λ (said : ℕ × ℕ × ℕ). said .1) (promise .says)))))
@@ -117,7 +119,7 @@ module _ (n : ℕ) (a : List ℕ) where
   -- the job cursor: a start that is accepted gives the cursor of its block, which belongs
   pub started-belongs : (b : ℕ) (c : Cursor) → Starts n a b (Ready c) → (c .block ≡ b) × Belongs n a c
   started-belongs b c promise =
-      let passes : sectorOfFault n a b ≡ 0 = sym (ap (λ (said : ℕ × ℕ × ℕ × ℕ). said .0) (promise .says)) in
+      let passes : sectorOfFault n a b ≡ 0 = sym (gives-number promise (λ said. said .0) (λ k. refl) refl) in
       let block : c .block ≡ b = rw passes at (ap (λ (said : ℕ × ℕ × ℕ × ℕ). said .2) (promise .says)) in
       let count : c .skipped ≡ skippedBefore n a b = rw passes at (ap (λ (said : ℕ × ℕ × ℕ × ℕ). said .3) (promise .says)) in
       (block, record { within = omega (arith, block, block-below n a b passes); counts = rw block count })
@@ -127,7 +129,7 @@ module _ (n : ℕ) (a : List ℕ) where
       (c : Cursor) (s : ℕ) (next : Cursor) → Steps n a c (SteppedAt s next) →
       ((fresh : Placed) → SectorOf n a (c .block) fresh → fresh ≡ At s) × Onward n a c next
   step-goes-on c s next promise =
-      let passes : stepFault n a c ≡ 0 = sym (ap (λ (said : ℕ × ℕ × ℕ × ℕ). said .0) (promise .says)) in
+      let passes : stepFault n a c ≡ 0 = sym (gives-number promise (λ said. said .0) (λ k. refl) refl) in
       let here : s ≡ place (isIn a) n (c .block) = rw passes at (ap (λ (said : ℕ × ℕ × ℕ × ℕ). said .1) (promise .says)) in
       let block : next .block ≡ suc (c .block) = rw passes at (ap (λ (said : ℕ × ℕ × ℕ × ℕ). said .2) (promise .says)) in
       let count : next .skipped ≡ skippedBefore n a (suc (c .block)) = rw passes at (ap (λ (said : ℕ × ℕ × ℕ × ℕ). said .3) (promise .says)) in (
@@ -165,7 +167,7 @@ module _ (shape : Shape) (a : List ℕ) where
       OnDrive shape (address .cylinder) (address .head) (address .sector)
       × Lies (isIn a) (sizeOf shape) b (sectorAt shape (address .cylinder) (address .head) (address .sector))
   address-lies b address promise =
-      let passes : skippedBlockFault shape a b ≡ 0 = sym (ap (λ (said : ℕ × ℕ × ℕ × ℕ). said .0) (promise .says)) in
+      let passes : skippedBlockFault shape a b ≡ 0 = sym (gives-number promise (λ said. said .0) (λ k. refl) refl) in
       let drive : skippedFault shape a ≡ 0 = block-drive shape a b passes in
       let proper : Proper (sizeOf shape) a = drive-proper shape a drive in
       let lies : Lies (isIn a) (sizeOf shape) b (place (isIn a) (sizeOf shape) b) =
@@ -183,7 +185,7 @@ module _ (shape : Shape) (a : List ℕ) where
       (b : ℕ) (address : Address) → AddressOf shape a b (LocatedAt address) → (result : Named) →
       BlockAt shape a (address .cylinder) (address .head) (address .sector) result → result ≡ Block b
   address-names-block b address promise result names =
-      let passes : skippedBlockFault shape a b ≡ 0 = sym (ap (λ (said : ℕ × ℕ × ℕ × ℕ). said .0) (promise .says)) in
+      let passes : skippedBlockFault shape a b ≡ 0 = sym (gives-number promise (λ said. said .0) (λ k. refl) refl) in
       let there = address-lies b address promise in
       let fault : skippedPlaceFault shape a (address .cylinder) (address .head) (address .sector) ≡ 0 =
       rw (block-drive shape a b passes) (rw (tells-on-drive shape (address .cylinder) (address .head) (address .sector) .told (there .0))) in

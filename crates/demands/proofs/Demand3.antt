@@ -1,6 +1,7 @@
 -- Demand 3: a night's scan names blocks of the map in use, and Format accepts it without a change of the kinds of list that the map is over. Then the new map is the old one with the named blocks left out: to find a new block, count past the named ones among the old blocks, and go where the old map has the block that you come to. And two nights in a row are one night, whose list is the first one's and the second one's together, all in the numbers of the first.
 -- It is said over demand 2's map (`Lies`, `place`), since the identity map would obey the law too.
 -- Assumes nothing.
+use Rattle.paper.proofs.Kept.{gives-number, fills-gives}
 use Prim.Native.Nat.{ℕ, zero, suc, _≤_}
 use mathlib.Core.Path.{_≡_, refl, sym, _∙_, ap}
 use mathlib.Core.Logic.{inl, inr}
@@ -43,7 +44,7 @@ module _ (n : ℕ) (p g : List ℕ) (space option : ℕ) (night : ScanNight spac
       (accepted : Formats n p g space option d grown list (Done grownLong listLong spaceAfter) grownAfter listAfter)
     where
       plan-none : planFault n p g space option d ≡ 0
-      plan-none = orElse-first (planFault n p g space option d) _ (sym (ap (λ (said : ℕ × ℕ × ℕ × ℕ). said .0) (accepted .says)))
+      plan-none = orElse-first (planFault n p g space option d) _ (sym (gives-number (fills-gives accepted) (λ said. said .0) (λ k. refl) refl))
 
       new-is : take listLong listAfter ≡ newList n p g space option d
       new-is = format-hands n p g space option d grown list grownLong listLong spaceAfter grownAfter listAfter accepted .1 .0 .first
@@ -106,7 +107,7 @@ module _ (n : ℕ) (p g : List ℕ) (space option : ℕ) (night : ScanNight spac
           plan-second : planFault n p (newGrown n p g space option d) space option e ≡ 0
           plan-second =
               rw (grown-is, same-space)
-              at (orElse-first (planFault n p (take grownLong grownAfter) spaceAfter option e) _ (sym (ap (λ (said : ℕ × ℕ × ℕ × ℕ). said .0) (accepted2 .says))))
+              at (orElse-first (planFault n p (take grownLong grownAfter) spaceAfter option e) _ (sym (gives-number (fills-gives accepted2) (λ said. said .0) (λ k. refl) refl)))
 
           -- the joined list, named in the numbers that the first list is written in
           abbrev one-list : List ℕ

@@ -13,6 +13,7 @@ use Rattle.skip.specs.declared.Cursor.{Cursor}
 use Rattle.skip.specs.Promises as Skip
 use Rattle.skipped.specs.Promises as Skipped
 use Rattle.page.specs.Promises as Page
+use Rattle.format.proofs.Held.{grown-holds, list-holds}
 use Rattle.format.specs.Promises.{Formats}
 use Rattle.first_table.specs.Promises.{FirstTable}
 use Rattle.spares.specs.Promises as Spares
@@ -21,20 +22,20 @@ use Rattle.image.proofs.Lent.{lends-one}
 use Rattle.reading.specs.Promises as Reading
 use Rattle.demands.specs.Mission.{OneResult, OneFilled, OneFilledTwice, OneLent}
 
-module _ {Answer Said : Type 0} (said : Answer → Said) (stated : Answer) (numbers : Said) where
-  pub gives-determines : OneResult (Gives said stated numbers)
+module _ {Answer Said : Type 0} (said : Answer → Said) (nothing : ℕ → Said) (refused : ℕ → Answer) (fault : ℕ) (accepted : Answer) where
+  pub gives-determines : OneResult (Gives said nothing refused fault accepted)
   gives-determines first second one other = gives-one one other
 
-  pub fills-determines : (filled : List ℕ) → OneFilled (Fills said stated numbers filled)
-  fills-determines filled first second one other = let same = fills-one one other in λ i. (same .0 i, same .1 i)
+  pub fills-determines : (before filled : List ℕ) → OneFilled (Fills said nothing refused fault accepted before filled)
+  fills-determines before filled first second one other = let same = fills-one one other in λ i. (same .0 i, same .1 i)
 
 pub formats-determines :
     (n : ℕ) (p g : List ℕ) (space option : ℕ) (d grown list : List ℕ) → OneFilledTwice (Formats n p g space option d grown list)
 formats-determines n p g space option d grown list first second one other =
     let answers : first .0 ≡ second .0 = one .answers ∙ sym (other .answers) in
-    let grown-holds : first .1 ≡ second .1 = one .grown-holds ∙ sym (other .grown-holds) in
-    let list-holds : first .2 ≡ second .2 = one .list-holds ∙ sym (other .list-holds) in
-    λ i. (answers i, grown-holds i, list-holds i)
+    let same-grown : first .1 ≡ second .1 = grown-holds one ∙ sym (grown-holds other) in
+    let same-list : first .2 ≡ second .2 = list-holds one ∙ sym (list-holds other) in
+    λ i. (answers i, same-grown i, same-list i)
 
 pub lends-determines : (bytes : RefT (List ℕ)) (at : ℕ) (held : List ℕ) → OneLent (Image.Lends bytes at held)
 lends-determines bytes at held first second one other =
@@ -42,38 +43,38 @@ lends-determines bytes at held first second one other =
 
 module _ (n : ℕ) (a : List ℕ) where
   pub skip-sector-of : (b : ℕ) → OneResult (Skip.SectorOf n a b)
-  skip-sector-of b = gives-determines _ _ _
+  skip-sector-of b = gives-determines _ _ _ _ _
 
   pub skip-block-on : (s : ℕ) → OneResult (Skip.BlockOn n a s)
-  skip-block-on s = gives-determines _ _ _
+  skip-block-on s = gives-determines _ _ _ _ _
 
   pub skip-cursor-start : (b : ℕ) → OneResult (Skip.Starts n a b)
-  skip-cursor-start b = gives-determines _ _ _
+  skip-cursor-start b = gives-determines _ _ _ _ _
 
   pub skip-cursor-check : (c : Cursor) → OneResult (Skip.Checks n a c)
-  skip-cursor-check c = gives-determines _ _ _
+  skip-cursor-check c = gives-determines _ _ _ _ _
 
   pub skip-cursor-step : (c : Cursor) → OneResult (Skip.Steps n a c)
-  skip-cursor-step c = gives-determines _ _ _
+  skip-cursor-step c = gives-determines _ _ _ _ _
 
 module _ (shape : Shape) where
   pub shape-sector-of : (cylinder head sector : ℕ) → OneResult (Shapes.SectorOf shape cylinder head sector)
-  shape-sector-of cylinder head sector = gives-determines _ _ _
+  shape-sector-of cylinder head sector = gives-determines _ _ _ _ _
 
   pub shape-address-of : (sector : ℕ) → OneResult (Shapes.AddressOf shape sector)
-  shape-address-of sector = gives-determines _ _ _
+  shape-address-of sector = gives-determines _ _ _ _ _
 
   pub skipped-address-of : (a : List ℕ) (b : ℕ) → OneResult (Skipped.AddressOf shape a b)
-  skipped-address-of a b = gives-determines _ _ _
+  skipped-address-of a b = gives-determines _ _ _ _ _
 
   pub skipped-block-at : (a : List ℕ) (cylinder head sector : ℕ) → OneResult (Skipped.BlockAt shape a cylinder head sector)
-  skipped-block-at a cylinder head sector = gives-determines _ _ _
+  skipped-block-at a cylinder head sector = gives-determines _ _ _ _ _
 
 pub page-read : (page room : List ℕ) → OneFilled (Page.Reads page room)
-page-read page room = fills-determines _ _ _ _
+page-read page room = fills-determines _ _ _ _ _ _ _
 
 pub page-write : (n kind : ℕ) (list room : List ℕ) → OneFilled (Page.Writes n kind list room)
-page-write n kind list room = fills-determines _ _ _ _
+page-write n kind list room = fills-determines _ _ _ _ _ _ _
 
 pub format-format :
     (n : ℕ) (p g : List ℕ) (space option : ℕ) (d grown list : List ℕ) → OneFilledTwice (Formats n p g space option d grown list)
@@ -81,47 +82,47 @@ format-format = formats-determines
 
 module _ (shape : Shape) (r : ℕ) (t : List ℕ) where
   pub spares-sector-of : (b : ℕ) → OneResult (Spares.SectorOf shape r t b)
-  spares-sector-of b = gives-determines _ _ _
+  spares-sector-of b = gives-determines _ _ _ _ _
 
   pub spares-address-of : (b : ℕ) → OneResult (Spares.AddressOf shape r t b)
-  spares-address-of b = gives-determines _ _ _
+  spares-address-of b = gives-determines _ _ _ _ _
 
   pub spares-shift : (b : ℕ) → OneResult (Spares.ShiftOf shape r t b)
-  spares-shift b = gives-determines _ _ _
+  spares-shift b = gives-determines _ _ _ _ _
 
   pub spares-block-on : (s : ℕ) → OneResult (Spares.BlockOn shape r t s)
-  spares-block-on s = gives-determines _ _ _
+  spares-block-on s = gives-determines _ _ _ _ _
 
   pub spares-block-at : (cylinder head sector : ℕ) → OneResult (Spares.BlockAt shape r t cylinder head sector)
-  spares-block-at cylinder head sector = gives-determines _ _ _
+  spares-block-at cylinder head sector = gives-determines _ _ _ _ _
 
   pub spares-replace : (b : ℕ) → OneFilled (Spares.Replacement shape r t b)
-  spares-replace b = fills-determines _ _ _ _
+  spares-replace b = fills-determines _ _ _ _ _ _ _
 
   pub spares-census : OneResult (Spares.CensusOf shape r t)
-  spares-census = gives-determines _ _ _
+  spares-census = gives-determines _ _ _ _ _
 
 pub spares-first-table : (shape : Shape) (r : ℕ) (list room : List ℕ) → OneFilled (FirstTable shape r list room)
-spares-first-table shape r list room = fills-determines _ _ _ _
+spares-first-table shape r list room = fills-determines _ _ _ _ _ _ _
 
 pub image-write : (number : ℕ) (bytes : List ℕ) (forced : Bool) (room : List ℕ) → OneFilled (Image.Write number bytes forced room)
-image-write number bytes forced room = fills-determines _ _ _ _
+image-write number bytes forced room = fills-determines _ _ _ _ _ _ _
 
 pub image-header : (image : List ℕ) → OneResult (Image.Header image)
-image-header image = gives-determines _ _ _
+image-header image = gives-determines _ _ _ _ _
 
 pub image-judge : (image : List ℕ) (number : ℕ) → OneResult (Image.Judge image number)
-image-judge image number = gives-determines _ _ _
+image-judge image number = gives-determines _ _ _ _ _
 
 pub image-data : (image : RefT (List ℕ)) (number : ℕ) → OneLent (Image.Data image number)
 image-data image number = lends-determines _ _ _
 
 module _ (shape : Shape) (r : ℕ) (t : List ℕ) (b : ℕ) where
   pub reading-judge : (home spare : List ℕ) → OneResult (Reading.Judge shape r t b home spare)
-  reading-judge home spare = gives-determines _ _ _
+  reading-judge home spare = gives-determines _ _ _ _ _
 
   pub reading-data : (home spare : RefT (List ℕ)) → OneLent (Reading.Data shape r t b home spare)
   reading-data home spare = lends-determines _ _ _
 
   pub reading-spot : (home spare : List ℕ) → OneResult (Reading.Spots shape r t b home spare)
-  reading-spot home spare = gives-determines _ _ _
+  reading-spot home spare = gives-determines _ _ _ _ _

@@ -1,5 +1,6 @@
 -- A read of a replaced block moves the right way and hands back the spare's bytes: in a table that passes one place alone names the block, and the shift and the read both go by that place.
 -- Assumes nothing.
+use Rattle.paper.proofs.Kept.{gives-number, fills-gives}
 use Prim.Native.Nat.{ℕ, zero, suc, _+_, _-_, _%_, _<_}
 use mathlib.Core.Path.{_≡_, refl, sym, _∙_, ap}
 use mathlib.Core.Bool.{true, false}
@@ -10,13 +11,14 @@ use lib.ListN.{length, getD, take, drop}
 use denote.Ref.{RefT}
 use borrow.Author.Tests.{eq-eqb}
 use Rattle.paper.specs.Answers.{saidWritten}
+use Rattle.paper.specs.Checks.{answer}
 use Rattle.paper.specs.Limits.{dataSize, imageExtra}
 use Rattle.paper.specs.declared.Written.{Written}
 use Rattle.paper.proofs.Cases.{byFault}
 use Rattle.paper.proofs.Chain.{orElse-first, orElse-next}
 use Rattle.words.specs.Words.{Bytes}
 use Rattle.seek.specs.Every.{allBelow}
-use Rattle.seek.specs.First.{firstBelow}
+use Rattle.seek.specs.Lowest.{firstBelow}
 use Rattle.seek.specs.Search.{firstOr, rising}
 use Rattle.shape.specs.declared.Shape.{Shape}
 use Rattle.layout.specs.Layouts.{driveOf, homeCylinder, spareCylinder}
@@ -26,12 +28,12 @@ use Rattle.table.specs.Lookup.{placeOf, Replaced, isReplaced}
 use Rattle.table.proofs.Lookups.{tells-replaced, replaced-place}
 use Rattle.order.specs.Order.{outward}
 use Rattle.order.proofs.Signs.{minus-below}
-use Rattle.replacing.specs.Replacing.{Altered}
+use Rattle.replacing.specs.Replacing.{spareFor, Altered}
 use Rattle.spares.specs.declared.Replaced as Answers
-use Rattle.spares.specs.declared.Replaced.the-variants.{Place}
+use Rattle.spares.specs.declared.Replaced.the-variants.{Place, Refused as NotReplaced}
 use Rattle.spares.specs.Spares.{shiftOf, replaceFault}
 use Rattle.table.specs.Rules.{blockFault}
-use Rattle.spares.specs.Promises.{Replacement, replaced}
+use Rattle.spares.specs.Promises.{Replacement}
 use Rattle.spares.proofs.Accepted.{replace-block, after-passes}
 use Rattle.table.proofs.Exact.{block-ready}
 use Rattle.spares.proofs.Shifts.{shift-replaced, shift-leads}
@@ -45,9 +47,9 @@ use Rattle.reading.specs.Faults.{lentFault, blockReadFault}
 use Rattle.reading.specs.Promises.{Data, Judge}
 use Rattle.reading.proofs.Alike.{home-unread, verdict-alike, part-alike}
 use Rattle.reading.proofs.Parts.{refused-empty, accepted-data}
-use Rattle.reading.proofs.Spots.{spot-says}
 use Rattle.reading.proofs.Tracks.{seated-only, data-inside}
 use Rattle.reading.proofs.Written.{good-read, good-part}
+use Rattle.demands.proofs.ByKind.{spot-says}
 use Rattle.demands.specs.Mission.{AllowsOnly}
 use Rattle.demands.specs.Inputs.{small, afterEight}
 use Rattle.demands.specs.Incident.{spareStart, spareData, imageFrom, WholeTrack, SamePart, HandsBack, Safe}
@@ -76,7 +78,7 @@ module _ (shape : Shape) (r : ℕ) (t : List ℕ) (b q : ℕ) (passed : blockFau
   its-place : placeOf t b ≡ q
   its-place = replaced-place (block-ready shape r t b passed .obeys) is-named
 
-  its-sector : sectorIn (driveOf shape r) t b ≡ driveOf shape r .home + q % r
+  its-sector : sectorIn (driveOf shape r) t b ≡ driveOf shape r .l + q % r
   its-sector = seated-only (driveOf shape r) t b {Track = ℕ} 0 1 (block-ready shape r t b passed .obeys) (on-spare q in-table named) .1
 
   its-shift : shiftOf (driveOf shape r) t b ≡ pos (spareCylinder (driveOf shape r) q) -ℤ pos (homeCylinder (driveOf shape r) b)
@@ -162,19 +164,19 @@ module _ (shape : Shape) (r : ℕ) (t : List ℕ) (b q : ℕ) (passed : blockFau
   pub named-safe : Safe shape r t b q (pos (spareCylinder (driveOf shape r) q) -ℤ pos (homeCylinder (driveOf shape r) b))
   named-safe =
       record {
-        answers = allows (shifted-says (blockFault shape r t b) (shiftOf (driveOf shape r) t b)) (rw (passed, its-shift));
+        answers = allows (λ k. refl) (rw (passed, its-shift));
         leads = rw its-shift at shift-goes;
         spots = λ home spare.
-            allows-where (spot-says (blockReadFault dataSize shape r t b home spare) (isReplaced t b) (dataStart dataSize (driveOf shape r) t b))
+            allows-where (λ k. refl)
             (λ answer given-spot none.
-            let passes : blockReadFault dataSize shape r t b home spare ≡ 0 = sym (ap (λ (numbers : ℕ × ℕ × ℕ). numbers .0) (given-spot .says)) ∙ none in
+            let passes : blockReadFault dataSize shape r t b home spare ≡ 0 = sym (gives-number given-spot (λ said. said .0) (λ k. refl) (spot-says (isReplaced t b) (dataStart dataSize (driveOf shape r) t b))) ∙ none in
             given-spot .says ∙ rw (passes, is-replaced, its-sector));
         lends = λ home spare. allows-part (part-filled home spare);
         same-part = part-unread;
         same-verdict = verdict-unread;
         gives-back = λ home spare bytes whole whole′ long h stands.
             record {
-              accepted = allows (verdict-says (blockReadFault dataSize shape r t b (home .now) (spare .now))) (read-passes home spare bytes whole whole′ long h stands);
+              accepted = allows (λ k. refl) (rw (read-passes home spare bytes whole whole′ long h stands));
               bytes-lent = allows-part (data-lent home spare bytes whole whole′ long h stands);
             };
       }
@@ -187,7 +189,7 @@ one-less a (suc c) one = let none : suc c - suc a ≡ 0 = omega arith in minus-b
 -- an accepted replacement, and the table that it leaves
 module _ (shape : Shape) (r : ℕ) (t : List ℕ) (b q : ℕ) (after : List ℕ) (replacement : Replacement shape r t b (Place q) after) where
   passes : replaceFault shape r t b ≡ 0
-  passes = sym (ap (λ (numbers : ℕ × ℕ). numbers .0) (replacement .says))
+  passes = sym (gives-number (fills-gives replacement) (λ said. said .0) (λ k. refl) refl)
 
   altered : Altered (driveOf shape r) t b q after
   altered = replacement-alters shape r t b q after replacement
@@ -226,13 +228,13 @@ module _
         imageFrom (spareStart shape r q) (spare .now) ≡ take (dataSize + imageExtra) image →
         HandsBack shape r t b q home spare bytes
     written-back room image answer writes none stands =
-        let fits : writeFault dataSize bytes room ≡ 0 = sym (ap (λ (numbers : ℕ × ℕ). numbers .0) (writes .says)) ∙ none in
+        let fits : writeFault dataSize bytes room ≡ 0 = sym (gives-number (fills-gives writes) (λ said. said .0) (λ k. refl) refl) ∙ none in
         safe .gives-back home spare bytes whole whole′ (write-shows dataSize bytes room fits .0) h
         (stands ∙ rw (writes .holds) (room-image dataSize b bytes false room fits))
 
 -- the paper's own numbers: C 2, H 2, S 5, r 2, and block 6 goes to place 3, from cylinder 1 to cylinder 0
-module _ (answer : Answers.Replaced) (after : List ℕ) (replacement : Replacement small 2 afterEight 6 answer after) where
-  goes-to-3 : replaced small 2 afterEight 6 ≡ Place 3
+module _ (given : Answers.Replaced) (after : List ℕ) (replacement : Replacement small 2 afterEight 6 given after) where
+  goes-to-3 : answer (replaceFault small 2 afterEight 6) NotReplaced (Place (spareFor (driveOf small 2) afterEight 6)) ≡ Place 3
   unfolding allBelow placeOf firstBelow firstOr outward rising
   goes-to-3 = refl
 

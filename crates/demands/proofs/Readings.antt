@@ -8,7 +8,7 @@ use lib.ListN.{length, getD}
 use borrow.Author.Tests.{le-leb, lt-leb}
 use Rattle.paper.specs.Limits.{listMost}
 use Rattle.paper.specs.Refusals.{notRising, outside}
-use Rattle.seek.specs.First.{faultBelow}
+use Rattle.seek.specs.Lowest.{faultBelow}
 use Rattle.lists.specs.Proper.{listFault}
 use Rattle.lists.proofs.Unions.{union-holds}
 use Rattle.skip.specs.Translation.{blocks}

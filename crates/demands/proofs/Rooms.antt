@@ -1,7 +1,8 @@
 -- What an accepted call writes: the answered length is that of the list or of the bytes, these stand at the front of the room, and what stood behind them stays. (That a refused call leaves the whole room stands in `Demand1`.)
 -- Assumes nothing.
+use Rattle.paper.proofs.Kept.{gives-number, fills-gives}
 use Prim.Native.Nat.{ℕ, _+_}
-use mathlib.Core.Path.{_≡_, sym, ap}
+use mathlib.Core.Path.{_≡_, sym, ap, refl}
 use mathlib.Core.Bool.{Bool}
 use mathlib.Core.List.{List}
 use lib.ListN.{length, take, drop}
@@ -15,6 +16,7 @@ use Rattle.page.specs.Promises.{Reads, Writes}
 use Rattle.page.specs.declared.Paged.the-variants.{Page}
 use Rattle.page.proofs.Bytes.{length-pageBytes}
 use Rattle.format.specs.Spaces.{formatFault, newGrown, newList, newSpace}
+use Rattle.format.proofs.Held.{grown-holds, list-holds}
 use Rattle.format.specs.Promises.{Formats}
 use Rattle.format.specs.declared.Formatted.the-variants.{Done}
 use Rattle.shape.specs.declared.Shape.{Shape}
@@ -43,7 +45,7 @@ pub page-read-hands :
     (page room : List ℕ) (kind n entries : ℕ) (after : List ℕ) → Reads page room (Page kind n entries) after →
     (kind ≡ kindOf page) × ((n ≡ unitsOf page) × Handed (entriesOf page) room entries after)
 page-read-hands page room kind n entries after promise =
-    let passes : readFault page room ≡ 0 = sym (ap (λ (said : ℕ × ℕ × ℕ × ℕ). said .0) (promise .says)) in (
+    let passes : readFault page room ≡ 0 = sym (gives-number (fills-gives promise) (λ said. said .0) (λ k. refl) refl) in (
       rw passes at (ap (λ (said : ℕ × ℕ × ℕ × ℕ). said .1) (promise .says)),
       (
         rw passes at (ap (λ (said : ℕ × ℕ × ℕ × ℕ). said .2) (promise .says)),
@@ -55,7 +57,7 @@ page-read-hands page room kind n entries after promise =
 pub page-write-hands :
     (n kind : ℕ) (list room : List ℕ) (long : ℕ) (after : List ℕ) → Writes n kind list room (Length long) after → Handed (pageBytes n kind list) room long after
 page-write-hands n kind list room long after promise =
-    let passes : writeFault n kind list room ≡ 0 = sym (ap (λ (said : ℕ × ℕ). said .0) (promise .says)) in
+    let passes : writeFault n kind list room ≡ 0 = sym (gives-number (fills-gives promise) (λ said. said .0) (λ k. refl) refl) in
     handed (pageBytes n kind list) room long after
     (rw (length-pageBytes n kind list) (rw passes at (ap (λ (said : ℕ × ℕ). said .1) (promise .says))))
     (rw passes at (promise .holds))
@@ -67,10 +69,10 @@ pub format-hands :
     Handed (newGrown n p g space option d) grown grownLong grownAfter
     × (Handed (newList n p g space option d) list listLong listAfter × (spaceAfter ≡ newSpace space option))
 format-hands n p g space option d grown list grownLong listLong spaceAfter grownAfter listAfter promise =
-    let passes : formatFault n p g space option d grown list ≡ 0 = sym (ap (λ (said : ℕ × ℕ × ℕ × ℕ). said .0) (promise .says)) in (
-      handed (newGrown n p g space option d) grown grownLong grownAfter (rw passes at (ap (λ (said : ℕ × ℕ × ℕ × ℕ). said .1) (promise .says))) (rw passes at (promise .grown-holds)),
+    let passes : formatFault n p g space option d grown list ≡ 0 = sym (gives-number (fills-gives promise) (λ said. said .0) (λ k. refl) refl) in (
+      handed (newGrown n p g space option d) grown grownLong grownAfter (rw passes at (ap (λ (said : ℕ × ℕ × ℕ × ℕ). said .1) (promise .says))) (rw passes at (grown-holds promise)),
       (
-        handed (newList n p g space option d) list listLong listAfter (rw passes at (ap (λ (said : ℕ × ℕ × ℕ × ℕ). said .2) (promise .says))) (rw passes at (promise .list-holds)),
+        handed (newList n p g space option d) list listLong listAfter (rw passes at (ap (λ (said : ℕ × ℕ × ℕ × ℕ). said .2) (promise .says))) (rw passes at (list-holds promise)),
         rw passes at (ap (λ (said : ℕ × ℕ × ℕ × ℕ). said .3) (promise .says)),
       ),
     )
@@ -80,7 +82,7 @@ pub first-table-hands :
     (shape : Shape) (r : ℕ) (list room : List ℕ) (long : ℕ) (after : List ℕ) → FirstTable shape r list room (Length long) after →
     Handed (firstTable (driveOf shape r) list) room long after × IsFirstTable (driveOf shape r) list (take long after)
 first-table-hands shape r list room long after promise =
-    let passes : firstTableFault shape r list room ≡ 0 = sym (ap (λ (said : ℕ × ℕ). said .0) (promise .says)) in
+    let passes : firstTableFault shape r list room ≡ 0 = sym (gives-number (fills-gives promise) (λ said. said .0) (λ k. refl) refl) in
     let starts : IsFirstTable (driveOf shape r) list (firstTable (driveOf shape r) list) = first-made shape r list room passes in
     let hands : Handed (firstTable (driveOf shape r) list) room long after =
     handed (firstTable (driveOf shape r) list) room long after
@@ -93,7 +95,7 @@ pub image-write-hands :
     (number : ℕ) (bytes : List ℕ) (forced : Bool) (room : List ℕ) (long : ℕ) (after : List ℕ) → Write number bytes forced room (Length long) after →
     (long ≡ dataSize + imageExtra) × Handed (imageOf number bytes forced) room long after
 image-write-hands number bytes forced room long after promise =
-    let passes : imageWriteFault dataSize bytes room ≡ 0 = sym (ap (λ (said : ℕ × ℕ). said .0) (promise .says)) in
+    let passes : imageWriteFault dataSize bytes room ≡ 0 = sym (gives-number (fills-gives promise) (λ said. said .0) (λ k. refl) refl) in
     let is : long ≡ dataSize + imageExtra = rw passes at (ap (λ (said : ℕ × ℕ). said .1) (promise .says)) in (
       is,
       record {

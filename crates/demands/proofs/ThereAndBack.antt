@@ -1,6 +1,7 @@
 -- Pages and images there and back: what a call wrote, another reads again; and one changed bit of data changes its code.
 -- That a number is 32 bits and data is bytes, as the calls' types say, stands here as a hypothesis.
 -- Assumes nothing.
+use Rattle.paper.proofs.Kept.{gives-number, fills-gives}
 use Prim.Native.Nat.{ℕ, _+_, _^_, _<_, _≤_}
 use mathlib.Core.Path.{_≡_, refl, sym, _∙_, ap}
 use mathlib.Core.Bool.{Bool, true, false}
@@ -50,7 +51,7 @@ read-page-writes = read-then-write
 module _ (number : ℕ) (bytes : List ℕ) (fits : number < 2 ^ 32) (are-bytes : Bytes bytes) (room : List ℕ) (long : ℕ) (after : List ℕ) where
   module _ (forced : Bool) (wrote : Write number bytes forced room (Length long) after) where
     data-long : length bytes ≡ dataSize
-    data-long = write-shows dataSize bytes room (sym (ap (λ (said : ℕ × ℕ). said .0) (wrote .says))) .0
+    data-long = write-shows dataSize bytes room (sym (gives-number (fills-gives wrote) (λ said. said .0) (λ k. refl) refl)) .0
 
     image-is : take long after ≡ imageOf number bytes forced
     image-is = image-write-hands number bytes forced room long after wrote .1 .first
@@ -92,7 +93,7 @@ pub changed-data-not-good :
     (image : List ℕ) (number k byte : ℕ) → Bytes image → k < dataSize → byte < 256 → (byte ≡ getD image (headerSize + k) 0 → ⊥) →
     Judge image number Good → Judge (set image (headerSize + k) byte) number Good → ⊥
 changed-data-not-good image number k byte are-bytes inside low apart good again =
-    changed-byte dataSize image k byte inside number 256 refl are-bytes low apart (sym (good .says)) (sym (again .says))
+    changed-byte dataSize image k byte inside number 256 refl are-bytes low apart (sym (gives-number good (λ said. said) (λ k. refl) refl)) (sym (gives-number again (λ said. said) (λ k. refl) refl))
 
 -- an image has one verdict
 pub one-verdict : (image : List ℕ) (number j k : ℕ) → ContentsJudged dataSize image number j → ContentsJudged dataSize image number k → j ≡ k

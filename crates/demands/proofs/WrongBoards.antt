@@ -17,7 +17,7 @@ use Rattle.paper.specs.Refusals.{outside, noSpare, forcedError, badCode}
 use Rattle.paper.specs.declared.Placed.the-variants.{At}
 use Rattle.seek.specs.Count.{countBelow, times}
 use Rattle.seek.specs.Every.{allBelow}
-use Rattle.seek.specs.First.{firstBelow, faultBelow}
+use Rattle.seek.specs.Lowest.{firstBelow, faultBelow}
 use Rattle.seek.specs.Search.{firstOr, rising}
 use Rattle.words.specs.Words.{bytes32, bytesOf, word16At, word32At, entriesAt}
 use Rattle.words.proofs.Stores.{part-sets}
@@ -25,7 +25,8 @@ use Rattle.lists.specs.Union.{isIn, into, union}
 use Rattle.skip.specs.Skipping.{Lies, goodsBefore, place}
 use Rattle.skip.specs.Walk.{entriesBelow}
 use Rattle.skip.specs.Translation.{sectorOfFault, SectorOfJudged}
-use Rattle.skip.specs.Cursors.{cursorAt, stepped}
+use Rattle.skip.specs.Cursors.{cursorAt}
+use Rattle.skip.proofs.Cursoring.{stepped}
 use Rattle.skip.proofs.Lying.{lies-one-block}
 use Rattle.skip.proofs.Composition.{place-after}
 use Rattle.skip.proofs.Exact.{sector-of-exactly}
@@ -58,7 +59,8 @@ use Rattle.image.proofs.Exact.{judge-exactly}
 use Rattle.image.proofs.Images.{replicate-below, length-image, written-data, written-good}
 use Rattle.reading.specs.Tracks.{Seated, on-spare, bytesIn, imageAt, sectorIn, headerFor}
 use Rattle.reading.specs.Faults.{lentFault}
-use Rattle.reading.specs.Promises.{AtSpot, in-spare, spotted}
+use Rattle.reading.specs.Promises.{AtSpot, in-spare}
+use Rattle.reading.proofs.Spots.{spotted}
 use Rattle.reading.specs.declared.answers.Spot.the-variants.{InSpare}
 use Rattle.reading.proofs.Tracks.{image-inside, data-inside}
 use Rattle.reading.proofs.Written.{good-read}
@@ -114,10 +116,10 @@ pub same-spare-shared :
     (s : ℕ) →
     (sameSpare s small 2 noneReplaced 0 ≡ At s)
     × (sameSpare s small 2 noneReplaced 1 ≡ At s)
-    × (Table.Lies (driveOf small 2) noneReplaced 0 s → Table.Lies (driveOf small 2) noneReplaced 1 s → ⊥)
+    × (Table.Resides (driveOf small 2) noneReplaced 0 s → Table.Resides (driveOf small 2) noneReplaced 1 s → ⊥)
 same-spare-shared s = (rw noneReplaced-passes, rw noneReplaced-passes, shared)
   where
-    shared : Table.Lies (driveOf small 2) noneReplaced 0 s → Table.Lies (driveOf small 2) noneReplaced 1 s → ⊥
+    shared : Table.Resides (driveOf small 2) noneReplaced 0 s → Table.Resides (driveOf small 2) noneReplaced 1 s → ⊥
     shared first second =
         let ready = table-ready small 2 noneReplaced noneReplaced-passes in
         let same = lies-only (driveOf small 2) noneReplaced 0 (ready .obeys) first ∙ sym (lies-only (driveOf small 2) noneReplaced 1 (ready .obeys) second) in

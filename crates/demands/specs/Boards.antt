@@ -28,7 +28,6 @@ use Rattle.skip.specs.declared.Job.{Job}
 use Rattle.skip.specs.declared.Job.the-variants.{At as SteppedTo, Refused as NotStepped}
 use Rattle.page.specs.Layout.{kindOf, unitsOf, entriesOf}
 use Rattle.page.specs.Pages.{readFault}
-use Rattle.page.specs.Promises.{paged}
 use Rattle.page.specs.declared.Paged.{Paged}
 use Rattle.page.specs.declared.Paged.the-variants.{Page, Refused as NotPaged}
 use Rattle.format.specs.Options.{add, grownBy}
@@ -42,9 +41,9 @@ use Rattle.table.specs.Rules.{tableFault}
 use Rattle.table.specs.Lookup.{placeOf, isReplaced}
 use Rattle.order.specs.Order.{placeIn, kept, outward, blockStart, freeAt}
 use Rattle.table.specs.declared.Census.{Census}
-use Rattle.replacing.specs.Replacing.{descriptorAt}
+use Rattle.replacing.specs.Replacing.{spareFor, descriptorAt}
+use Rattle.spares.specs.Spares.{replaceFault}
 use Rattle.table.specs.Rules.{blockFault as spareBlockFault}
-use Rattle.spares.specs.Promises.{replaced}
 use Rattle.spares.specs.declared.Replaced.{Replaced}
 use Rattle.spares.specs.declared.Replaced.the-variants.{Place, Refused as NotReplaced}
 use Rattle.spares.specs.declared.Shifted.{Shifted}
@@ -145,7 +144,8 @@ madeUpEntries count page room =
 
 -- page::read: puts the entries into the room whether or not it refuses
 abbrev pub writesEarly : List ℕ → List ℕ → Paged × List ℕ
-writesEarly page room = (paged page room, written (entriesOf page) room)
+writesEarly page room =
+    (answer (readFault page room) NotPaged (Page (kindOf page) (unitsOf page) (length (entriesOf page))), written (entriesOf page) room)
 
 -- format::format: any lengths
 abbrev pub madeUpLengths : ℕ → ℕ → ℕ → List ℕ → List ℕ → ℕ → ℕ → List ℕ → List ℕ → List ℕ → Formatted × List ℕ × List ℕ
@@ -184,7 +184,7 @@ sparesNone shape r t b = (NotReplaced noSpare, t)
 
 -- spares::replace: answers the right place and leaves the table
 abbrev pub leavesTable : Shape → ℕ → List ℕ → ℕ → Replaced × List ℕ
-leavesTable shape r t b = (replaced shape r t b, t)
+leavesTable shape r t b = (answer (replaceFault shape r t b) NotReplaced (Place (spareFor (driveOf shape r) t b)), t)
 
 -- how far the nearer end of the table block lies from an offset
 abbrev pub nearerEnd : ℕ → ℕ
@@ -255,7 +255,7 @@ partAt bytes at held = record { ptr = (bytes .ptr .0, at + bytes .ptr .1); name 
 
 -- the sector image at a block's home
 abbrev pub homeImage : Shape → ℕ → ℕ → List ℕ → List ℕ
-homeImage shape r b home = imageAt dataSize (bytesIn dataSize (b % driveOf shape r .home)) home
+homeImage shape r b home = imageAt dataSize (bytesIn dataSize (b % driveOf shape r .l)) home
 
 -- reading::data: looks at home for every block
 abbrev pub readsHome : Shape → ℕ → List ℕ → ℕ → RefT (List ℕ) → RefT (List ℕ) → RefT (List ℕ)
@@ -263,4 +263,4 @@ readsHome shape r t b home spare =
     answer
     (lentFault dataSize shape r t b (home .now) (spare .now) orElse contentsFault dataSize (homeImage shape r b (home .now)) b)
     (λ fault. partAt home 0 [])
-    (partAt home (bytesIn dataSize (b % driveOf shape r .home) + headerSize) (dataOf dataSize (homeImage shape r b (home .now))))
+    (partAt home (bytesIn dataSize (b % driveOf shape r .l) + headerSize) (dataOf dataSize (homeImage shape r b (home .now))))

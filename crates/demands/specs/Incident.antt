@@ -20,7 +20,7 @@ use Rattle.demands.specs.Mission.{AllowsOnly}
 
 -- where the sector image of spare q starts in the image of its track: the spare's sector there, l + q mod r, times 530
 abbrev pub spareStart : Shape → ℕ → ℕ → ℕ
-spareStart shape r q = bytesIn dataSize (driveOf shape r .home + q % r)
+spareStart shape r q = bytesIn dataSize (driveOf shape r .l + q % r)
 
 -- where its data begins: 16 bytes further
 abbrev pub spareData : Shape → ℕ → ℕ → ℕ

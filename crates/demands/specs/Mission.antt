@@ -19,13 +19,13 @@ use Rattle.table.specs.Counting.{codeCount}
 use Rattle.table.specs.declared.Census.{Census}
 
 -- demand 1: the result's number is given exactly when the paper's table gives it; a refusal says its number and nothing else; and a result that is a refusal has a number, so that 0 means accepted
-pub record ByTheNumbers {Result Said : Type 0} (said : Result → Said) (number : Said → ℕ) (nothing : ℕ → Said) (refused : ℕ → Result) (Judged : ℕ → Type 0) (result : Result) : Type 0 where
+pub record ByTheNumbers {Result Said : Type 0} (said : Result → Said) (number : Said → ℕ) (nothing : ℕ → Said) (Refusal : ℕ → Result → Type 0) (Judged : ℕ → Type 0) (result : Result) : Type 0 where
   pub exactly : Exactly Judged (number (said result))
   pub says-nothing : (number (said result) ≡ 0 → ⊥) → said result ≡ nothing (number (said result))
-  pub never-refused-0 : result ≡ refused 0 → ⊥
+  pub never-refused-0 : Refusal 0 result → ⊥
 
 -- demand 1: lent memory keeps its bytes where the call refuses
-abbrev pub Keeps : ℕ → List ℕ → List ℕ → Type 0
+abbrev pub Keeps : {Lent : Type 0} → ℕ → Lent → Lent → Type 0
 Keeps fault before after = (fault ≡ 0 → ⊥) → after ≡ before
 
 -- demand 1 for a part that is handed back: empty exactly where the number that the paper's table gives is not 0, else of its whole size

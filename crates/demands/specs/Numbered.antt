@@ -1,5 +1,6 @@
 -- Demand 1 for each kind of answer: where its number stands, what a refusal says beside it, and what a refusal is.
 use Prim.Native.Nat.{ℕ}
+use mathlib.Core.Path.{_≡_}
 use lib.IntN.{pos}
 use Rattle.paper.specs.Answers.{saidPlaced, saidNamed, saidWritten}
 use Rattle.paper.specs.declared.Placed.{Placed}
@@ -40,52 +41,57 @@ use Rattle.demands.specs.Mission.{ByTheNumbers}
 
 -- a sector
 abbrev pub PlacedBy : (ℕ → Type 0) → Placed → Type 0
-PlacedBy = ByTheNumbers saidPlaced (λ numbers. numbers .0) (λ k. (k, 0)) NotPlaced
+PlacedBy = ByTheNumbers saidPlaced (λ numbers. numbers .0) (λ k. (k, 0)) (λ k result. result ≡ NotPlaced k)
 
 -- a block or no block
 abbrev pub NamedBy : (ℕ → Type 0) → Named → Type 0
-NamedBy = ByTheNumbers saidNamed (λ numbers. numbers .0) (λ k. (k, 0, 0)) NotNamed
+NamedBy = ByTheNumbers saidNamed (λ numbers. numbers .0) (λ k. (k, 0, 0)) (λ k result. result ≡ NotNamed k)
 
 -- a length
 abbrev pub WrittenBy : (ℕ → Type 0) → Written → Type 0
-WrittenBy = ByTheNumbers saidWritten (λ numbers. numbers .0) (λ k. (k, 0)) NotWritten
+WrittenBy = ByTheNumbers saidWritten (λ numbers. numbers .0) (λ k. (k, 0)) (λ k result. result ≡ NotWritten k)
 
 -- cylinder, head and sector
 abbrev pub LocatedBy : (ℕ → Type 0) → Located → Type 0
-LocatedBy = ByTheNumbers saidLocated (λ numbers. numbers .0) (λ k. (k, 0, 0, 0)) NotLocated
+LocatedBy = ByTheNumbers saidLocated (λ numbers. numbers .0) (λ k. (k, 0, 0, 0)) (λ k result. result ≡ NotLocated k)
+
+-- a job that is refused with a number, whatever cursor it hands back
+pub record JobRefused (k : ℕ) (job : Job) : Type 0 where
+  pub back : Cursor
+  pub is : job ≡ NotReady k back
 
 -- a sector and the cursor after it; a refusal hands back a cursor, and says it
 abbrev pub JobBy : Cursor → (ℕ → Type 0) → Job → Type 0
-JobBy back = ByTheNumbers saidJob (λ numbers. numbers .0) (λ k. (k, 0, back .block, back .skipped)) (λ k. NotReady k back)
+JobBy back = ByTheNumbers saidJob (λ numbers. numbers .0) (λ k. (k, 0, back .block, back .skipped)) JobRefused
 
 -- kind, N and entries
 abbrev pub PagedBy : (ℕ → Type 0) → Paged → Type 0
-PagedBy = ByTheNumbers saidPaged (λ numbers. numbers .0) (λ k. (k, 0, 0, 0)) NotPaged
+PagedBy = ByTheNumbers saidPaged (λ numbers. numbers .0) (λ k. (k, 0, 0, 0)) (λ k result. result ≡ NotPaged k)
 
 -- two lengths and a space
 abbrev pub FormattedBy : (ℕ → Type 0) → Formatted → Type 0
-FormattedBy = ByTheNumbers saidFormatted (λ numbers. numbers .0) (λ k. (k, 0, 0, 0)) NotFormatted
+FormattedBy = ByTheNumbers saidFormatted (λ numbers. numbers .0) (λ k. (k, 0, 0, 0)) (λ k result. result ≡ NotFormatted k)
 
 -- a shift
 abbrev pub ShiftedBy : (ℕ → Type 0) → Shifted → Type 0
-ShiftedBy = ByTheNumbers saidShifted (λ numbers. numbers .0) (λ k. (k, pos 0)) NotShifted
+ShiftedBy = ByTheNumbers saidShifted (λ numbers. numbers .0) (λ k. (k, pos 0)) (λ k result. result ≡ NotShifted k)
 
 -- a place
 abbrev pub ReplacedBy : (ℕ → Type 0) → Replaced → Type 0
-ReplacedBy = ByTheNumbers saidReplaced (λ numbers. numbers .0) (λ k. (k, 0)) NotReplaced
+ReplacedBy = ByTheNumbers saidReplaced (λ numbers. numbers .0) (λ k. (k, 0)) (λ k result. result ≡ NotReplaced k)
 
 -- five counts
 abbrev pub CountedBy : (ℕ → Type 0) → Counted → Type 0
-CountedBy = ByTheNumbers saidCounted (λ numbers. numbers .0) (λ k. (k, 0, 0, 0, 0, 0)) NotCounted
+CountedBy = ByTheNumbers saidCounted (λ numbers. numbers .0) (λ k. (k, 0, 0, 0, 0, 0)) (λ k result. result ≡ NotCounted k)
 
 -- the number of a header
 abbrev pub HeadBy : (ℕ → Type 0) → Head → Type 0
-HeadBy = ByTheNumbers saidHead (λ numbers. numbers .0) (λ k. (k, 0)) NoHead
+HeadBy = ByTheNumbers saidHead (λ numbers. numbers .0) (λ k. (k, 0)) (λ k result. result ≡ NoHead k)
 
 -- a verdict, which is its number alone
 abbrev pub VerdictBy : (ℕ → Type 0) → Verdict → Type 0
-VerdictBy = ByTheNumbers saidVerdict (λ number. number) (λ k. k) NotGood
+VerdictBy = ByTheNumbers saidVerdict (λ number. number) (λ k. k) (λ k result. result ≡ NotGood k)
 
 -- an image and an offset
 abbrev pub SpotBy : (ℕ → Type 0) → Spot → Type 0
-SpotBy = ByTheNumbers saidSpot (λ numbers. numbers .0) (λ k. (k, 0, 0)) NotSpotted
+SpotBy = ByTheNumbers saidSpot (λ numbers. numbers .0) (λ k. (k, 0, 0)) (λ k result. result ≡ NotSpotted k)

@@ -7,3 +7,4 @@ pub mod Exact
 pub mod Scans
 pub mod Named
 pub mod Bits
+pub mod Held

@@ -3,7 +3,7 @@
 use mathlib.Core.Path.{_≡_, refl}
 use mathlib.Core.List.{[], _∷_}
 use Rattle.seek.specs.Count.{countBelow}
-use Rattle.seek.specs.First.{firstBelow, faultBelow}
+use Rattle.seek.specs.Lowest.{firstBelow, faultBelow}
 use Rattle.lists.specs.Union.{isIn, into, union}
 use Rattle.skip.specs.Skipping.{goodsBefore, place}
 use Rattle.skip.specs.Translation.{blocks}

@@ -8,7 +8,16 @@ use native.Mathlib.Omega.{arith}
 use lib.ListN.{length, getD, length-append, List·getD-append}
 use borrow.Author.Tests.{lt-ltb, le-ltb}
 use Rattle.paper.proofs.Cases.{byLt}
-use Rattle.listing_text.specs.Decimal.{digitZero, digit, digitsIn, decimal, saidAfter, saidBy}
+use Rattle.listing_text.specs.Decimal.{digitZero, digit, digitsIn, decimal}
+
+-- the number that digits say after those that said so much
+unfoldable pub saidAfter : ℕ → List ℕ → ℕ
+saidAfter before [] = before
+saidAfter before (d ∷ text) = saidAfter (before * 10 + (d - digitZero)) text
+
+-- the number that digits say
+abbrev pub saidBy : List ℕ → ℕ
+saidBy text = saidAfter 0 text
 
 -- more steps than the number has digits change nothing
 steps-enough : (steps more n : ℕ) → n < steps → n < more → digitsIn steps n ≡ digitsIn more n

@@ -16,7 +16,8 @@ use Rattle.words.proofs.Runs.{length-entriesAt, getD-entriesAt, entriesAt-next}
 use Rattle.page.specs.Layout.{entriesPlace}
 use Rattle.words.proofs.Stores.{sets-append, sets-next}
 use Rattle.listing_text.specs.Decimal.{decimal}
-use Rattle.listing_text.specs.Text.{line, space, lineEnd, badWord, blocksWord, unitsWord, frameText, entriesText, lineMost, frameMost, Puts}
+use Rattle.listing_text.specs.Text.{line, space, lineEnd, sectorsWord, blocksWord, badWord, frameText, entriesText}
+use Rattle.listing_text.specs.Steps.{lineMost, frameMost, Puts}
 use Rattle.listing_text.proofs.Digits.{decimal-short}
 
 module _ {room : List ℕ} {at : ℕ} where
@@ -74,13 +75,13 @@ entries-short (entry ∷ list) inside =
       entries-short list (inside-tail unitsMost entry list inside),
     )
 
-pub frame-short : (kind n entries : ℕ) → n ≤ unitsMost → length (frameText kind n entries) ≤ frameMost
+pub frame-short : (n entries : ℕ) → n ≤ unitsMost → length (frameText n entries) ≤ frameMost
 unfolding frameText
-frame-short kind n entries few =
+frame-short n entries few =
     omega (
       arith,
-      length-append (line (unitsWord kind) n) (line blocksWord (n - entries)),
-      line-short (unitsWord kind) n few,
+      length-append (line sectorsWord n) (line blocksWord (n - entries)),
+      line-short sectorsWord n few,
       line-short blocksWord (n - entries) (omega arith),
     )
 

@@ -1,12 +1,13 @@
--- What a page that passes its checks gives its listing, how large the number of a refusal is, and how a listing that is written keeps its promise.
+-- What a page that passes its checks gives its listing, how large the number of a refusal is, how a listing that is written keeps its promise, and the listings that the paper shows.
 -- Assumes nothing.
-use Prim.Native.Nat.{ℕ, _+_, _*_, _≤_}
-use mathlib.Core.Path.{_≡_, _∙_, ap}
-use mathlib.Core.List.{List}
+use Prim.Native.Nat.{ℕ, _+_, _*_, _<_, _≤_}
+use mathlib.Core.Path.{_≡_, refl, _∙_, ap}
+use mathlib.Core.List.{List, [], _∷_, _++_}
 use native.Mathlib.Nat.{zero-add}
 use native.Mathlib.Omega.{arith}
 use lib.ListN.{length, drop, length-append}
 use lib.Dec.{ltb}
+use borrow.Author.Tests.{lt-ltb}
 use Rattle.paper.specs.Checks.{refuse}
 use Rattle.paper.specs.Refusals.{badPage}
 use Rattle.paper.specs.Limits.{pageFrame, entrySize, unitsMost, listingMost}
@@ -14,14 +15,18 @@ use Rattle.paper.specs.Exactly.{Exactly, When, earlier, later}
 use Rattle.paper.proofs.Cases.{byBool}
 use Rattle.paper.proofs.Chain.{orElse-first, orElse-next}
 use Rattle.paper.proofs.Rows.{row, rows, tells-lt, not-over}
-use Rattle.lists.specs.Proper.{Proper, Inside, LowestFault}
+use Rattle.seek.specs.Lowest.{faultBelow, LowestAt}
+use Rattle.lists.specs.Proper.{Proper, Inside}
+use Rattle.words.specs.Words.{word32At, entriesAt}
 use Rattle.words.proofs.Runs.{length-entriesAt}
-use Rattle.page.specs.Layout.{LaidOut, kindOf, unitsOf, entryCount, entriesOf, entriesPlace}
-use Rattle.page.specs.Pages.{pageFault, PageJudged}
-use Rattle.page.proofs.Exact.{page-laid-out, page-exactly}
-use Rattle.page.proofs.Back.{read-proper}
+use Rattle.page.specs.Layout.{laidOut, unitsOf, entryCount, entriesOf, entriesPlace}
+use Rattle.page.specs.Pages.{pageFault, pageBytes, PageJudged}
+use Rattle.page.proofs.Exact.{LaidOut, page-laid-out, page-exactly}
+use Rattle.page.proofs.Back.{read-proper, paper-page}
 use Rattle.page.proofs.Bytes.{stored-written}
-use Rattle.listing_text.specs.Text.{ListingJudged, listing, listingFault, refusedWord, line, lineMost, listingRoom, frameText, entriesText, pageText, Puts, Lists}
+use Rattle.listing_text.specs.Decimal.{decimal, digitsIn}
+use Rattle.listing_text.specs.Text.{ListingJudged, listing, listingFault, refusedWord, line, frameText, entriesText, pageText, Lists}
+use Rattle.listing_text.specs.Steps.{lineMost, listingRoom, Puts}
 use Rattle.listing_text.proofs.Lines.{line-short, frame-short, entries-short, proper-few}
 
 -- what a page that passes is known by
@@ -49,8 +54,8 @@ pub text-short : (page : List ℕ) → Ready page → length page ≤ listingMos
 text-short page known short =
     omega (
       arith,
-      length-append (frameText (kindOf page) (unitsOf page) (length (entriesOf page))) (entriesText (entriesOf page)),
-      frame-short (kindOf page) (unitsOf page) (length (entriesOf page)) (known .units-few),
+      length-append (frameText (unitsOf page) (length (entriesOf page))) (entriesText (entriesOf page)),
+      frame-short (unitsOf page) (length (entriesOf page)) (known .units-few),
       entries-short (entriesOf page) (known .inside),
       length-entriesAt page entriesPlace (entryCount page),
       known .whole,
@@ -64,9 +69,11 @@ listing-exactly page = rows _ _ (row (tells-lt listingMost (length page)) badPag
 refused-small : (page : List ℕ) (k : ℕ) → PageJudged page k → k ≤ badPage
 refused-small page k (earlier some (When.given broken)) = omega arith
 refused-small page k (earlier some (When.passed whole)) = omega arith
-refused-small page k (later whole (LowestFault.falls i h before more)) = omega arith
-refused-small page k (later whole (LowestFault.strays i h before rises strays)) = omega arith
-refused-small page k (later whole (LowestFault.sound all)) = omega arith
+refused-small page k (later whole (LowestAt.found i h before some (earlier one (When.given falls)))) = omega arith
+refused-small page k (later whole (LowestAt.found i h before some (earlier one (When.passed rises)))) = omega arith
+refused-small page k (later whole (LowestAt.found i h before some (later rises (When.given strays)))) = omega arith
+refused-small page k (later whole (LowestAt.found i h before some (later rises (When.passed inside)))) = omega arith
+refused-small page k (later whole (LowestAt.none all)) = omega arith
 
 listing-refused-small : (page : List ℕ) → listingFault page ≤ badPage
 listing-refused-small page =
@@ -100,3 +107,17 @@ puts-lists page {text} {room} said fits puts =
 pub lists-within : {page room after : List ℕ} {result : ℕ} → Lists page room result after → result ≤ length after
 lists-within {page} {room} {after} {result} lists =
     omega (arith, lists .counts, ap length (lists .holds), length-append (listing page) (drop (length (listing page)) room))
+
+-- the listing of the paper's page, kind 0, N 20, list 3, 7: the lines `sectors 20`, `blocks 18`, `bad 3`, `bad 7`, each ended by the byte 10
+pub paper-listing :
+    listing (pageBytes 20 0 (3 ∷ 7 ∷ []))
+    ≡ (115 ∷ 101 ∷ 99 ∷ 116 ∷ 111 ∷ 114 ∷ 115 ∷ 32 ∷ 50 ∷ 48 ∷ 10 ∷ [])
+    ++ ((98 ∷ 108 ∷ 111 ∷ 99 ∷ 107 ∷ 115 ∷ 32 ∷ 49 ∷ 56 ∷ 10 ∷ [])
+    ++ ((98 ∷ 97 ∷ 100 ∷ 32 ∷ 51 ∷ 10 ∷ []) ++ (98 ∷ 97 ∷ 100 ∷ 32 ∷ 55 ∷ 10 ∷ [])))
+unfolding laidOut word32At entriesAt faultBelow line frameText entriesText decimal digitsIn
+paper-listing = rw paper-page refl
+
+-- more bytes than are listed: the line `refused 8`
+pub paper-refusal : (page : List ℕ) → listingMost < length page → listing page ≡ 114 ∷ 101 ∷ 102 ∷ 117 ∷ 115 ∷ 101 ∷ 100 ∷ 32 ∷ 56 ∷ 10 ∷ []
+unfolding line decimal digitsIn
+paper-refusal page long = rw (lt-ltb listingMost (length page) long) refl

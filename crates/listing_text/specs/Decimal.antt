@@ -1,5 +1,5 @@
--- A number as decimal text, without leading zeros, and the number that such text says.
-use Prim.Native.Nat.{ℕ, zero, suc, _+_, _*_, _-_, _/_, _%_}
+-- A number as decimal text, without leading zeros.
+use Prim.Native.Nat.{ℕ, zero, suc, _+_, _/_, _%_}
 use mathlib.Core.List.{List, [], _∷_, _++_}
 use lib.Dec.{ltb}
 use Rattle.paper.specs.Checks.{pick}
@@ -19,12 +19,3 @@ digitsIn (suc steps) n = pick (ltb n 10) (digit n ∷ []) (digitsIn steps (n / 1
 -- the decimal text of a number, which has fewer digits than the steps allow
 unfoldable pub decimal : ℕ → List ℕ
 decimal n = digitsIn (suc n) n
-
--- the number that digits say after those that said so much
-unfoldable pub saidAfter : ℕ → List ℕ → ℕ
-saidAfter before [] = before
-saidAfter before (d ∷ text) = saidAfter (before * 10 + (d - digitZero)) text
-
--- the number that digits say
-abbrev pub saidBy : List ℕ → ℕ
-saidBy text = saidAfter 0 text

@@ -1,16 +1,15 @@
 -- Document 01, "List page": the listing of a page, line by line, as bytes. The lines of the frame stand apart from those of the entries.
-use Prim.Native.Nat.{ℕ, _+_, _*_, _-_, _/_, _<_}
+use Prim.Native.Nat.{ℕ, _-_, _<_}
 use mathlib.Core.Path.{_≡_}
 use mathlib.Core.List.{List, [], _∷_, _++_}
 use lib.ListN.{length}
-use lib.Seq.{sets}
 use lib.Dec.{ltb}
 use Rattle.paper.specs.Checks.{refuse, _orElse_, answer}
 use Rattle.paper.specs.Refusals.{badPage}
-use Rattle.paper.specs.Limits.{listingMost, pageFrame, entrySize}
+use Rattle.paper.specs.Limits.{listingMost}
 use Rattle.paper.specs.Exactly.{When, _andThen_}
 use Rattle.paper.specs.Promise.{written}
-use Rattle.page.specs.Layout.{kindOf, unitsOf, entriesOf}
+use Rattle.page.specs.Layout.{unitsOf, entriesOf}
 use Rattle.page.specs.Pages.{pageFault, PageJudged}
 use Rattle.listing_text.specs.Decimal.{decimal}
 
@@ -30,10 +29,6 @@ badWord = 98 ∷ 97 ∷ 100 ∷ []
 abbrev pub refusedWord : List ℕ
 refusedWord = 114 ∷ 101 ∷ 102 ∷ 117 ∷ 115 ∷ 101 ∷ 100 ∷ []
 
--- the word for the units of a page, by its kind
-abbrev pub unitsWord : ℕ → List ℕ
-unitsWord kind = sectorsWord
-
 -- the bytes of a space and of a line's end
 abbrev pub space : ℕ
 space = 32
@@ -45,9 +40,9 @@ lineEnd = 10
 unfoldable pub line : List ℕ → ℕ → List ℕ
 line word number = word ++ (space ∷ (decimal number ++ (lineEnd ∷ [])))
 
--- the lines of the frame: the units, and the blocks that so many entries leave
-unfoldable pub frameText : ℕ → ℕ → ℕ → List ℕ
-frameText kind n entries = line (unitsWord kind) n ++ line blocksWord (n - entries)
+-- the lines of the frame: N, and the blocks that so many entries leave
+unfoldable pub frameText : ℕ → ℕ → List ℕ
+frameText n entries = line sectorsWord n ++ line blocksWord (n - entries)
 
 -- a line for each entry
 unfoldable pub entriesText : List ℕ → List ℕ
@@ -56,7 +51,7 @@ entriesText (entry ∷ list) = line badWord entry ++ entriesText list
 
 -- the listing of a page that passes its checks
 abbrev pub pageText : List ℕ → List ℕ
-pageText page = frameText (kindOf page) (unitsOf page) (length (entriesOf page)) ++ entriesText (entriesOf page)
+pageText page = frameText (unitsOf page) (length (entriesOf page)) ++ entriesText (entriesOf page)
 
 -- the checks of a listing: 8 above its own limit, then those of the page
 abbrev pub listingFault : List ℕ → ℕ
@@ -69,31 +64,6 @@ ListingJudged page = When badPage (listingMost < length page) andThen PageJudged
 -- what a listing says: the page, or one line with the number of the refusal
 abbrev pub listing : List ℕ → List ℕ
 listing page = answer (listingFault page) (λ fault. line refusedWord fault) (pageText page)
-
--- digits of the greatest number that a listing says
-abbrev pub digitsMost : ℕ
-digitsMost = 8
-
--- the longest line of a word
-abbrev pub lineMost : List ℕ → ℕ
-lineMost word = length word + (1 + digitsMost + 1)
-
--- the longest lines of a frame
-abbrev pub frameMost : ℕ
-frameMost = lineMost sectorsWord + lineMost blocksWord
-
--- entries of the longest page that is listed
-abbrev pub listedMost : ℕ
-listedMost = (listingMost - pageFrame) / entrySize
-
--- bytes of the longest listing
-abbrev pub listingRoom : ℕ
-listingRoom = frameMost + lineMost badWord * listedMost
-
--- text is written at a place of a room; the answer is the place after it
-pub record Puts (text : List ℕ) (at : ℕ) (room : List ℕ) (result : ℕ) (after : List ℕ) : Type 0 where
-  pub ends : result ≡ at + length text
-  pub stores : after ≡ sets room at text
 
 -- what a listing promises: its length, and what the room then holds
 pub record Lists (page room : List ℕ) (result : ℕ) (after : List ℕ) : Type 0 where

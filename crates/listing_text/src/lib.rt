@@ -8,7 +8,8 @@ ghost use Rattle.lists.specs.Proper.{Inside};
 ghost use Rattle.page.specs.Layout.{entriesPlace};
 ghost use Rattle.page.specs.Pages.{pageFault};
 ghost use Rattle.listing_text.specs.Decimal.{digitZero, decimal};
-ghost use Rattle.listing_text.specs.Text.{sectorsWord, blocksWord, badWord, refusedWord, unitsWord, space, lineEnd, line, frameText, entriesText, pageText, listingFault, digitsMost, lineMost, frameMost, listedMost, listingRoom, Puts, Lists};
+ghost use Rattle.listing_text.specs.Text.{sectorsWord, blocksWord, badWord, refusedWord, space, lineEnd, line, frameText, entriesText, pageText, listingFault, Lists};
+ghost use Rattle.listing_text.specs.Steps.{digitsMost, lineMost, frameMost, listedMost, listingRoom, Puts};
 use paper::BAD_PAGE;
 use paper::ENTRY_SIZE;
 use paper::LISTING_MOST;
@@ -101,20 +102,12 @@ fn put_line(room: &mut [u8], at: usize, word: &[u8], number: u32) -> usize
     end + 1
 }
 
-// Writes the line of a page's units at the start, in the word of its kind, and answers the place after it.
-fn put_units(room: &mut [u8], kind: u32, n: u32) -> usize
-    requires { ⌜ length (line (unitsWord kind) n) ≤ length (now room) ⌝ }
-    ensures { λ result. ⌜ Puts (line (unitsWord kind) n) 0 (now (room .entry)) result (now (room .exit)) ⌝ }
-{
-    put_line(room, 0, &SECTORS, n)
-}
-
 // Writes the lines of a page's frame at the start, and answers the place after them.
-fn put_frame(room: &mut [u8], kind: u32, n: u32, entries: u32) -> usize
+fn put_frame(room: &mut [u8], n: u32, entries: u32) -> usize
     requires { ⌜ (n ≤ unitsMost) × (entries ≤ n) × (frameMost ≤ length (now room)) ⌝ }
-    ensures { λ result. ⌜ Puts (frameText kind n entries) 0 (now (room .entry)) result (now (room .exit)) ⌝ }
+    ensures { λ result. ⌜ Puts (frameText n entries) 0 (now (room .entry)) result (now (room .exit)) ⌝ }
 {
-    let blocks = put_units(room, kind, n);
+    let blocks = put_line(room, 0, &SECTORS, n);
     put_line(room, blocks, &BLOCKS, n - entries)
 }
 
@@ -138,12 +131,7 @@ fn put_page(page: &[u8], room: &mut [u8]) -> usize
     ensures { λ result. ⌜ Puts (pageText (now (page .entry))) 0 (now (room .entry)) result (now (room .exit)) ⌝ }
 {
     let count = page::entry_count(page);
-    let entries = put_frame(
-        room,
-        page::kind_of(page),
-        page::units_of(page),
-        count as u32,
-    );
+    let entries = put_frame(room, page::units_of(page), count as u32);
     put_entries(room, entries, page, count)
 }
 

@@ -27,12 +27,6 @@ abbrev pub Least : ℕ → List ℕ → Type 0
 Least x [] = Unit
 Least x (y ∷ l) = x ≤ y
 
-pub off-here : (x y : ℕ) (l : List ℕ) → y ≡ x → off x (y ∷ l) ≡ l
-off-here x y l e = rw (eq-eqb y x e)
-
-pub off-other : (x y : ℕ) (l : List ℕ) → (y ≡ x → ⊥) → off x (y ∷ l) ≡ y ∷ l
-off-other x y l e = rw (ne-eqb y x e)
-
 -- a list is x and the rest, or the rest alone
 pub whole : (x : ℕ) (l : List ℕ) → l ≡ pick (starts x l) (x ∷ off x l) (off x l)
 whole x [] = refl

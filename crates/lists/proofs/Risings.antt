@@ -1,14 +1,22 @@
 -- Rising lists, entry by entry: a rising list is an entry below all that follow, and then a rising list.
 -- Assumes nothing.
 use Prim.Native.Nat.{ℕ, zero, suc, _+_, _<_, _≤_}
+use mathlib.Core.Path.{refl}
 use mathlib.Core.List.{List, [], _∷_}
 use native.Mathlib.Omega.{arith}
 use lib.ListN.{length, getD, drop}
-use Rattle.lists.specs.Proper.{Rising, Inside}
+use Rattle.lists.specs.Proper.{Rising, Rises, Inside}
 
 -- every entry is above x
 abbrev pub Above : ℕ → List ℕ → Type 0
 Above x a = (i : ℕ) → i < length a → x < getD a i 0
+
+-- a list rises exactly where the entry at each of its places does
+pub rising-rises : (a : List ℕ) → Rising a → (i : ℕ) → i < length a → Rises a i
+rising-rises a rising i h before one = rw (← one) (rising before (rw (← one) at h))
+
+pub rises-rising : (a : List ℕ) → ((i : ℕ) → i < length a → Rises a i) → Rising a
+rises-rising a rises i h = rises (suc i) h i refl
 
 pub rising-nil : Rising []
 rising-nil i h = absurd (omega arith)

@@ -1,4 +1,4 @@
--- Union: its members are those of either list, it rises, it is the only list that does both, and how it goes on after each entry.
+-- Union: how it goes on after each entry, its members, that it rises, that it is the only list that does both, and how long it is.
 -- Assumes nothing.
 use Prim.Native.Nat.{ℕ, zero, suc, _+_, _<_, _≤_}
 use mathlib.Core.Path.{_≡_, refl, sym, _∙_, ap}
@@ -10,7 +10,7 @@ use lib.ListN.{length}
 use borrow.Author.Tests.{eq-eqb, ne-eqb, lt-ltb, le-ltb}
 use Rattle.paper.proofs.Cases.{byEq, byLt}
 use Rattle.lists.specs.Proper.{Rising, Inside}
-use Rattle.lists.specs.Union.{isIn, into, union}
+use Rattle.lists.specs.Union.{isIn, into, union, Unites}
 use Rattle.lists.proofs.Risings.{Above, rising-tail, rising-above, rising-cons, above-weaker}
 use Rattle.lists.proofs.Members.{not-in-nil, member-inside, members-inside, members-above, above-member, same-members}
 
@@ -117,25 +117,28 @@ pub rising-union : (a b : List ℕ) → Rising a → Rising b → Rising (union 
 rising-union [] b rising-a rising-b = rw (union-none b) rising-b
 rising-union (x ∷ a) b rising-a rising-b = rising-into x a rising-a (λ l r. rising-union a l (rising-tail x a rising-a) r) b rising-b
 
--- the union is the only rising list with the members of both
-pub union-only : (u a b : List ℕ) → Rising u → Rising a → Rising b → ((s : ℕ) → isIn u s ≡ (isIn a s || isIn b s)) → u ≡ union a b
-union-only u a b rising-u rising-a rising-b members =
-    same-members u (union a b) rising-u (rising-union a b rising-a rising-b) (λ s. members s ∙ sym (in-union a b s))
+-- the union of two rising lists is their union, and the only list that is
+pub union-unites : (a b : List ℕ) → Rising a → Rising b → Unites a b (union a b)
+union-unites a b rising-a rising-b = record { rises = rising-union a b rising-a rising-b; members = in-union a b }
+
+pub unites-one : (a b : List ℕ) {u v : List ℕ} → Unites a b u → Unites a b v → u ≡ v
+unites-one a b {u} {v} first second = same-members u v (first .rises) (second .rises) (λ s. first .members s ∙ sym (second .members s))
 
 pub union-comm : (a b : List ℕ) → Rising a → Rising b → union a b ≡ union b a
-union-comm a b rising-a rising-b =
-    union-only (union a b) b a (rising-union a b rising-a rising-b) rising-b rising-a
-    (λ s. in-union a b s ∙ or-comm (isIn a s) (isIn b s))
+union-comm a b rising-a rising-b = unites-one b a turned (union-unites b a rising-b rising-a)
+  where
+    turned : Unites b a (union a b)
+    turned = record { rises = rising-union a b rising-a rising-b; members = λ s. in-union a b s ∙ or-comm (isIn a s) (isIn b s) }
 
 pub union-assoc : (a b c : List ℕ) → Rising a → Rising b → Rising c → union (union a b) c ≡ union a (union b c)
-union-assoc a b c rising-a rising-b rising-c =
-    union-only (union (union a b) c) a (union b c)
-    (rising-union (union a b) c (rising-union a b rising-a rising-b) rising-c)
-    rising-a
-    (rising-union b c rising-b rising-c)
-    (λ s.
-    rw (in-union (union a b) c s, in-union a b s, in-union b c s)
-    (or-assoc (isIn a s) (isIn b s) (isIn c s)))
+union-assoc a b c rising-a rising-b rising-c = unites-one a (union b c) grouped (union-unites a (union b c) rising-a (rising-union b c rising-b rising-c))
+  where
+    grouped : Unites a (union b c) (union (union a b) c)
+    grouped =
+        record {
+          rises = rising-union (union a b) c (rising-union a b rising-a rising-b) rising-c;
+          members = λ s. rw (in-union (union a b) c s, in-union a b s, in-union b c s) (or-assoc (isIn a s) (isIn b s) (isIn c s));
+        }
 
 -- lengths: no longer than both together, no shorter than either
 length-into : (x : ℕ) (a : List ℕ) → ((b : List ℕ) → length (union a b) ≤ length a + length b) → (b : List ℕ) → length (union (x ∷ a) b) ≤ suc (length a) + length b

@@ -1,3 +1,3 @@
 pub mod Proper
 pub mod Union
-pub mod Merging
+pub mod Steps

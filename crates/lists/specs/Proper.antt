@@ -9,12 +9,16 @@ use Rattle.paper.specs.Checks.{refuse, _orElse_}
 use Rattle.paper.specs.Refusals.{tooLong, notRising, outside}
 use Rattle.paper.specs.Limits.{listMost, sizeFault, SizeJudged}
 use Rattle.paper.specs.Exactly.{When, _andThen_}
-use Rattle.paper.specs.Conditions.{TooLong}
-use Rattle.seek.specs.First.{faultBelow}
+use Rattle.paper.specs.Conditions.{TooLong, NotBelow}
+use Rattle.seek.specs.Lowest.{faultBelow, LowestAt}
 
 -- each entry is greater than the one before
 abbrev pub Rising : List ℕ → Type 0
 Rising a = (i : ℕ) → suc i < length a → getD a i 0 < getD a (suc i) 0
+
+-- the entry at a place stands first, or is greater than the one before
+abbrev pub Rises : List ℕ → ℕ → Type 0
+Rises a i = (before : ℕ) → suc before ≡ i → getD a before 0 < getD a i 0
 
 -- each entry is below the size of the space
 abbrev pub Inside : ℕ → List ℕ → Type 0
@@ -26,16 +30,13 @@ pub record Proper (n : ℕ) (a : List ℕ) : Type 0 where
   pub rising : Rising a
   pub inside : Inside n a
 
--- the entry at a place stands first, or is greater than the one before
+-- whether the entry at a place rises
 abbrev pub risesAt : List ℕ → ℕ → Bool
 risesAt a i = eqb i 0 || ltb (getD a (i - 1) 0) (getD a i 0)
 
-abbrev pub boundFault : ℕ → ℕ → ℕ
-boundFault n entry = refuse (leb n entry) outside
-
 -- what is wrong at a place: 3 before 4
 abbrev pub faultAt : ℕ → List ℕ → ℕ → ℕ
-faultAt n a i = refuse (not (risesAt a i)) notRising orElse boundFault n (getD a i 0)
+faultAt n a i = refuse (not (risesAt a i)) notRising orElse refuse (leb n (getD a i 0)) outside
 
 -- the fault of the lowest place at fault
 abbrev pub lowestFault : ℕ → List ℕ → ℕ
@@ -49,19 +50,13 @@ listFault n a = refuse (ltb listMost (length a)) tooLong orElse lowestFault n a
 abbrev pub spaceFault : ℕ → List ℕ → ℕ
 spaceFault n a = sizeFault n orElse listFault n a
 
--- nothing is wrong at a place
-pub record SoundAt (n : ℕ) (a : List ℕ) (i : ℕ) : Type 0 where
-  pub rises : (before : ℕ) → suc before ≡ i → getD a before 0 < getD a i 0
-  pub inside : getD a i 0 < n
+-- exactly when 3 and 4 are given at a place
+abbrev pub FaultAt : ℕ → List ℕ → ℕ → ℕ → Type 0
+FaultAt n a i = When notRising (Rises a i → ⊥) andThen When outside (NotBelow n (getD a i 0))
 
-abbrev pub SoundBefore : ℕ → List ℕ → ℕ → Type 0
-SoundBefore n a i = (j : ℕ) → j < i → SoundAt n a j
-
--- exactly when 3 and 4 are given: by the lowest place at fault, and there 3 before 4
-pub data LowestFault (n : ℕ) (a : List ℕ) : ℕ → Type 0 where
-  falls : (i : ℕ) → suc i < length a → SoundBefore n a (suc i) → getD a (suc i) 0 ≤ getD a i 0 → LowestFault n a notRising
-  strays : (i : ℕ) → i < length a → SoundBefore n a i → ((before : ℕ) → suc before ≡ i → getD a before 0 < getD a i 0) → n ≤ getD a i 0 → LowestFault n a outside
-  sound : SoundBefore n a (length a) → LowestFault n a 0
+-- exactly when 3 and 4 are given for a list: by the lowest place at fault
+abbrev pub LowestFault : ℕ → List ℕ → ℕ → Type 0
+LowestFault n a = LowestAt (FaultAt n a) (length a)
 
 -- exactly when 2, 3 and 4 are given for a list
 abbrev pub ListJudged : ℕ → List ℕ → ℕ → Type 0

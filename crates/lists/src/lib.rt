@@ -2,10 +2,9 @@
 ghost use mathlib.Core.Path.{_≡_};
 ghost use Prim.Native.Nat.{_+_, _<_, _≤_};
 ghost use lib.ListN.{length};
-ghost use Rattle.lists.specs.Proper.{boundFault, faultAt, listFault, spaceFault};
+ghost use Rattle.lists.specs.Proper.{faultAt, listFault, spaceFault};
 ghost use Rattle.lists.specs.Union.{union};
-ghost use Rattle.paper.specs.Promise.{written};
-ghost use Rattle.lists.specs.Merging.{Takes};
+ghost use Rattle.lists.specs.Steps.{boundFault, Takes};
 use paper::LIST_MOST;
 use paper::NOT_RISING;
 use paper::OUTSIDE;
@@ -71,7 +70,7 @@ pub struct Taken {
     pub right: usize,
 }
 
-// One step of a merge: the smaller of the two entries that stand next, taken from both lists where it stands in both.
+// One step along a union: the smaller of the two entries that stand next, taken from both lists where it stands in both.
 fn take(a: &[u32], b: &[u32], i: usize, j: usize) -> Taken
     requires { ⌜ (i ≤ length (now a)) × (j ≤ length (now b)) × (i + j < length (now a) + length (now b)) ⌝ }
     ensures { λ result. ⌜ Takes (now (a .entry)) (now (b .entry)) i j result ⌝ }
@@ -127,21 +126,4 @@ pub fn union_length(a: &[u32], b: &[u32]) -> usize
         count += 1;
     }
     count
-}
-
-// Writes the union of two lists into the first places of the room, which has that many, and leaves the rest. Only other crates call this.
-pub fn merge(a: &[u32], b: &[u32], room: &mut [u32])
-    requires { ⌜ length (union (now a) (now b)) ≤ length (now room) ⌝ }
-    ensures { λ result. ⌜ now (room .exit) ≡ written (union (now (a .entry)) (now (b .entry))) (now (room .entry)) ⌝ }
-{
-    let mut i = 0;
-    let mut j = 0;
-    let mut count = 0;
-    while i + j < a.len() + b.len() {
-        let next = take(a, b, i, j);
-        room[count] = next.entry;
-        i = next.left;
-        j = next.right;
-        count += 1;
-    }
 }

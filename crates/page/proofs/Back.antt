@@ -6,12 +6,13 @@ use mathlib.Core.Bool.{not}
 use mathlib.Core.List.{List, [], _∷_, _++_, append-nil}
 use native.Mathlib.Omega.{arith}
 use lib.ListN.{length, take, length-append, List·getD-eq-default}
-use lib.Seq.{sets, set-getD, take-at, drop-length}
+use lib.Seq.{sets, set-getD, drop-length}
 use lib.Dec.{ltb}
 use borrow.Author.Tests.{le-ltb}
 use Rattle.paper.specs.Checks.{refuse}
 use Rattle.paper.specs.Refusals.{badPage, tooLong}
 use Rattle.paper.specs.Limits.{listMost, kindMost, unitsMost, Within}
+use Rattle.paper.specs.Promise.{written}
 use Rattle.paper.specs.declared.Written.{Written}
 use Rattle.paper.specs.declared.Written.the-variants.{Length}
 use Rattle.paper.proofs.Cases.{byLt}
@@ -19,19 +20,26 @@ use Rattle.paper.proofs.Kept.{gives-number, fills-gives}
 use Rattle.paper.proofs.Chain.{orElse-first, orElse-next}
 use Rattle.paper.proofs.Rows.{size-passes}
 use Rattle.lists.specs.Proper.{Proper, lowestFault}
-use Rattle.paper.specs.Promise.{written}
 use Rattle.lists.proofs.Exact.{list-passes, list-shows}
+use Rattle.lists.proofs.Filling.{written-first}
 use Rattle.words.specs.Words.{bytes32, bytesOf, word32At, Bytes, Fits32}
 use Rattle.words.proofs.Digits.{length-bytes32, word32-bytes32}
 use Rattle.words.proofs.Places.{word32-first, word32-second, put-word32}
 use Rattle.words.proofs.Runs.{length-bytesOf, length-entriesAt, entriesAt-second, entriesAt-bytesOf, put-entriesAt}
-use Rattle.page.specs.Layout.{lengthOf, version, versionOf, kindOf, unitsOf, versionPlace, kindPlace, unitsPlace, entriesPlace, entryCount, entriesOf, endOf, endSize, allOnes, LaidOut, laidOut}
-use Rattle.page.specs.Pages.{pageFault, readFault, writeFault, pageLength, headBytes, endBytes, pageBytes, Carries}
+use Rattle.page.specs.Layout.{lengthOf, version, versionOf, kindOf, unitsOf, versionPlace, kindPlace, unitsPlace, entriesPlace, entryCount, entriesOf, endOf, endSize, allOnes, laidOut}
+use Rattle.page.specs.Pages.{pageFault, readFault, writeFault, pageLength, headBytes, endBytes, pageBytes}
 use Rattle.page.specs.Promises.{Reads, Writes}
 use Rattle.page.specs.declared.Paged.{Paged}
 use Rattle.page.specs.declared.Paged.the-variants.{Page}
-use Rattle.page.proofs.Exact.{page-laid-out, tells-laid-out, write-shows, Writable}
+use Rattle.page.proofs.Exact.{LaidOut, page-laid-out, tells-laid-out, write-shows, Writable}
 use Rattle.page.proofs.Bytes.{length-headBytes, length-pageBytes, endBytes-word, head-stored, page-stored, stored-written, pageBytes-split}
+
+-- a page passes its checks, and its kind, N and list are these
+pub record Carries (page : List ℕ) (n kind : ℕ) (list : List ℕ) : Type 0 where
+  pub passes : pageFault page ≡ 0
+  pub says-units : unitsOf page ≡ n
+  pub says-kind : kindOf page ≡ kind
+  pub says-list : entriesOf page ≡ list
 
 -- the entries of a proper list fit four bytes each
 pub proper-fits : (n : ℕ) (list : List ℕ) → n ≤ unitsMost → Proper n list → Fits32 list
@@ -190,7 +198,7 @@ write-then-read n kind list room after long wrote other filled result fits read 
     let none : writeFault n kind list room ≡ 0 = sym (gives-number (fills-gives wrote) (λ said. said .0) (λ k. refl) refl) in
     let told : long ≡ pageLength (length list) = rw none at (ap (λ (said : ℕ × ℕ). said .1) (wrote .says)) in
     let holds : after ≡ written (pageBytes n kind list) room = rw none at (wrote .holds) in
-    let page : take long after ≡ pageBytes n kind list = rw holds (take-at (pageBytes n kind list) _ long (length-pageBytes n kind list ∙ sym told)) in
+    let page : take long after ≡ pageBytes n kind list = rw holds (written-first (pageBytes n kind list) room long (told ∙ sym (length-pageBytes n kind list))) in
     let fine : Writable n kind list room = write-shows n kind list room none in
     let carries : Carries (pageBytes n kind list) n kind list = read-written n kind list (fine .units) (fine .kinds) (fine .proper) in
     let passed : readFault (pageBytes n kind list) other ≡ 0 = rw (carries .passes, carries .says-list, le-ltb (length other) (length list) fits) in
@@ -210,7 +218,7 @@ read-then-write page room after kind n entries bytes read other filled result fi
     let told-units : n ≡ unitsOf page = rw none at (ap (λ (said : ℕ × ℕ × ℕ × ℕ). said .2) (read .says)) in
     let told-count : entries ≡ length (entriesOf page) = rw none at (ap (λ (said : ℕ × ℕ × ℕ × ℕ). said .3) (read .says)) in
     let holds : after ≡ written (entriesOf page) room = rw none at (read .holds) in
-    let list : take entries after ≡ entriesOf page = rw holds (take-at (entriesOf page) _ entries (sym told-count)) in
+    let list : take entries after ≡ entriesOf page = rw holds (written-first (entriesOf page) room entries told-count) in
     let passed : writeFault (unitsOf page) (kindOf page) (entriesOf page) other ≡ 0 = read-writable page passes other fits in (
       wrote .answers ∙ rw (told-units, told-kind, list, passed) (ap Length (same-length page passes)),
       wrote .holds ∙ rw (told-units, told-kind, list, passed, written-read page passes bytes),

@@ -16,8 +16,18 @@ use Rattle.paper.proofs.Chain.{orElse-first, orElse-next}
 use Rattle.paper.proofs.Rows.{Tells, tells-false, tells-not, tells-both, tells-lt, tells-le, tells-within, passed-shows, row, rows, size-exactly, size-shows, tells-eq, not-over}
 use Rattle.lists.specs.Proper.{Proper, lowestFault, listFault}
 use Rattle.lists.proofs.Exact.{places-exactly, list-exactly, list-shows}
-use Rattle.page.specs.Layout.{lengthOf, version, versionOf, kindOf, unitsOf, entryCount, entriesOf, endOf, allOnes, Broken, LaidOut, laidOut}
+use Rattle.page.specs.Layout.{lengthOf, version, versionOf, kindOf, unitsOf, entryCount, entriesOf, endOf, allOnes, Broken, laidOut}
 use Rattle.page.specs.Pages.{pageFault, readFault, writeFault, pageLength, PageJudged, ReadJudged, WriteJudged}
+
+-- a page that no cause breaks
+pub record LaidOut (page : List ℕ) : Type 0 where
+  pub long : Within pageFrame pageMost (length page)
+  pub says-length : lengthOf page ≡ length page
+  pub whole : length page - pageFrame ≡ entrySize * entryCount page
+  pub says-version : versionOf page ≡ version
+  pub says-kind : kindOf page ≤ kindMost
+  pub says-units : Within 1 unitsMost (unitsOf page)
+  pub ends : endOf page ≡ allOnes
 
 -- the first of the tests that fails gives its cause
 cause :

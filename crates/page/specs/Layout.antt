@@ -1,5 +1,5 @@
 -- Document 01, "List page": where each part of a page stands, and what breaks its layout. The frame's places stand apart from the entries.
-use Prim.Native.Nat.{ℕ, _*_, _-_, _/_, _%_, _<_, _≤_}
+use Prim.Native.Nat.{ℕ, _*_, _-_, _/_, _%_, _<_}
 use mathlib.Core.Path.{_≡_}
 use mathlib.Core.Bool.{Bool, _&&_}
 use mathlib.Core.List.{List}
@@ -63,27 +63,21 @@ entriesOf page = entriesAt page entriesPlace (entryCount page)
 abbrev pub endOf : List ℕ → ℕ
 endOf page = word32At page (length page - endSize)
 
+-- row 8, the kind: it is neither of the two that there are
+abbrev pub OtherKind : ℕ → Type 0
+OtherKind kind = kindMost < kind
+
 -- the causes of refusal 8, in the paper's order
 pub data Broken (page : List ℕ) : Type 0 where
   out-of-length : (Within pageFrame pageMost (length page) → ⊥) → Broken page
   unlike-length : (lengthOf page ≡ length page → ⊥) → Broken page
   no-multiple : ((count : ℕ) → length page - pageFrame ≡ entrySize * count → ⊥) → Broken page
   other-version : (versionOf page ≡ version → ⊥) → Broken page
-  other-kind : kindMost < kindOf page → Broken page
+  other-kind : OtherKind (kindOf page) → Broken page
   out-of-units : (Within 1 unitsMost (unitsOf page) → ⊥) → Broken page
   other-end : (endOf page ≡ allOnes → ⊥) → Broken page
 
--- a page that none of them breaks
-pub record LaidOut (page : List ℕ) : Type 0 where
-  pub long : Within pageFrame pageMost (length page)
-  pub says-length : lengthOf page ≡ length page
-  pub whole : length page - pageFrame ≡ entrySize * entryCount page
-  pub says-version : versionOf page ≡ version
-  pub says-kind : kindOf page ≤ kindMost
-  pub says-units : Within 1 unitsMost (unitsOf page)
-  pub ends : endOf page ≡ allOnes
-
--- the same as a test
+-- whether none of them breaks a page
 unfoldable pub laidOut : List ℕ → Bool
 laidOut page =
     within pageFrame pageMost (length page)

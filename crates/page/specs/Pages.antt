@@ -1,6 +1,5 @@
 -- Document 01, "List page": the checks of reading and writing in their order, exactly when each number is given, and the bytes of a page.
-use Prim.Native.Nat.{ℕ, _+_, _*_, _<_}
-use mathlib.Core.Path.{_≡_}
+use Prim.Native.Nat.{ℕ, _+_, _*_}
 use mathlib.Core.Bool.{not}
 use mathlib.Core.List.{List, [], _∷_, _++_}
 use lib.ListN.{length}
@@ -12,7 +11,7 @@ use Rattle.paper.specs.Exactly.{When, _andThen_}
 use Rattle.paper.specs.Conditions.{NoRoom}
 use Rattle.words.specs.Words.{bytes32, bytesOf}
 use Rattle.lists.specs.Proper.{lowestFault, listFault, LowestFault, ListJudged}
-use Rattle.page.specs.Layout.{version, Broken, laidOut, kindOf, unitsOf, entriesOf}
+use Rattle.page.specs.Layout.{version, OtherKind, Broken, laidOut, unitsOf, entriesOf}
 
 -- the checks of a page: 8, then 3 and 4 by place
 abbrev pub pageFault : List ℕ → ℕ
@@ -58,13 +57,6 @@ ReadJudged page room = PageJudged page andThen When noRoom (NoRoom (length (entr
 abbrev pub WriteJudged : ℕ → ℕ → List ℕ → List ℕ → ℕ → Type 0
 WriteJudged n kind list room =
     SizeJudged n
-    andThen When badPage (kindMost < kind)
+    andThen When badPage (OtherKind kind)
     andThen ListJudged n list
     andThen When noRoom (NoRoom (pageLength (length list)) room)
-
--- a page passes its checks, and its kind, N and list are these
-pub record Carries (page : List ℕ) (n kind : ℕ) (list : List ℕ) : Type 0 where
-  pub passes : pageFault page ≡ 0
-  pub says-units : unitsOf page ≡ n
-  pub says-kind : kindOf page ≡ kind
-  pub says-list : entriesOf page ≡ list

@@ -55,8 +55,8 @@ pub enum Paged {
     Refused(u32),
 }
 
-// The kind that a page says. Only other crates call this.
-pub fn kind_of(page: &[u8]) -> u32
+// The kind that a page says.
+fn kind_of(page: &[u8]) -> u32
     requires { ⌜ pageFrame ≤ length (now page) ⌝ }
     ensures { λ result. ⌜ result ≡ kindOf (now (page .entry)) ⌝ }
 {

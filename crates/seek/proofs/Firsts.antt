@@ -4,10 +4,11 @@ use Prim.Native.Nat.{ℕ, zero, suc, _<_, _≤_}
 use mathlib.Core.Path.{_≡_, refl, sym, _∙_, ap}
 use mathlib.Core.Bool.{Bool, true, false}
 use native.Mathlib.Omega.{arith}
-use Rattle.paper.specs.Checks.{pick}
+use Rattle.paper.specs.Checks.{pick, _orElse_}
 use Rattle.paper.proofs.Cases.{byBool, byEq, byFault}
 use Rattle.paper.proofs.Chain.{orElse-some, orElse-none, orElse-first, orElse-next}
-use Rattle.seek.specs.First.{firstBelow, faultBelow}
+use Rattle.paper.specs.Exactly.{Exactly}
+use Rattle.seek.specs.Lowest.{firstBelow, faultBelow, LowestAt}
 
 -- the only number below n that passes with none before it
 pub first-is :
@@ -83,30 +84,31 @@ module _ (fault : ℕ → ℕ) where
       let e : faultBelow fault n ≡ fault s = fault-at n s (omega arith) some before in
       orElse-some (faultBelow fault n) (fault n) (λ none. some (sym e ∙ none)) ∙ e)
 
-  -- where there is a fault, there is a lowest place at fault
-  pub record Lowest (n : ℕ) : Type 0 where
-    pub place : ℕ
-    pub below : place < n
-    pub before : (k : ℕ) → k < place → fault k ≡ 0
-    pub here : faultBelow fault n ≡ fault place
-
-  pub fault-found : (n : ℕ) → (faultBelow fault n ≡ 0 → ⊥) → Lowest n
+-- rows that say the fault of each number give that of the lowest one at fault, and no other
+module _ (At : ℕ → ℕ → Type 0) (fault : ℕ → ℕ) where
+  lowest-judged : (bound : ℕ) → ((i : ℕ) → i < bound → Exactly (At i) (fault i)) → LowestAt At bound (faultBelow fault bound)
   unfolding faultBelow
-  fault-found zero some = absurd (some refl)
-  fault-found (suc n) some =
-      byFault (faultBelow fault n)
-      (λ none.
-      record {
-        place = n;
-        below = omega arith;
-        before = fault-clean n none;
-        here = orElse-none (faultBelow fault n) (fault n) none;
-      })
-      (λ found.
-      let l : Lowest n = fault-found n found in
-      record {
-        place = l .place;
-        below = omega (arith, l .below);
-        before = l .before;
-        here = orElse-some (faultBelow fault n) (fault n) found ∙ l .here;
-      })
+  lowest-judged zero exact = LowestAt.none (λ j h. absurd (omega arith))
+  lowest-judged (suc bound) exact = onward (faultBelow fault bound) refl (lowest-judged bound (λ i h. exact i (omega arith)))
+    where
+      onward : (k : ℕ) → faultBelow fault bound ≡ k → LowestAt At bound k → LowestAt At (suc bound) (k orElse fault bound)
+      onward k is (LowestAt.found i h before some here) = rw (orElse-some k (fault bound) some) (LowestAt.found i (omega arith) before some here)
+      onward k is (LowestAt.none all) =
+          byFault (fault bound)
+          (λ clean. rw clean (LowestAt.none (every clean)))
+          (λ some. LowestAt.found bound (omega arith) all some (exact bound (omega arith) .judged))
+        where
+          every : fault bound ≡ 0 → (j : ℕ) → j < suc bound → At j 0
+          every clean j h = byEq j bound (λ same. rw (same, ← clean) (exact bound (omega arith) .judged)) (λ other. all j (omega arith))
+
+  pub lowest-exactly : (bound : ℕ) → ((i : ℕ) → i < bound → Exactly (At i) (fault i)) → Exactly (LowestAt At bound) (faultBelow fault bound)
+  lowest-exactly bound exact = record { judged = lowest-judged bound exact; only = only-one }
+    where
+      clean : (j : ℕ) → j < bound → At j 0 → fault j ≡ 0
+      clean j h at = exact j h .only 0 at
+
+      only-one : (k : ℕ) → LowestAt At bound k → faultBelow fault bound ≡ k
+      only-one k (LowestAt.found i h before some here) =
+          let is : fault i ≡ k = exact i h .only k here in
+          fault-at fault bound i h (λ none. some (sym is ∙ none)) (λ j l. clean j (omega arith) (before j l)) ∙ is
+      only-one k (LowestAt.none all) = fault-none fault bound (λ j h. clean j h (all j h))

@@ -5,7 +5,7 @@ use mathlib.Core.Bool.{Bool, false, not, _&&_, _||_}
 use mathlib.Core.List.{List, map}
 use lib.Dec.{eqb}
 use Rattle.seek.specs.Count.{countBelow}
-use Rattle.seek.specs.First.{firstBelow}
+use Rattle.seek.specs.Lowest.{firstBelow}
 use Rattle.lists.specs.Union.{isIn}
 
 -- how many of the units before s are good

@@ -6,7 +6,7 @@ use mathlib.Core.List.{List, _∷_}
 use lib.IntN.{pos, negsuc}
 use lib.ListN.{replicate}
 use Rattle.paper.specs.Checks.{answer}
-use Rattle.seek.specs.First.{firstBelow}
+use Rattle.seek.specs.Lowest.{firstBelow}
 use Rattle.seek.specs.Every.{allBelow}
 use Rattle.shape.specs.declared.Shape.{Shape}
 use Rattle.layout.specs.Layouts.{driveOf}

@@ -8,7 +8,7 @@ use lib.ListN.{length, getD}
 use Rattle.paper.specs.Checks.{pick}
 use Rattle.paper.specs.declared.Named.{Named}
 use Rattle.paper.specs.declared.Named.the-variants.{Block, NoBlock}
-use Rattle.seek.specs.First.{firstBelow}
+use Rattle.seek.specs.Lowest.{firstBelow}
 use Rattle.layout.specs.declared.Drive.{Drive}
 use Rattle.layout.specs.Layouts.{homeSector, spareSector}
 use Rattle.layout.specs.Sides.{isHome, blockOfHome, placeOfSpare}

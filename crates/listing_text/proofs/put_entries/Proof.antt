@@ -8,7 +8,8 @@ use denote.Ref.{now}
 use Rattle.words.specs.Words.{entriesAt}
 use Rattle.words.proofs.Runs.{entriesAt-none}
 use Rattle.page.specs.Layout.{entriesPlace}
-use Rattle.listing_text.specs.Text.{badWord, line, entriesText, lineMost, Puts}
+use Rattle.listing_text.specs.Text.{badWord, line, entriesText}
+use Rattle.listing_text.specs.Steps.{lineMost, Puts}
 use Rattle.listing_text.proofs.Lines.{puts-none, puts-entry, line-short, entriesText-none, entry-below}
 use Rattle.listing_text.proofs.put_entries.Statement.{statement}
 use Rattle.listing_text.proofs.put_entries.Tie as tie

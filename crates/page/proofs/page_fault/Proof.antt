@@ -5,8 +5,7 @@ use mathlib.Core.Path.{sym, _∙_}
 use native.Mathlib.Omega.{arith}
 use borrow.Author.Tests.{not-true, not-false}
 use denote.Ref.{now}
-use Rattle.page.specs.Layout.{LaidOut}
-use Rattle.page.proofs.Exact.{tells-laid-out}
+use Rattle.page.proofs.Exact.{LaidOut, tells-laid-out}
 use Rattle.page.proofs.page_fault.Statement.{statement}
 use Rattle.page.proofs.page_fault.Tie as tie
 

@@ -9,8 +9,8 @@ use denote.Ref.{now}
 use Rattle.paper.specs.Refusals.{noRoom}
 use Rattle.paper.proofs.Chain.{orElse-some}
 use Rattle.words.proofs.Runs.{length-entriesAt}
-use Rattle.page.specs.Layout.{LaidOut, entriesOf, entriesPlace, entryCount}
-use Rattle.page.proofs.Exact.{page-laid-out}
+use Rattle.page.specs.Layout.{entriesOf, entriesPlace, entryCount}
+use Rattle.page.proofs.Exact.{LaidOut, page-laid-out}
 use Rattle.page.proofs.Says.{read-refused, read-accepted}
 use Rattle.page.proofs.read.Statement.{statement}
 use Rattle.page.proofs.read.Tie as tie

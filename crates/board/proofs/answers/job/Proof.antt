@@ -15,13 +15,13 @@ enum-known-answer-3 : tie.Need-enum-known-answer-3
 enum-known-answer-3 c = search needs
 
 returns : tie.Need-returns
-returns c = rw (c .before .answer .given .1) (refl, (refl, (refl, refl)))
+returns c = rw (c .before .answer .given .1) refl
 
 returns-2 : tie.Need-returns-2
-returns-2 c = rw (c .before .answer2 .given .1) (refl, (refl, (refl, refl)))
+returns-2 c = rw (c .before .answer2 .given .1) refl
 
 returns-3 : tie.Need-returns-3
-returns-3 c = rw (c .before .answer3 .given .1) (refl, (refl, (refl, refl)))
+returns-3 c = rw (c .before .answer3 .given .1) refl
 
 pub job-spec : {M : Type 1} → statement M
 job-spec =
