@@ -41,7 +41,7 @@ use Rattle.first_table.proofs.Says.{spares-judge}
 use Rattle.spares.specs.Spares as Spares
 use Rattle.spares.specs.History.{tableAfter}
 use Rattle.image.specs.Code.{wordsOf, rotated, codeAfter, codeFrom, dataCode, carried}
-use Rattle.image.specs.Image.{storedIn, imageOf, imageIn, writeFault}
+use Rattle.image.specs.Image.{storedIn, imageOf, writeFault}
 use Rattle.image.proofs.Exact.{length-passes}
 use Rattle.demands.specs.Mission.{AllowsOnly}
 use Rattle.demands.specs.Inputs.{chart, small, noneReplaced, afterSeven, afterEight, afterSix}
@@ -121,7 +121,7 @@ module _ (shape : Shape) (r : ℕ) where
 -- an image of data of the right length, in a room that is long enough
 code-carried :
     (forced : Bool) (bytes : List ℕ) {code : ℕ} → length bytes ≡ dataSize →
-    ((number : ℕ) (room : List ℕ) → storedIn dataSize (imageIn number bytes forced room) ≡ code) → Holds (image-write forced bytes code)
+    ((number : ℕ) (room : List ℕ) → storedIn dataSize (written (imageOf number bytes forced) room) ≡ code) → Holds (image-write forced bytes code)
 unfolding writeFault
 code-carried forced bytes {code} long stored number room fits =
     let none : writeFault dataSize bytes room ≡ 0 = rw (length-passes dataSize bytes long, le-ltb (length room) (dataSize + imageExtra) fits) in
@@ -130,7 +130,7 @@ code-carried forced bytes {code} long stored number room fits =
 
 -- every row of the paper's table
 pub numbers-to-try : AllHold paperRows
-unfolding faultBelow passes isIn countBelow allBelow firstBelow firstOr rising placeOf outward passing badSpares badHomes marked replacedAll bytes16 bytes32 bytesOf word16At wordsOf rotated codeAfter codeFrom dataCode carried storedIn imageOf imageIn
+unfolding faultBelow passes isIn countBelow allBelow firstBelow firstOr rising placeOf outward passing badSpares badHomes marked replacedAll bytes16 bytes32 bytesOf word16At wordsOf rotated codeAfter codeFrom dataCode carried storedIn imageOf
 numbers-to-try =
     block-walked 848 chart 3 refl refl
     also block-walked 848 chart 57 refl refl

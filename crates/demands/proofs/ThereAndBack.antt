@@ -9,7 +9,7 @@ use mathlib.Core.List.{List, []}
 use lib.Bits.{bitXor}
 use lib.ListN.{length, getD, set, take}
 use denote.Ref.{RefT}
-use Rattle.paper.specs.Limits.{dataSize}
+use Rattle.paper.specs.Limits.{dataSize, headerSize}
 use Rattle.paper.specs.Refusals.{forcedError}
 use Rattle.paper.specs.declared.Written.{Written}
 use Rattle.paper.specs.declared.Written.the-variants.{Length}
@@ -20,7 +20,7 @@ use Rattle.page.specs.declared.Paged.{Paged}
 use Rattle.page.specs.declared.Paged.the-variants.{Page}
 use Rattle.page.proofs.Back.{write-then-read, read-then-write}
 use Rattle.image.specs.Code.{dataCode}
-use Rattle.image.specs.Image.{headerSize, imageOf}
+use Rattle.image.specs.Image.{imageOf}
 use Rattle.image.specs.Judged.{ContentsJudged}
 use Rattle.image.specs.Promises.{Write, Header, Judge, Data}
 use Rattle.image.specs.declared.Head.{Head}

@@ -10,12 +10,12 @@ use lib.IntN.{pos}
 use lib.ListN.{length, take, drop, getD, replicate, length-replicate}
 use lib.Seq.{length-sets}
 use denote.Ref.{RefT}
-use Rattle.paper.specs.Limits.{dataSize, imageExtra}
+use Rattle.paper.specs.Limits.{dataSize, headerSize, imageExtra}
 use Rattle.paper.specs.Exactly.{Exactly}
 use Rattle.paper.specs.Answers.{saidPlaced}
 use Rattle.paper.specs.Refusals.{outside, noSpare, forcedError, badCode}
 use Rattle.paper.specs.declared.Placed.the-variants.{At}
-use Rattle.seek.specs.Count.{countBelow}
+use Rattle.seek.specs.Count.{countBelow, times}
 use Rattle.seek.specs.Every.{allBelow}
 use Rattle.seek.specs.Lowest.{firstBelow, faultBelow}
 use Rattle.seek.specs.Search.{firstOr, rising}
@@ -52,7 +52,7 @@ use Rattle.spares.proofs.Exact.{replace-exactly}
 use Rattle.table.proofs.Exact.{table-ready}
 use Rattle.image.specs.Code as Code
 use Rattle.image.specs.Code.{wordsOf, rotated, codeFrom}
-use Rattle.image.specs.Image.{headerSize, times, alike, copies, headerOf, storedIn, foundIn, dataOf, imageOf, copiesFault, contentsFault, imageFault}
+use Rattle.image.specs.Image.{copies, headerOf, storedIn, foundIn, dataOf, imageOf, copiesFault, contentsFault, imageFault}
 use Rattle.image.specs.Judged.{ImageJudged}
 use Rattle.image.specs.declared.Verdict.the-variants.{Refused as NotGood}
 use Rattle.image.proofs.Exact.{judge-exactly}
@@ -269,11 +269,11 @@ writes-early-keeps-not = (refl, λ keeps. omega (arith, ap (λ (l : List ℕ). g
 
 -- every mismatch taken for a forced error: the code is neither, and no row gives 17
 damaged-fault : imageFault dataSize damaged 6 ≡ badCode
-unfolding damaged imageFault contentsFault copiesFault headerOf times alike copies storedIn foundIn dataOf Code.dataCode codeFrom Code.codeAfter rotated wordsOf bytesOf bytes32 word16At word32At entriesAt
+unfolding damaged imageFault contentsFault copiesFault headerOf times copies storedIn foundIn dataOf Code.dataCode codeFrom Code.codeAfter rotated wordsOf bytesOf bytes32 word16At word32At entriesAt
 damaged-fault = refl
 
 pub every-forced-unjudged : (everyForced damaged 6 ≡ NotGood forcedError) × (ImageJudged dataSize damaged 6 forcedError → ⊥)
-unfolding damaged copiesFault headerOf times alike copies storedIn foundIn dataOf Code.dataCode codeFrom Code.codeAfter rotated wordsOf bytesOf bytes32 word16At word32At entriesAt
+unfolding damaged copiesFault headerOf times copies storedIn foundIn dataOf Code.dataCode codeFrom Code.codeAfter rotated wordsOf bytesOf bytes32 word16At word32At entriesAt
 every-forced-unjudged =
     (refl, no-other (judge-exactly damaged dataSize 6) (λ same. let clash : badCode ≡ forcedError = sym damaged-fault ∙ same in omega arith))
 

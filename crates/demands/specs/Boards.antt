@@ -9,7 +9,7 @@ use lib.ListN.{length, set, replicate}
 use lib.Seq.{sets}
 use denote.Ref.{RefT}
 use Rattle.paper.specs.Checks.{pick, refuse, _orElse_, answer}
-use Rattle.paper.specs.Limits.{tableBlock, dataSize, imageExtra}
+use Rattle.paper.specs.Limits.{tableBlock, dataSize, headerSize, imageExtra}
 use Rattle.paper.specs.Refusals.{alreadyReplaced, noSpare, otherBlock, forcedError}
 use Rattle.paper.specs.declared.Placed.{Placed}
 use Rattle.paper.specs.declared.Placed.the-variants.{At, Refused as NotPlaced}
@@ -50,7 +50,7 @@ use Rattle.spares.specs.declared.Shifted.{Shifted}
 use Rattle.spares.specs.declared.Shifted.the-variants.{By, Refused as NotShifted}
 use Rattle.spares.specs.declared.Counted.{Counted}
 use Rattle.spares.specs.declared.Counted.the-variants.{Counts, Refused as NotCounted}
-use Rattle.image.specs.Image.{copiesMade, headerSize, headerOf, storedIn, foundIn, dataOf, imageOf, lengthFault, copiesFault, contentsFault}
+use Rattle.image.specs.Image.{copiesMade, headerOf, storedIn, foundIn, dataOf, imageOf, lengthFault, copiesFault, contentsFault}
 use Rattle.image.specs.declared.Verdict.{Verdict}
 use Rattle.image.specs.declared.Verdict.the-variants.{Good, Refused as NotGood}
 use Rattle.reading.specs.Tracks.{bytesIn, imageAt}

@@ -6,13 +6,13 @@ use mathlib.Core.List.{List, []}
 use lib.IntN.{ℤ, pos, _+ℤ_}
 use lib.ListN.{length, take, drop}
 use denote.Ref.{RefT}
-use Rattle.paper.specs.Limits.{dataSize, imageExtra}
+use Rattle.paper.specs.Limits.{dataSize, headerSize, imageExtra}
 use Rattle.words.specs.Words.{Bytes}
 use Rattle.shape.specs.declared.Shape.{Shape}
 use Rattle.layout.specs.Layouts.{driveOf, homeCylinder, spareCylinder}
 use Rattle.spares.specs.Promises.{ShiftOf, saidShifted}
 use Rattle.image.specs.declared.Verdict.{Verdict}
-use Rattle.image.specs.Image.{headerSize, imageOf}
+use Rattle.image.specs.Image.{imageOf}
 use Rattle.image.specs.Promises.{saidVerdict, Lends}
 use Rattle.reading.specs.Tracks.{bytesIn}
 use Rattle.reading.specs.Promises.{Data, Judge, Spots, saidSpot}

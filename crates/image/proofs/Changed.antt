@@ -6,11 +6,12 @@ use mathlib.Core.List.{List, [], _∷_}
 use native.Mathlib.Omega.{arith}
 use lib.ListN.{length, getD, drop, set}
 use lib.Seq.{drop-set-add, take-set-lt, getD-take, getD-drop}
+use Rattle.paper.specs.Limits.{headerSize}
 use Rattle.words.specs.Words.{Bytes}
 use Rattle.words.proofs.Bounds.{below-take, below-drop}
 use Rattle.words.proofs.Places.{word16-after}
 use Rattle.image.specs.Code.{dataCode}
-use Rattle.image.specs.Image.{headerSize, dataOf, storedIn, foundIn, contentsFault, imageFault}
+use Rattle.image.specs.Image.{dataOf, storedIn, foundIn, contentsFault, imageFault}
 use Rattle.image.specs.Judged.{GoodCode, ContentsJudged}
 use Rattle.image.proofs.Coding.{one-byte}
 use Rattle.image.proofs.Images.{length-data}

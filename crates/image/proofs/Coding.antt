@@ -11,11 +11,15 @@ use lib.Bits.{bitOr, bitXor, or-shifted, xor-lt}
 use lib.Pow.{pow-pos, pow-lt}
 use Rattle.paper.specs.Limits.{startCode}
 use Rattle.paper.proofs.Cases.{byEq}
-use Rattle.words.specs.Words.{be16, word16At, Bytes}
+use Rattle.words.specs.Words.{be16, word16At, Below, Bytes}
 use Rattle.words.proofs.Digits.{be16-below}
 use Rattle.words.proofs.Places.{word16-drop}
-use Rattle.image.specs.Code.{Fits16, wordsOf, rotated, codeAfter, codeFrom, dataCode, complement}
+use Rattle.image.specs.Code.{wordsOf, rotated, codeAfter, codeFrom, dataCode, complement}
 use Rattle.image.proofs.Xor.{xor-injective, xor-injective-left, xor-changes}
+
+-- a list of numbers that two bytes hold
+abbrev pub Fits16 : List ℕ → Type 0
+Fits16 words = Below (2 ^ 16) words
 
 -- one step
 pub rotated-below : (code : ℕ) → code < 2 ^ 16 → rotated code < 2 ^ 16

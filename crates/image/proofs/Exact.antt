@@ -14,8 +14,9 @@ use Rattle.paper.specs.Refusals.{noRoom, wrongLength, noAddress, otherBlock}
 use Rattle.paper.proofs.Cases.{byEq, byLt}
 use Rattle.paper.proofs.Chain.{orElse-none, orElse-first, orElse-next}
 use Rattle.paper.proofs.Rows.{Tells, tells-not, tells-lt, row, rows, passed-shows, tells-eq}
+use Rattle.seek.specs.Count.{times}
 use Rattle.image.specs.Code.{complement}
-use Rattle.image.specs.Image.{copiesLeast, times, copies, Stands, headerOf, storedIn, foundIn, lengthFault, copiesFault, codeFault, contentsFault, headerFault, imageFault, writeFault}
+use Rattle.image.specs.Image.{copiesLeast, copies, Stands, headerOf, storedIn, foundIn, lengthFault, copiesFault, codeFault, contentsFault, headerFault, imageFault, writeFault}
 use Rattle.image.specs.Judged.{LengthJudged, CopiesJudged, ContentsJudged, HeaderJudged, ImageJudged, WriteJudged}
 use Rattle.image.proofs.Coding.{good-not-forced}
 use Rattle.image.proofs.Copies.{stands-header}

@@ -8,7 +8,8 @@ use native.Mathlib.Nat.{zero-add, add-zero}
 use native.Mathlib.Omega.{arith}
 use lib.ListN.{length, take, drop, replicate, length-append, length-drop}
 use lib.Seq.{sets, sets-eq, take-at, drop-at, take-append-seam, take-append-le, drop-append-le, length-take-le}
-use Rattle.paper.specs.Limits.{imageExtra}
+use Rattle.paper.specs.Limits.{headerSize, imageExtra}
+use Rattle.paper.specs.Promise.{written}
 use Rattle.paper.specs.Refusals.{forcedError}
 use Rattle.paper.proofs.Cases.{byBool}
 use Rattle.words.specs.Words.{bytes16, bytesOf, Bytes}
@@ -17,11 +18,12 @@ use Rattle.words.proofs.Digits.{length-bytes16, word16-bytes16}
 use Rattle.words.proofs.Places.{word16-second}
 use Rattle.words.proofs.Runs.{length-bytesOf, entriesAt-bytesOf}
 use Rattle.words.proofs.Stores.{sets-append}
+use Rattle.seek.proofs.Times.{times-all}
 use Rattle.image.specs.Code.{dataCode, complement, carried}
-use Rattle.image.specs.Image.{copiesMade, headerSize, copies, Stands, headerOf, dataOf, storedIn, foundIn, imageOf, imageIn, contentsFault}
+use Rattle.image.specs.Image.{copiesMade, copies, Stands, headerOf, dataOf, storedIn, foundIn, imageOf, contentsFault}
 use Rattle.image.specs.Judged.{ContentsJudged}
 use Rattle.image.proofs.Coding.{codeOf-below}
-use Rattle.image.proofs.Copies.{times-all, stands-header}
+use Rattle.image.proofs.Copies.{stands-header}
 use Rattle.image.proofs.Exact.{sector-exactly}
 
 pub replicate-below : {bound : ℕ} (count n : ℕ) → 0 < bound → n < bound → Below bound (replicate count n)
@@ -64,12 +66,9 @@ module _ (number : ℕ) where
     pub stored-whole :
         (room : List ℕ) → length bytes + imageExtra ≤ length room →
         sets (sets (sets room 0 (bytesOf (replicate copiesMade number))) headerSize bytes) (headerSize + length bytes) (bytes16 (carried forced bytes))
-        ≡ imageIn number bytes forced room
-    unfolding imageIn
+        ≡ written (imageOf number bytes forced) room
     stored-whole room fits =
-        in-turn room
-        ∙ sets-eq (imageOf number bytes forced) room 0 (omega (arith, length-image))
-        ∙ rw (zero-add, length-image)
+        in-turn room ∙ sets-eq (imageOf number bytes forced) room 0 (omega (arith, length-image)) ∙ rw zero-add
 
     pub written-data : dataOf (length bytes) (imageOf number bytes forced) ≡ bytes
     unfolding dataOf imageOf
@@ -78,20 +77,20 @@ module _ (number : ℕ) where
         (take-append-seam bytes (bytes16 (carried forced bytes)))
 
     -- the image stands in the first places of the room, and the rest is as it was
-    pub image-first : (room : List ℕ) → take (length bytes + imageExtra) (imageIn number bytes forced room) ≡ imageOf number bytes forced
-    unfolding imageIn
-    image-first room = take-at (imageOf number bytes forced) (drop (length bytes + imageExtra) room) (length bytes + imageExtra) length-image
+    pub image-first : (room : List ℕ) → take (length bytes + imageExtra) (written (imageOf number bytes forced) room) ≡ imageOf number bytes forced
+    image-first room = take-at (imageOf number bytes forced) (drop (length (imageOf number bytes forced)) room) (length bytes + imageExtra) length-image
 
-    pub image-rest : (room : List ℕ) → drop (length bytes + imageExtra) (imageIn number bytes forced room) ≡ drop (length bytes + imageExtra) room
-    unfolding imageIn
-    image-rest room = drop-at (imageOf number bytes forced) (drop (length bytes + imageExtra) room) (length bytes + imageExtra) length-image
+    pub image-rest : (room : List ℕ) → drop (length bytes + imageExtra) (written (imageOf number bytes forced) room) ≡ drop (length bytes + imageExtra) room
+    image-rest room =
+        drop-at (imageOf number bytes forced) (drop (length (imageOf number bytes forced)) room) (length bytes + imageExtra) length-image
+        ∙ ap (λ (long : ℕ). drop long room) length-image
 
     -- the data still stands where it was written
-    pub image-data : (room : List ℕ) → dataOf (length bytes) (imageIn number bytes forced room) ≡ bytes
-    unfolding imageIn dataOf
+    pub image-data : (room : List ℕ) → dataOf (length bytes) (written (imageOf number bytes forced) room) ≡ bytes
+    unfolding dataOf
     image-data room =
         let image = imageOf number bytes forced in
-        let rest = drop (length bytes + imageExtra) room in
+        let rest = drop (length image) room in
         let behind : length (drop headerSize image) ≡ length bytes + 2 = length-drop headerSize image ∙ omega (arith, length-image) in
         rw (
           drop-append-le headerSize image rest (omega (arith, length-image)),

@@ -1,4 +1,4 @@
--- What is written is read again: of an accepted write the image in the room names its number, is judged as it was written, and gives its data back where it lies.
+-- What is written is read again: of an accepted write the image in the room names its number, is judged as it was written, and gives its data back where it lies. The header's reader answers the number that stands in three of the four copies, and no other.
 -- Assumes nothing.
 use Prim.Native.Nat.{ℕ, _+_, _^_, _<_}
 use mathlib.Core.Path.{_≡_, sym, _∙_, ap}
@@ -8,7 +8,8 @@ use native.Mathlib.Omega.{arith}
 use lib.ListN.{length, take, drop}
 use denote.Ref.{RefT}
 use Rattle.paper.specs.Checks.{answer}
-use Rattle.paper.specs.Limits.{imageExtra}
+use Rattle.paper.specs.Limits.{headerSize, imageExtra}
+use Rattle.paper.specs.Promise.{written}
 use Rattle.paper.specs.Refusals.{forcedError}
 use Rattle.paper.proofs.Cases.{byFault}
 use Rattle.paper.proofs.Chain.{answer-refused, answer-accepted}
@@ -17,8 +18,8 @@ use Rattle.image.specs.declared.Head.{Head}
 use Rattle.image.specs.declared.Head.the-variants.{Number, Refused as NoHead}
 use Rattle.image.specs.declared.Verdict.{Verdict}
 use Rattle.image.specs.declared.Verdict.the-variants.{Good, Refused as NotGood}
-use Rattle.image.specs.Image.{headerSize, Stands, headerOf, dataOf, imageOf, imageIn, headerFault, imageFault, writeFault}
-use Rattle.image.specs.Promises.{DataSized}
+use Rattle.image.specs.Image.{Stands, headerOf, dataOf, imageOf, headerFault, imageFault, writeFault}
+use Rattle.image.specs.Promises.{HeaderSized, DataSized}
 use Rattle.image.proofs.Copies.{stands-header}
 use Rattle.image.proofs.Exact.{address-shows, address-passes, header-address, header-length, image-sector, write-shows}
 use Rattle.image.proofs.Lent.{refused-empty, accepted-data, accepted-lies}
@@ -32,15 +33,15 @@ abbrev pub verdict : ℕ → List ℕ → ℕ → Verdict
 verdict size image number = answer (imageFault size image number) NotGood Good
 
 abbrev pub roomAfter : ℕ → ℕ → List ℕ → Bool → List ℕ → List ℕ
-roomAfter size number bytes forced room = answer (writeFault size bytes room) (λ fault. room) (imageIn number bytes forced room)
+roomAfter size number bytes forced room = answer (writeFault size bytes room) (λ fault. room) (written (imageOf number bytes forced) room)
 
--- the header's reader answers a number exactly where the image has its length and the number stands in three of the four copies
-pub header-answers : (size : ℕ) (image : List ℕ) (m : ℕ) → length image ≡ size + imageExtra → Stands image m → headed size image ≡ Number m
-header-answers size image m long stands =
+-- the answer of the header's reader is a number exactly where the image has its length and the number stands
+stands-headed : (size : ℕ) (image : List ℕ) (m : ℕ) → length image ≡ size + imageExtra → Stands image m → headed size image ≡ Number m
+stands-headed size image m long stands =
     rw (header-address image size long, address-passes image m stands, stands-header image m stands)
 
-pub header-answered : (size : ℕ) (image : List ℕ) (m : ℕ) → headed size image ≡ Number m → (length image ≡ size + imageExtra) × Stands image m
-header-answered size image m answered =
+headed-stands : (size : ℕ) (image : List ℕ) (m : ℕ) → headed size image ≡ Number m → (length image ≡ size + imageExtra) × Stands image m
+headed-stands size image m answered =
     byFault (headerFault size image)
     (λ none.
     let named : Number (headerOf image) ≡ Number m = sym (answer-accepted (headerFault size image) NoHead (Number (headerOf image)) none) ∙ answered in
@@ -52,6 +53,14 @@ header-answered size image m answered =
     let z : _≡_ {A = ℕ} 0 1 = cc in
     absurd (omega arith))
 
+-- any result that the promise allows is a number exactly where the image has its length and the number stands
+module _ (size : ℕ) (image : List ℕ) (m : ℕ) {result : Head} (promise : HeaderSized size image result) where
+  pub header-answers : length image ≡ size + imageExtra → Stands image m → result ≡ Number m
+  header-answers long stands = promise .answers ∙ stands-headed size image m long stands
+
+  pub header-answered : result ≡ Number m → (length image ≡ size + imageExtra) × Stands image m
+  header-answered is = headed-stands size image m (sym (promise .answers) ∙ is)
+
 -- an image of data of a size
 module _ (size number : ℕ) (bytes : List ℕ) (long : length bytes ≡ size) (fits : number < 2 ^ 32) (h : Bytes bytes) where
   image-long : (forced : Bool) → length (imageOf number bytes forced) ≡ size + imageExtra
@@ -59,7 +68,7 @@ module _ (size number : ℕ) (bytes : List ℕ) (long : length bytes ≡ size) (
 
   -- its header answers its number
   pub image-names : (forced : Bool) → headed size (imageOf number bytes forced) ≡ Number number
-  image-names forced = header-answers size (imageOf number bytes forced) number (image-long forced) (written-stands number bytes forced fits)
+  image-names forced = stands-headed size (imageOf number bytes forced) number (image-long forced) (written-stands number bytes forced fits)
 
   good-fault : imageFault size (imageOf number bytes false) number ≡ 0
   good-fault = image-sector (imageOf number bytes false) size number (image-long false) ∙ (rw long at (written-good number bytes fits h))
@@ -100,4 +109,4 @@ module _ (size number : ℕ) (bytes : List ℕ) (forced : Bool) (room : List ℕ
 
 -- a refused write leaves the whole room
 pub room-kept : (size number : ℕ) (bytes : List ℕ) (forced : Bool) (room : List ℕ) → (writeFault size bytes room ≡ 0 → ⊥) → roomAfter size number bytes forced room ≡ room
-room-kept size number bytes forced room some = answer-refused (writeFault size bytes room) (λ fault. room) (imageIn number bytes forced room) some
+room-kept size number bytes forced room some = answer-refused (writeFault size bytes room) (λ fault. room) (written (imageOf number bytes forced) room) some

@@ -1,17 +1,13 @@
--- Document 01, "Sector image": the 16-bit code of data, over any number of words.
+-- Document 01, "Sector image": the 16-bit code of data, for any number of words, and the code that an image carries.
 use Prim.Native.Nat.{ℕ, _+_, _-_, _*_, _/_, _%_, _^_}
 use mathlib.Core.Bool.{Bool}
 use mathlib.Core.List.{List, [], _∷_}
 use lib.Bits.{bitXor}
 use Rattle.paper.specs.Checks.{pick}
 use Rattle.paper.specs.Limits.{startCode}
-use Rattle.words.specs.Words.{be16, Below}
+use Rattle.words.specs.Words.{be16}
 
--- a list of numbers that two bytes hold
-abbrev pub Fits16 : List ℕ → Type 0
-Fits16 words = Below (2 ^ 16) words
-
--- the words of data, two bytes each
+-- the words of data, two bytes each; a last byte alone is none
 unfoldable pub wordsOf : List ℕ → List ℕ
 wordsOf [] = []
 wordsOf (lone ∷ []) = []
@@ -21,7 +17,7 @@ wordsOf (hi ∷ lo ∷ bytes) = be16 hi lo ∷ wordsOf bytes
 unfoldable pub rotated : ℕ → ℕ
 rotated code = code * 2 % 2 ^ 16 + code / 2 ^ 15
 
--- the code after one word more: rotated, then the exclusive or with the word
+-- the code after one word more: the code before it rotated, then the exclusive or with the word
 unfoldable pub codeAfter : ℕ → ℕ → ℕ
 codeAfter code word = bitXor (rotated code) word
 
@@ -30,7 +26,7 @@ unfoldable pub codeFrom : ℕ → List ℕ → ℕ
 codeFrom code [] = code
 codeFrom code (word ∷ words) = codeFrom (codeAfter code word) words
 
--- the code of data
+-- the code of data: from the starting code on, after all its words
 unfoldable pub dataCode : List ℕ → ℕ
 dataCode bytes = codeFrom startCode (wordsOf bytes)
 

@@ -1,13 +1,14 @@
 -- Document 01, "Sector image": what an image holds, for any number of data bytes, and the checks of an image and of its writer.
 use Prim.Native.Nat.{ℕ, _+_, _≤_}
 use mathlib.Core.Bool.{Bool, not}
-use mathlib.Core.List.{List, [], _∷_, _++_}
+use mathlib.Core.List.{List, _++_}
 use lib.Dec.{eqb, ltb}
 use lib.ListN.{length, take, drop, replicate}
 use Rattle.paper.specs.Checks.{pick, refuse, _orElse_}
-use Rattle.paper.specs.Limits.{imageExtra}
+use Rattle.paper.specs.Limits.{headerSize, imageExtra}
 use Rattle.paper.specs.Refusals.{noRoom, wrongLength, noAddress, otherBlock, forcedError, badCode}
 use Rattle.words.specs.Words.{bytes16, word16At, word32At, bytesOf, entriesAt}
+use Rattle.seek.specs.Count.{times}
 use Rattle.image.specs.Code.{dataCode, complement, carried}
 
 -- copies of the number in a header
@@ -17,19 +18,6 @@ copiesMade = 4
 -- copies that must be alike
 abbrev pub copiesLeast : ℕ
 copiesLeast = 3
-
--- bytes of a header, and so where the data begins
-abbrev pub headerSize : ℕ
-headerSize = 16
-
--- 1 for a copy that is the number, else 0
-unfoldable pub alike : ℕ → ℕ → ℕ
-alike copy number = pick (eqb copy number) 1 0
-
--- how many times a number stands in a list
-unfoldable pub times : ℕ → List ℕ → ℕ
-times number [] = 0
-times number (n ∷ list) = alike n number + times number list
 
 -- the copies of the number in an image's header, whole numbers of four bytes
 unfoldable pub copies : List ℕ → List ℕ
@@ -59,15 +47,11 @@ foundIn size image = dataCode (dataOf size image)
 unfoldable pub imageOf : ℕ → List ℕ → Bool → List ℕ
 imageOf number bytes forced = bytesOf (replicate copiesMade number) ++ (bytes ++ bytes16 (carried forced bytes))
 
--- a room whose first places an image fills
-unfoldable pub imageIn : ℕ → List ℕ → Bool → List ℕ → List ℕ
-imageIn number bytes forced room = imageOf number bytes forced ++ drop (length bytes + imageExtra) room
-
 -- 14 for bytes of another length
 abbrev pub lengthFault : ℕ → List ℕ → ℕ
 lengthFault long bytes = refuse (not (eqb (length bytes) long)) wrongLength
 
--- 15 for a header in which no number stands
+-- 15 for a header in which no number stands in three copies
 unfoldable pub copiesFault : List ℕ → ℕ
 copiesFault image = refuse (ltb (times (headerOf image) (copies image)) copiesLeast) noAddress
 
@@ -75,7 +59,7 @@ copiesFault image = refuse (ltb (times (headerOf image) (copies image)) copiesLe
 abbrev pub codeFault : ℕ → ℕ → ℕ
 codeFault stored found = pick (eqb stored found) 0 (pick (eqb stored (complement found)) forcedError badCode)
 
--- 15, 16, then the code, of an image of the right length that is to name the number
+-- 15, 16, then 17 or 18: checks of what an image of the right length holds, which is to name the number
 unfoldable pub contentsFault : ℕ → List ℕ → ℕ → ℕ
 contentsFault size image number =
     copiesFault image

@@ -4,17 +4,17 @@ use mathlib.Core.Path.{_≡_}
 use mathlib.Core.Bool.{Bool}
 use mathlib.Core.List.{List, []}
 use denote.Ref.{RefT}
-use Rattle.paper.specs.Checks.{answer, given}
+use Rattle.paper.specs.Checks.{answer}
 use Rattle.paper.specs.Answers.{FillsWritten}
-use Rattle.paper.specs.Promise.{Gives}
-use Rattle.paper.specs.Limits.{dataSize, imageExtra}
+use Rattle.paper.specs.Promise.{Gives, written}
+use Rattle.paper.specs.Limits.{dataSize, headerSize, imageExtra}
 use Rattle.paper.specs.declared.Written.{Written}
 use Rattle.paper.specs.declared.Written.the-variants.{Length}
 use Rattle.image.specs.declared.Head.{Head}
 use Rattle.image.specs.declared.Head.the-variants.{Number, Refused as NoHead}
 use Rattle.image.specs.declared.Verdict.{Verdict}
 use Rattle.image.specs.declared.Verdict.the-variants.{Good, Refused as NotGood}
-use Rattle.image.specs.Image.{headerSize, headerOf, dataOf, imageIn, headerFault, imageFault, writeFault}
+use Rattle.image.specs.Image.{headerOf, dataOf, imageOf, headerFault, imageFault, writeFault}
 
 -- refusal, number
 abbrev pub saidHead : Head → ℕ × ℕ
@@ -39,7 +39,7 @@ pub record Lends (bytes : RefT (List ℕ)) (at : ℕ) (held : List ℕ) (part : 
 
 -- the image's length; the room then holds the image in its first places
 abbrev pub WriteSized : ℕ → ℕ → List ℕ → Bool → List ℕ → Written → List ℕ → Type 0
-WriteSized size number bytes forced room = FillsWritten (writeFault size bytes room) (Length (size + imageExtra)) room (imageIn number bytes forced room)
+WriteSized size number bytes forced room = FillsWritten (writeFault size bytes room) (Length (size + imageExtra)) room (written (imageOf number bytes forced) room)
 
 abbrev pub HeaderSized : ℕ → List ℕ → Head → Type 0
 HeaderSized size image = GivesHead (headerFault size image) (Number (headerOf image))
@@ -50,8 +50,7 @@ JudgeSized size image number = GivesVerdict (imageFault size image number) Good
 -- the part that is handed back: the data where it lies, or the empty part at the start of the image
 abbrev pub DataSized : ℕ → RefT (List ℕ) → ℕ → RefT (List ℕ) → Type 0
 DataSized size image number =
-    Lends image (given (imageFault size (image .now) number) headerSize)
-    (answer (imageFault size (image .now) number) (λ fault. []) (dataOf size (image .now)))
+    answer (imageFault size (image .now) number) (λ fault. Lends image 0 []) (Lends image headerSize (dataOf size (image .now)))
 
 -- the public calls, at 512 data bytes
 abbrev pub Write : ℕ → List ℕ → Bool → List ℕ → Written → List ℕ → Type 0

@@ -3,14 +3,17 @@ ghost use mathlib.Core.Path.{_≡_};
 ghost use Prim.Native.Nat.{_+_, _<_, _≤_, _^_};
 ghost use lib.ListN.{length, replicate};
 ghost use lib.Seq.{sets};
-ghost use Rattle.paper.specs.Limits.{imageExtra};
+ghost use Rattle.paper.specs.Promise.{written};
+ghost use Rattle.paper.specs.Limits.{headerSize, imageExtra};
 ghost use Rattle.words.specs.Words.{bytesOf};
+ghost use Rattle.seek.specs.Count.{times};
 ghost use Rattle.image.specs.Code.{codeAfter, dataCode, carried};
-ghost use Rattle.image.specs.Image.{copiesMade, headerSize, alike, times, copies, headerOf, imageIn, copiesFault, codeFault, contentsFault, headerFault, imageFault, writeFault};
+ghost use Rattle.image.specs.Image.{copiesMade, copies, headerOf, imageOf, copiesFault, codeFault, contentsFault, headerFault, imageFault, writeFault};
 ghost use Rattle.image.specs.Promises.{WriteSized, HeaderSized, JudgeSized, DataSized, Write, Header, Judge, Data};
 use paper::BAD_CODE;
 use paper::DATA_SIZE;
 use paper::FORCED_ERROR;
+use paper::HEADER_SIZE;
 use paper::IMAGE_EXTRA;
 use paper::NO_ADDRESS;
 use paper::NO_ROOM;
@@ -20,8 +23,6 @@ use paper::WRONG_LENGTH;
 use paper::Written;
 
 const COPIES_LEAST: u32 = 3;
-
-pub const HEADER_SIZE: usize = 16;
 
 const CODE_MOST: u16 = 0xFFFF;
 
@@ -44,8 +45,8 @@ fn code_after(code: u16, word: u16) -> u16
     ((code << 1) | (code >> 15)) ^ word
 }
 
-// The code of data; an odd last byte is no word. Only other crates call this.
-pub fn data_code(bytes: &[u8]) -> u16
+// The code of data; an odd last byte is no word.
+fn data_code(bytes: &[u8]) -> u16
     ensures { λ result. ⌜ result ≡ dataCode (now (bytes .entry)) ⌝ }
 {
     let mut code = START_CODE;
@@ -68,30 +69,20 @@ fn carried(bytes: &[u8], forced: bool) -> u16
     code
 }
 
-// 1 for a copy that is the number, else 0.
-fn alike(copy: u32, number: u32) -> u32
-    ensures { λ result. ⌜ result ≡ alike copy number ⌝ }
-{
-    if copy == number {
-        return 1;
-    }
-    0
-}
-
 // How many of the four copies are the number.
 fn times(image: &[u8], number: u32) -> u32
     requires { ⌜ headerSize ≤ length (now image) ⌝ }
     ensures { λ result. ⌜ result ≡ times number (copies (now (image .entry))) ⌝ }
 {
-    let first = alike(words::word32_at(image, 0), number);
-    let second = alike(words::word32_at(image, 4), number);
-    let third = alike(words::word32_at(image, 8), number);
-    let fourth = alike(words::word32_at(image, 12), number);
+    let first = paper::one_if(words::word32_at(image, 0) == number);
+    let second = paper::one_if(words::word32_at(image, 4) == number);
+    let third = paper::one_if(words::word32_at(image, 8) == number);
+    let fourth = paper::one_if(words::word32_at(image, 12) == number);
     first + (second + (third + fourth))
 }
 
-// The number of a header in which one stands three times. Only other crates call this.
-pub fn header_of(image: &[u8]) -> u32
+// The number of a header in which one stands three times.
+fn header_of(image: &[u8]) -> u32
     requires { ⌜ headerSize ≤ length (now image) ⌝ }
     ensures { λ result. ⌜ result ≡ headerOf (now (image .entry)) ⌝ }
 {
@@ -102,8 +93,8 @@ pub fn header_of(image: &[u8]) -> u32
     first
 }
 
-// 15 for a header in which no number stands three times, else 0. Only other crates call this.
-pub fn copies_fault(image: &[u8]) -> u32
+// 15 for a header in which no number stands three times, else 0.
+fn copies_fault(image: &[u8]) -> u32
     requires { ⌜ headerSize ≤ length (now image) ⌝ }
     ensures { λ result. ⌜ result ≡ copiesFault (now (image .entry)) ⌝ }
 {
@@ -143,8 +134,8 @@ pub fn contents_fault(size: usize, image: &[u8], number: u32) -> u32
     code_fault(stored, found)
 }
 
-// 14 or 15 for an image, else 0. Only other crates call this.
-pub fn header_fault(size: usize, image: &[u8]) -> u32
+// 14 or 15 for an image, else 0.
+fn header_fault(size: usize, image: &[u8]) -> u32
     requires { ⌜ size + imageExtra < 2 ^ 32 ⌝ }
     ensures { λ result. ⌜ result ≡ headerFault size (now (image .entry)) ⌝ }
 {
@@ -154,8 +145,8 @@ pub fn header_fault(size: usize, image: &[u8]) -> u32
     copies_fault(image)
 }
 
-// 14 to 18 for an image, else 0. Only other crates call this.
-pub fn image_fault(size: usize, image: &[u8], number: u32) -> u32
+// 14 to 18 for an image, else 0.
+fn image_fault(size: usize, image: &[u8], number: u32) -> u32
     requires { ⌜ size + imageExtra < 2 ^ 32 ⌝ }
     ensures { λ result. ⌜ result ≡ imageFault size (now (image .entry)) number ⌝ }
 {
@@ -205,7 +196,7 @@ pub fn put_bytes(room: &mut [u8], at: usize, bytes: &[u8])
 // Writes the image of data into the first places of a room.
 fn put_image(number: u32, bytes: &[u8], forced: bool, room: &mut [u8])
     requires { ⌜ length (now bytes) + imageExtra ≤ length (now room) ⌝ }
-    ensures { λ result. ⌜ now (room .exit) ≡ imageIn number (now (bytes .entry)) forced (now (room .entry)) ⌝ }
+    ensures { λ result. ⌜ now (room .exit) ≡ written (imageOf number (now (bytes .entry)) forced) (now (room .entry)) ⌝ }
 {
     let code = carried(bytes, forced);
     put_header(room, number);
@@ -213,8 +204,8 @@ fn put_image(number: u32, bytes: &[u8], forced: bool, room: &mut [u8])
     words::put16(room, HEADER_SIZE + bytes.len(), code);
 }
 
-// Writes the image of data of a size. Checks 14, 7. Only other crates call this.
-pub fn write_sized(size: usize, number: u32, bytes: &[u8], forced: bool, room: &mut [u8]) -> Written
+// Writes the image of data of a size. Checks 14, 7.
+fn write_sized(size: usize, number: u32, bytes: &[u8], forced: bool, room: &mut [u8]) -> Written
     requires { ⌜ size + imageExtra < 2 ^ 32 ⌝ }
     ensures { λ result. ⌜ WriteSized size number (now (bytes .entry)) forced (now (room .entry)) result (now (room .exit)) ⌝ }
 {
@@ -226,8 +217,8 @@ pub fn write_sized(size: usize, number: u32, bytes: &[u8], forced: bool, room: &
     Written::Length((size + IMAGE_EXTRA) as u32)
 }
 
-// The number that the header of an image carries. Checks 14, 15. Only other crates call this.
-pub fn header_sized(size: usize, image: &[u8]) -> Head
+// The number that the header of an image carries. Checks 14, 15.
+fn header_sized(size: usize, image: &[u8]) -> Head
     requires { ⌜ size + imageExtra < 2 ^ 32 ⌝ }
     ensures { λ result. ⌜ HeaderSized size (now (image .entry)) result ⌝ }
 {
@@ -238,8 +229,8 @@ pub fn header_sized(size: usize, image: &[u8]) -> Head
     Head::Number(header_of(image))
 }
 
-// The verdict on an image that is to name a number. Checks 14, 15, 16, then the code. Only other crates call this.
-pub fn judge_sized(size: usize, image: &[u8], number: u32) -> Verdict
+// The verdict on an image that is to name a number. Checks 14, 15, 16, then the code.
+fn judge_sized(size: usize, image: &[u8], number: u32) -> Verdict
     requires { ⌜ size + imageExtra < 2 ^ 32 ⌝ }
     ensures { λ result. ⌜ JudgeSized size (now (image .entry)) number result ⌝ }
 {
@@ -250,8 +241,8 @@ pub fn judge_sized(size: usize, image: &[u8], number: u32) -> Verdict
     Verdict::Good
 }
 
-// The data of a good image where it lies, else the empty part at the image's start. Only other crates call this.
-pub fn data_sized(size: usize, image: &[u8], number: u32) -> &[u8]
+// The data of a good image where it lies, else the empty part at the image's start.
+fn data_sized(size: usize, image: &[u8], number: u32) -> &[u8]
     requires { ⌜ size + imageExtra < 2 ^ 32 ⌝ }
     ensures { λ result. ⌜ DataSized size (image .entry) number result ⌝ }
 {

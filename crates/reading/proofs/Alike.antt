@@ -1,7 +1,7 @@
 -- A read depends on one sector image, that of the block: verdict, spot and part stay the same when the other image, or any other sector of this one, holds other bytes.
 -- Assumes nothing.
-use Prim.Native.Nat.{ℕ, zero, suc, _+_, _<_, _≤_}
-use mathlib.Core.Path.{_≡_, refl, sym, _∙_}
+use Prim.Native.Nat.{ℕ, _+_, _<_, _≤_}
+use mathlib.Core.Path.{_≡_, refl, sym, _∙_, ap}
 use mathlib.Core.List.{List}
 use native.Mathlib.Omega.{arith}
 use lib.ListN.{length, getD, take, drop, length-take, length-drop}
@@ -9,18 +9,27 @@ use lib.Seq.{sets, length-sets, getD-take, getD-drop, ext-getD}
 use denote.Ref.{RefT}
 use Rattle.paper.specs.Checks.{answer}
 use Rattle.paper.specs.Limits.{imageExtra}
-use Rattle.paper.proofs.Cases.{byBool, byLt}
+use Rattle.paper.proofs.Cases.{byBool, byLt, byFault}
 use Rattle.words.proofs.Stores.{getD-sets-before, getD-sets-after}
 use Rattle.shape.specs.declared.Shape.{Shape}
+use Rattle.layout.specs.declared.Drive.{Drive}
 use Rattle.layout.specs.Layouts.{driveOf}
 use Rattle.table.specs.Lookup.{Replaced, isReplaced}
 use Rattle.table.proofs.Lookups.{tells-replaced}
+use Rattle.image.specs.Image.{dataOf}
 use Rattle.image.specs.declared.Verdict.the-variants.{Good, Refused as NotGood}
-use Rattle.reading.specs.Tracks.{trackOf, sectorIn, bytesIn, imageAt, Agree}
+use Rattle.reading.specs.Tracks.{trackOf, sectorIn, bytesIn, imageAt, imageFor}
 use Rattle.reading.specs.Faults.{lentFault, blockReadFault}
 use Rattle.reading.specs.Promises.{DataSized}
 use Rattle.reading.proofs.Spots.{spotted}
-use Rattle.reading.proofs.Tracks.{image-inside}
+use Rattle.reading.proofs.Tracks.{track-ptr, image-inside}
+use Rattle.reading.proofs.Parts.{refused-part, accepted-part, refused-empty, accepted-data}
+
+-- two pairs of images that are as long and hold the same sector image of a block: whatever else they hold may differ
+pub record Agree (size : ℕ) (drive : Drive) (t : List ℕ) (b : ℕ) (home spare home′ spare′ : List ℕ) : Type 0 where
+  pub home-alike : length home ≡ length home′
+  pub spare-alike : length spare ≡ length spare′
+  pub lies-alike : imageFor size drive t b home spare ≡ imageFor size drive t b home′ spare′
 
 module _ (size : ℕ) where
   -- two tracks that agree on a sector image have the same one there
@@ -69,10 +78,6 @@ module _ (size : ℕ) (shape : Shape) (r : ℕ) (t : List ℕ) (b : ℕ) where
     pub spot-alike : spotted size shape r t b home spare ≡ spotted size shape r t b home′ spare′
     spot-alike = rw read-alike
 
-  lent-ptr : (fault : ℕ) (home spare : RefT (List ℕ)) → answer fault (λ refused. home) (trackOf t b home spare) .ptr ≡ answer fault (λ refused. home .ptr) (trackOf t b (home .ptr) (spare .ptr))
-  lent-ptr zero home spare = byBool (isReplaced t b) (λ e. rw e) (λ e. rw e)
-  lent-ptr (suc fault) home spare = refl
-
   -- the parts hold the same, and lie at the same place where the images do
   module _
       (home spare home′ spare′ part part′ : RefT (List ℕ))
@@ -81,15 +86,26 @@ module _ (size : ℕ) (shape : Shape) (r : ℕ) (t : List ℕ) (b : ℕ) where
       (second : DataSized size shape r t b home′ spare′ part′)
     where
       pub part-alike : part .now ≡ part′ .now
-      part-alike = first .holds ∙ rw (read-alike agree, agree .lies-alike) (sym (second .holds))
+      part-alike =
+          byFault (blockReadFault size shape r t b (home .now) (spare .now))
+          (λ none.
+          accepted-data size shape r t b home spare part first none
+          ∙ ap (dataOf size) (agree .lies-alike)
+          ∙ sym (accepted-data size shape r t b home′ spare′ part′ second (sym (read-alike agree) ∙ none)))
+          (λ some.
+          refused-empty size shape r t b home spare part first some
+          ∙ sym (refused-empty size shape r t b home′ spare′ part′ second (λ none. some (read-alike agree ∙ none))))
 
       pub part-placed : home .ptr ≡ home′ .ptr → spare .ptr ≡ spare′ .ptr → part .ptr ≡ part′ .ptr
       part-placed homes spares =
-          let fault = blockReadFault size shape r t b (home .now) (spare .now) in
-          let fault′ = blockReadFault size shape r t b (home′ .now) (spare′ .now) in
-          let one : answer fault (λ refused. home) (trackOf t b home spare) .ptr ≡ answer fault′ (λ refused. home′) (trackOf t b home′ spare′) .ptr =
-          lent-ptr fault home spare ∙ rw (homes, spares, read-alike agree) (sym (lent-ptr fault′ home′ spare′)) in
-          first .lies ∙ rw (one, read-alike agree) (sym (second .lies))
+          byFault (blockReadFault size shape r t b (home .now) (spare .now))
+          (λ none.
+          let track : trackOf t b home spare .ptr ≡ trackOf t b home′ spare′ .ptr = track-ptr t b home spare ∙ rw (homes, spares) (sym (track-ptr t b home′ spare′)) in
+          accepted-part size shape r t b home spare part first none .lies
+          ∙ rw track (sym (accepted-part size shape r t b home′ spare′ part′ second (sym (read-alike agree) ∙ none) .lies)))
+          (λ some.
+          refused-part size shape r t b home spare part first some .lies
+          ∙ rw homes (sym (refused-part size shape r t b home′ spare′ part′ second (λ none. some (read-alike agree ∙ none)) .lies)))
 
   -- the other image may hold anything of its length
   module _ (home spare other : List ℕ) where

@@ -1,25 +1,26 @@
 -- The part that is handed back: it is empty exactly where the verdict refuses, and it is the data at the spot.
 -- Assumes nothing.
-use Prim.Native.Nat.{ℕ, _<_}
+use Prim.Native.Nat.{ℕ, _+_, _-_, _<_}
 use mathlib.Core.Path.{_≡_, sym, _∙_, ap}
 use mathlib.Core.List.{List, []}
 use native.Mathlib.Omega.{arith}
-use lib.ListN.{length}
+use lib.ListN.{length, take, drop}
 use denote.Ref.{RefT}
 use Rattle.paper.proofs.Cases.{byBool, byFault}
-use Rattle.paper.proofs.Chain.{answer-refused, answer-accepted, given-refused}
+use Rattle.paper.proofs.Chain.{answer-refused}
 use Rattle.shape.specs.declared.Shape.{Shape}
 use Rattle.layout.specs.Layouts.{driveOf}
 use Rattle.table.specs.Lookup.{isReplaced}
 use Rattle.image.specs.Image.{dataOf}
 use Rattle.image.specs.Promises.{Lends}
 use Rattle.image.proofs.Images.{length-data}
-use Rattle.reading.specs.declared.answers.Spot.the-variants.{Refused as NotSpotted}
+use Rattle.image.proofs.Lent.{part-refused, part-accepted, refuses-part, part-one}
+use Rattle.reading.specs.declared.answers.Spot.the-variants.{InHome, InSpare, Refused as NotSpotted}
 use Rattle.reading.specs.Tracks.{trackOf, startOf, dataStart, imageFor}
 use Rattle.reading.specs.Faults.{blockReadFault}
 use Rattle.reading.specs.Promises.{spotOf, DataSized, AtSpot, in-home, in-spare, nowhere}
 use Rattle.reading.proofs.Tracks.{image-long, data-inside}
-use Rattle.reading.proofs.Spots.{lies-inside, track-long, read-shows, spotted}
+use Rattle.reading.proofs.Spots.{lies-inside, track-long, read-shows, spotted, home-told, spare-told, refused-told}
 
 module _ (size : ℕ) (shape : Shape) (r : ℕ) (t : List ℕ) (b : ℕ) where
   -- the data of a block that is read without fault has its size
@@ -31,47 +32,94 @@ module _ (size : ℕ) (shape : Shape) (r : ℕ) (t : List ℕ) (b : ℕ) where
       length-data size (imageFor size (driveOf shape r) t b home spare)
       (image-long size (startOf size (driveOf shape r) t b) (trackOf t b home spare) (rw (track-long lent) (lies-inside lent)))
 
-  module _ (home spare part : RefT (List ℕ)) (given-part : DataSized size shape r t b home spare part) where
-    refused-part : (blockReadFault size shape r t b (home .now) (spare .now) ≡ 0 → ⊥) → Lends home 0 [] part
-    refused-part some =
-        let fault = blockReadFault size shape r t b (home .now) (spare .now) in
-        record {
-          holds = given-part .holds ∙ answer-refused fault (λ refused. []) _ some;
-          lies =
-              given-part .lies
-              ∙ rw (answer-refused fault (λ refused. home) (trackOf t b home spare) some, given-refused fault (dataStart size (driveOf shape r) t b) some);
-        }
+  module _ (home spare : RefT (List ℕ)) where
+    abbrev fault : ℕ
+    fault = blockReadFault size shape r t b (home .now) (spare .now)
 
-    pub refused-empty : (blockReadFault size shape r t b (home .now) (spare .now) ≡ 0 → ⊥) → part .now ≡ []
-    refused-empty some = refused-part some .holds
+    abbrev Empty : RefT (List ℕ) → Type 0
+    Empty = Lends home 0 []
 
-    pub accepted-data :
-        blockReadFault size shape r t b (home .now) (spare .now) ≡ 0 →
-        part .now ≡ dataOf size (imageFor size (driveOf shape r) t b (home .now) (spare .now))
-    accepted-data none = given-part .holds ∙ answer-accepted (blockReadFault size shape r t b (home .now) (spare .now)) (λ refused. []) _ none
+    abbrev Whole : RefT (List ℕ) → Type 0
+    Whole = Lends (trackOf t b home spare) (dataStart size (driveOf shape r) t b) (dataOf size (imageFor size (driveOf shape r) t b (home .now) (spare .now)))
 
-    pub empty-refused : 0 < size → part .now ≡ [] → blockReadFault size shape r t b (home .now) (spare .now) ≡ 0 → ⊥
-    empty-refused some empty none =
-        omega (arith, read-length (home .now) (spare .now) none, ap length (sym (accepted-data none) ∙ empty))
-
-    -- it is the data at the spot
-    pub data-at-spot : AtSpot size home spare part (spotted size shape r t b (home .now) (spare .now))
-    data-at-spot =
-        byFault (blockReadFault size shape r t b (home .now) (spare .now))
-        (λ none.
-        byBool (isReplaced t b)
-        (λ e.
-        rw (none, e)
-        (in-spare {offset = dataStart size (driveOf shape r) t b}
+    -- the part that each spot hands back
+    pub lends-home :
+        {offset : ℕ} (part : RefT (List ℕ)) → spotted size shape r t b (home .now) (spare .now) ≡ InHome offset →
+        Lends home offset (take (offset + size - offset) (drop offset (home .now))) part → DataSized size shape r t b home spare part
+    lends-home {offset} part same lent =
+        let told = home-told size shape r t b (home .now) (spare .now) same in
+        let long : offset + size - offset ≡ size = omega arith in
+        rw (told .0)
         (record {
-          holds = accepted-data none ∙ rw e (data-inside size (startOf size (driveOf shape r) t b) (spare .now));
-          lies = rw (none, e) at (given-part .lies);
-        })))
-        (λ e.
-        rw (none, e)
-        (in-home {offset = dataStart size (driveOf shape r) t b}
+          holds = lent .holds ∙ rw (long, told .1 .0, told .1 .1) (sym (data-inside size (startOf size (driveOf shape r) t b) (home .now)));
+          lies = lent .lies ∙ rw (told .1 .0, told .1 .1);
+        })
+
+    pub lends-spare :
+        {offset : ℕ} (part : RefT (List ℕ)) → spotted size shape r t b (home .now) (spare .now) ≡ InSpare offset →
+        Lends spare offset (take (offset + size - offset) (drop offset (spare .now))) part → DataSized size shape r t b home spare part
+    lends-spare {offset} part same lent =
+        let told = spare-told size shape r t b (home .now) (spare .now) same in
+        let long : offset + size - offset ≡ size = omega arith in
+        rw (told .0)
         (record {
-          holds = accepted-data none ∙ rw e (data-inside size (startOf size (driveOf shape r) t b) (home .now));
-          lies = rw (none, e) at (given-part .lies);
-        }))))
-        (λ some. rw (answer-refused (blockReadFault size shape r t b (home .now) (spare .now)) NotSpotted (spotOf size shape r t b) some) (nowhere (refused-part some)))
+          holds = lent .holds ∙ rw (long, told .1 .0, told .1 .1) (sym (data-inside size (startOf size (driveOf shape r) t b) (spare .now)));
+          lies = lent .lies ∙ rw (told .1 .0, told .1 .1);
+        })
+
+    pub lends-empty :
+        {number : ℕ} (part : RefT (List ℕ)) → spotted size shape r t b (home .now) (spare .now) ≡ NotSpotted number →
+        Lends home 0 [] part → DataSized size shape r t b home spare part
+    lends-empty part same =
+        let told = refused-told size shape r t b (home .now) (spare .now) same in
+        refuses-part Empty Whole part fault (λ none. told .1 (sym (told .0) ∙ none))
+
+    module _ (part : RefT (List ℕ)) (lent : DataSized size shape r t b home spare part) where
+      pub refused-part : (blockReadFault size shape r t b (home .now) (spare .now) ≡ 0 → ⊥) → Lends home 0 [] part
+      refused-part some = part-refused Empty Whole part fault some lent
+
+      pub accepted-part :
+          blockReadFault size shape r t b (home .now) (spare .now) ≡ 0 →
+          Lends (trackOf t b home spare) (dataStart size (driveOf shape r) t b) (dataOf size (imageFor size (driveOf shape r) t b (home .now) (spare .now))) part
+      accepted-part none = part-accepted Empty Whole part fault none lent
+
+      pub refused-empty : (blockReadFault size shape r t b (home .now) (spare .now) ≡ 0 → ⊥) → part .now ≡ []
+      refused-empty some = refused-part some .holds
+
+      pub accepted-data :
+          blockReadFault size shape r t b (home .now) (spare .now) ≡ 0 →
+          part .now ≡ dataOf size (imageFor size (driveOf shape r) t b (home .now) (spare .now))
+      accepted-data none = accepted-part none .holds
+
+      pub empty-refused : 0 < size → part .now ≡ [] → blockReadFault size shape r t b (home .now) (spare .now) ≡ 0 → ⊥
+      empty-refused some empty none =
+          omega (arith, read-length (home .now) (spare .now) none, ap length (sym (accepted-data none) ∙ empty))
+
+      -- it is the data at the spot
+      pub data-at-spot : AtSpot size home spare part (spotted size shape r t b (home .now) (spare .now))
+      data-at-spot =
+          byFault (blockReadFault size shape r t b (home .now) (spare .now))
+          (λ none.
+          byBool (isReplaced t b)
+          (λ e.
+          rw (none, e)
+          (in-spare {offset = dataStart size (driveOf shape r) t b}
+          (record {
+            holds = accepted-data none ∙ rw e (data-inside size (startOf size (driveOf shape r) t b) (spare .now));
+            lies = rw e at (accepted-part none .lies);
+          })))
+          (λ e.
+          rw (none, e)
+          (in-home {offset = dataStart size (driveOf shape r) t b}
+          (record {
+            holds = accepted-data none ∙ rw e (data-inside size (startOf size (driveOf shape r) t b) (home .now));
+            lies = rw e at (accepted-part none .lies);
+          }))))
+          (λ some. rw (answer-refused (blockReadFault size shape r t b (home .now) (spare .now)) NotSpotted (spotOf size shape r t b) some) (nowhere (refused-part some)))
+
+    -- two parts that the promise allows hold the same and lie at the same place
+    pub data-one :
+        (first second : RefT (List ℕ)) → DataSized size shape r t b home spare first → DataSized size shape r t b home spare second →
+        (first .now ≡ second .now) × (first .ptr ≡ second .ptr)
+    data-one =
+        part-one home 0 [] (trackOf t b home spare) (dataStart size (driveOf shape r) t b) (dataOf size (imageFor size (driveOf shape r) t b (home .now) (spare .now))) fault

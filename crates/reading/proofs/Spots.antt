@@ -1,17 +1,17 @@
 -- What a read answers, from what its steps find: the sector image lies inside the track, the fault is that of the chain, and the spot says its numbers.
 -- Assumes nothing.
-use Prim.Native.Nat.{ℕ, zero, suc, _+_, _-_, _*_, _^_, _<_, _≤_}
+use Prim.Native.Nat.{ℕ, _+_, _*_, _^_, _<_, _≤_}
 use mathlib.Core.Path.{_≡_, refl, sym, _∙_, ap}
 use mathlib.Core.Bool.{Bool, true, false}
-use mathlib.Core.List.{List, []}
+use mathlib.Core.List.{List}
 use native.Mathlib.Nat.{mul-le-mul-right}
 use native.Mathlib.Omega.{arith}
-use lib.ListN.{length, take, drop}
+use lib.ListN.{length}
 use denote.Ref.{RefT}
-use Rattle.paper.specs.Checks.{pick, answer, given}
+use Rattle.paper.specs.Checks.{pick, answer}
 use Rattle.paper.specs.Limits.{sectorsMost, imageExtra}
 use Rattle.paper.proofs.Cases.{byBool, byFault}
-use Rattle.paper.proofs.Chain.{orElse-some, orElse-none, orElse-first, answer-refused, given-refused}
+use Rattle.paper.proofs.Chain.{orElse-some, orElse-none, orElse-first, answer-refused}
 use Rattle.paper.proofs.Kept.{gives}
 use Rattle.shape.specs.declared.Shape.{Shape}
 use Rattle.layout.specs.declared.Drive.{Drive}
@@ -22,10 +22,11 @@ use Rattle.image.specs.Image.{contentsFault}
 use Rattle.reading.specs.declared.Seat.{Seat}
 use Rattle.reading.specs.declared.answers.Spot.{Spot}
 use Rattle.reading.specs.declared.answers.Spot.the-variants.{InHome, InSpare, Refused as NotSpotted}
-use Rattle.reading.specs.Tracks.{trackOf, sectorIn, seatOf, bytesIn, startOf, dataStart, imageAt, headerFor}
+use Rattle.reading.specs.Tracks.{trackOf, sectorIn, bytesIn, startOf, dataStart, imageAt, headerFor}
+use Rattle.reading.specs.Steps.{seatOf}
 use Rattle.reading.specs.Faults.{lentFault, lyingFault, blockReadFault}
-use Rattle.reading.specs.Promises.{saidSpot, spotOf, SpotSized, DataSized}
-use Rattle.reading.proofs.Tracks.{sector-below, track-now, track-length, image-inside, data-inside}
+use Rattle.reading.specs.Promises.{spotOf, SpotSized}
+use Rattle.reading.proofs.Tracks.{sector-below, track-now, track-length, image-inside}
 use Rattle.reading.proofs.Exact.{Lent, lent-shows}
 
 -- what a read answers
@@ -37,14 +38,14 @@ module _ {size : ℕ} {shape : Shape} {r : ℕ} {t : List ℕ} {b : ℕ} {home s
   pub lies-inside : startOf size (driveOf shape r) t b + (size + imageExtra) ≤ bytesIn size (shape .sectors)
   lies-inside =
       image-inside size (sectorIn (driveOf shape r) t b) (shape .sectors)
-      (rw (track-whole (lent .drives)) at (sector-below (driveOf shape r) t b (lent .laid)))
+      (rw (track-whole (lent .ready .drives)) at (sector-below (driveOf shape r) t b (lent .ready .laid)))
 
   pub track-long : length (trackOf t b home spare) ≡ bytesIn size (shape .sectors)
   track-long = track-length t b home spare (bytesIn size (shape .sectors)) (lent .home-long) (lent .spare-long)
 
   -- where it ends fits 32 bits
   pub end-fits : sectorsMost * (size + imageExtra) < 2 ^ 32 → startOf size (driveOf shape r) t b + (size + imageExtra) < 2 ^ 32
-  end-fits fits = omega (arith, lies-inside, mul-le-mul-right (size + imageExtra) (lent .shaped .sectors .1))
+  end-fits fits = omega (arith, lies-inside, mul-le-mul-right (size + imageExtra) (lent .ready .shaped .sectors .1))
 
 module _ (size : ℕ) (shape : Shape) (r : ℕ) (t : List ℕ) (b : ℕ) where
   module _ {drive : Drive} {seat : Seat} (is-drive : drive ≡ driveOf shape r) (found : seat ≡ seatOf drive t b) where
@@ -132,45 +133,3 @@ module _ (size : ℕ) (shape : Shape) (r : ℕ) (t : List ℕ) (b : ℕ) where
         let one : NotSpotted (blockReadFault size shape r t b home spare) ≡ NotSpotted fault = sym (answer-refused (blockReadFault size shape r t b home spare) NotSpotted (spotOf size shape r t b) some) ∙ same in
         let number : blockReadFault size shape r t b home spare ≡ fault = cc in
         (number, λ none. some (number ∙ none)))
-
-  -- the part that is handed back for each spot
-  module _ (home spare : RefT (List ℕ)) {part : RefT (List ℕ)} where
-    pub part-home :
-        {offset : ℕ} → spotted size shape r t b (home .now) (spare .now) ≡ InHome offset →
-        part .now ≡ take (offset + size - offset) (drop offset (home .now)) → part .ptr ≡ (home .ptr .0, offset + home .ptr .1) →
-        DataSized size shape r t b home spare part
-    part-home {offset} same held at =
-        let told = home-told (home .now) (spare .now) same in
-        let long : offset + size - offset ≡ size = omega arith in
-        record {
-          holds =
-              held
-              ∙ rw (long, told .0, told .1 .0, told .1 .1)
-              (sym (data-inside size (startOf size (driveOf shape r) t b) (home .now)));
-          lies = at ∙ rw (told .0, told .1 .0, told .1 .1);
-        }
-
-    pub part-spare :
-        {offset : ℕ} → spotted size shape r t b (home .now) (spare .now) ≡ InSpare offset →
-        part .now ≡ take (offset + size - offset) (drop offset (spare .now)) → part .ptr ≡ (spare .ptr .0, offset + spare .ptr .1) →
-        DataSized size shape r t b home spare part
-    part-spare {offset} same held at =
-        let told = spare-told (home .now) (spare .now) same in
-        let long : offset + size - offset ≡ size = omega arith in
-        record {
-          holds =
-              held
-              ∙ rw (long, told .0, told .1 .0, told .1 .1)
-              (sym (data-inside size (startOf size (driveOf shape r) t b) (spare .now)));
-          lies = at ∙ rw (told .0, told .1 .0, told .1 .1);
-        }
-
-    pub part-refused :
-        {fault : ℕ} → spotted size shape r t b (home .now) (spare .now) ≡ NotSpotted fault →
-        part .now ≡ [] → part .ptr ≡ (home .ptr .0, 0 + home .ptr .1) → DataSized size shape r t b home spare part
-    part-refused {fault} same held at =
-        let told = refused-told (home .now) (spare .now) same in
-        record {
-          holds = held ∙ rw (told .0) (sym (answer-refused fault (λ refused. []) _ (told .1)));
-          lies = at ∙ rw (told .0, answer-refused fault (λ refused. home) (trackOf t b home spare) (told .1), given-refused fault (dataStart size (driveOf shape r) t b) (told .1));
-        }

@@ -9,10 +9,10 @@ use lib.ListN.{length, take, drop, length-drop}
 use lib.Seq.{take-take, drop-drop, length-take-le}
 use denote.Ref.{RefT}
 use borrow.Author.Tests.{lt-ltb}
-use Rattle.paper.specs.Limits.{imageExtra}
+use Rattle.paper.specs.Limits.{headerSize, imageExtra}
 use Rattle.paper.proofs.Cases.{byBool}
 use Rattle.paper.proofs.Rows.{tells-lt, tells-false}
-use Rattle.image.specs.Image.{headerSize, dataOf}
+use Rattle.image.specs.Image.{dataOf}
 use Rattle.layout.specs.declared.Drive.{Drive}
 use Rattle.layout.specs.Layouts.{Laid, sectorsPerTrack}
 use Rattle.layout.proofs.Words.{tells-names}
@@ -61,6 +61,10 @@ module _ (t : List ℕ) (b : ℕ) where
   -- what the image holds that a block lies in
   pub track-now : (home spare : RefT (List ℕ)) → trackOf t b home spare .now ≡ trackOf t b (home .now) (spare .now)
   track-now home spare = byBool (isReplaced t b) (λ e. rw e) (λ e. rw e)
+
+  -- and where it lies
+  pub track-ptr : (home spare : RefT (List ℕ)) → trackOf t b home spare .ptr ≡ trackOf t b (home .ptr) (spare .ptr)
+  track-ptr home spare = byBool (isReplaced t b) (λ e. rw e) (λ e. rw e)
 
   pub track-length : (home spare : List ℕ) (long : ℕ) → length home ≡ long → length spare ≡ long → length (trackOf t b home spare) ≡ long
   track-length home spare long first second = byBool (isReplaced t b) (λ e. rw e second) (λ e. rw e first)

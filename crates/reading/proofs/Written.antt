@@ -39,7 +39,7 @@ module _ (size : ℕ) (shape : Shape) (r : ℕ) (t : List ℕ) (b : ℕ) where
   -- the header of a block fits its copies
   pub header-fits : {home spare : List ℕ} → Lent size shape r t b home spare → headerFor (driveOf shape r) t b < 2 ^ 32
   unfolding headerFor
-  header-fits lent = omega (arith, lent .below, blocks-few (lent .laid))
+  header-fits lent = omega (arith, lent .below, blocks-few (lent .ready .laid))
 
   -- the sector image where a block lies
   lies-there :
@@ -47,7 +47,7 @@ module _ (size : ℕ) (shape : Shape) (r : ℕ) (t : List ℕ) (b : ℕ) where
       Seated (driveOf shape r) t b home spare track sector → imageAt size (bytesIn size sector) track ≡ image →
       imageFor size (driveOf shape r) t b home spare ≡ image
   lies-there {home} {spare} {track} {sector} none seat held =
-      let one = seated-only (driveOf shape r) t b home spare (lent-shows size shape r t b home spare none .obeys) seat in
+      let one = seated-only (driveOf shape r) t b home spare (lent-shows size shape r t b home spare none .ready .obeys) seat in
       rw (one .0, one .1) held
 
   module _ (bytes : List ℕ) (long : length bytes ≡ size) (h : Bytes bytes) where

@@ -2,19 +2,15 @@
 use Prim.Native.Nat.{ℕ}
 use mathlib.Core.Bool.{Bool, not, _||_}
 use mathlib.Core.List.{List}
-use lib.Dec.{eqb, leb}
+use lib.Dec.{eqb}
 use lib.ListN.{length}
 use Rattle.paper.specs.Checks.{refuse, _orElse_}
-use Rattle.paper.specs.Refusals.{noSuchBlock, wrongLength}
+use Rattle.paper.specs.Refusals.{wrongLength}
 use Rattle.shape.specs.declared.Shape.{Shape}
 use Rattle.layout.specs.Layouts.{driveOf}
-use Rattle.table.specs.Rules.{tableFault}
+use Rattle.table.specs.Rules.{blockFault}
 use Rattle.image.specs.Image.{contentsFault}
 use Rattle.reading.specs.Tracks.{bytesIn, imageFor, headerFor}
-
--- 5 for a block that the drive does not have
-abbrev pub blockFault : Shape → ℕ → ℕ → ℕ
-blockFault shape r b = refuse (leb (driveOf shape r .blocks) b) noSuchBlock
 
 -- either image is not that of a whole track
 abbrev pub otherLength : ℕ → Shape → List ℕ → List ℕ → Bool
@@ -23,14 +19,13 @@ otherLength size shape home spare =
 
 -- 1, 11, 5, 14: checks of what is lent
 unfoldable pub lentFault : ℕ → Shape → ℕ → List ℕ → ℕ → List ℕ → List ℕ → ℕ
-lentFault size shape r t b home spare =
-    tableFault shape r t orElse (blockFault shape r b orElse refuse (otherLength size shape home spare) wrongLength)
+lentFault size shape r t b home spare = blockFault shape r t b orElse refuse (otherLength size shape home spare) wrongLength
 
 -- 15 to 18: checks of the sector image that the block lies on
 abbrev pub lyingFault : ℕ → Shape → ℕ → List ℕ → ℕ → List ℕ → List ℕ → ℕ
 lyingFault size shape r t b home spare =
     contentsFault size (imageFor size (driveOf shape r) t b home spare) (headerFor (driveOf shape r) t b)
 
--- 1, 11, 5, 14, 15 to 18: checks of a read
+-- 1, 11, 5, 14, 15 to 18: checks of a read of a block
 unfoldable pub blockReadFault : ℕ → Shape → ℕ → List ℕ → ℕ → List ℕ → List ℕ → ℕ
 blockReadFault size shape r t b home spare = lentFault size shape r t b home spare orElse lyingFault size shape r t b home spare

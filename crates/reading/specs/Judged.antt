@@ -3,18 +3,14 @@ use Prim.Native.Nat.{ℕ}
 use mathlib.Core.Logic.{_⊎_}
 use mathlib.Core.List.{List}
 use Rattle.paper.specs.Exactly.{When, _andThen_}
-use Rattle.paper.specs.Conditions.{NotBelow, OtherLength}
-use Rattle.paper.specs.Refusals.{noSuchBlock, wrongLength}
+use Rattle.paper.specs.Conditions.{OtherLength}
+use Rattle.paper.specs.Refusals.{wrongLength}
 use Rattle.shape.specs.declared.Shape.{Shape}
 use Rattle.layout.specs.declared.Drive.{Drive}
 use Rattle.layout.specs.Layouts.{driveOf}
-use Rattle.table.specs.Rules.{TableJudged}
+use Rattle.table.specs.Rules.{BlockJudged}
 use Rattle.image.specs.Judged.{ContentsJudged}
 use Rattle.reading.specs.Tracks.{Seated, bytesIn, imageAt, headerFor}
-
--- exactly when 5 is given
-abbrev pub BlockJudged : Shape → ℕ → ℕ → ℕ → Type 0
-BlockJudged shape r b = When noSuchBlock (NotBelow (driveOf shape r .blocks) b)
 
 -- exactly when 14 is given: either image is not S sector images long
 abbrev pub LengthsJudged : ℕ → Shape → List ℕ → List ℕ → ℕ → Type 0
@@ -27,10 +23,9 @@ pub data LyingJudged (size : ℕ) (drive : Drive) (t : List ℕ) (b : ℕ) (home
       {k : ℕ} (track : List ℕ) (sector : ℕ) → Seated drive t b home spare track sector →
       ContentsJudged size (imageAt size (bytesIn size sector) track) (headerFor drive t b) k → LyingJudged size drive t b home spare k
 
--- exactly when a read gives each number
+-- exactly when a read of a block gives each number
 abbrev pub BlockReadJudged : ℕ → Shape → ℕ → List ℕ → ℕ → List ℕ → List ℕ → ℕ → Type 0
 BlockReadJudged size shape r t b home spare =
-    TableJudged shape r t
-    andThen (BlockJudged shape r b
+    BlockJudged shape r t b
     andThen (LengthsJudged size shape home spare
-    andThen LyingJudged size (driveOf shape r) t b home spare))
+    andThen LyingJudged size (driveOf shape r) t b home spare)

@@ -3,7 +3,7 @@ use Prim.Native.Nat.{ℕ}
 use mathlib.Core.List.{List, []}
 use lib.ListN.{take, drop}
 use denote.Ref.{RefT}
-use Rattle.paper.specs.Checks.{answer, given}
+use Rattle.paper.specs.Checks.{answer}
 use Rattle.paper.specs.Promise.{Gives}
 use Rattle.paper.specs.Limits.{dataSize}
 use Rattle.shape.specs.declared.Shape.{Shape}
@@ -37,13 +37,10 @@ abbrev pub JudgeSized : ℕ → Shape → ℕ → List ℕ → ℕ → List ℕ 
 JudgeSized size shape r t b home spare = GivesVerdict (blockReadFault size shape r t b home spare) Good
 
 -- the part that is handed back: the data where it lies in the image that the block lies in, or the empty part at the start of home
-abbrev pub PartGiven : ℕ → Shape → ℕ → List ℕ → ℕ → RefT (List ℕ) → RefT (List ℕ) → ℕ → RefT (List ℕ) → Type 0
-PartGiven size shape r t b home spare fault =
-    Lends (answer fault (λ refused. home) (trackOf t b home spare)) (given fault (dataStart size (driveOf shape r) t b))
-    (answer fault (λ refused. []) (dataOf size (imageFor size (driveOf shape r) t b (home .now) (spare .now))))
-
 abbrev pub DataSized : ℕ → Shape → ℕ → List ℕ → ℕ → RefT (List ℕ) → RefT (List ℕ) → RefT (List ℕ) → Type 0
-DataSized size shape r t b home spare = PartGiven size shape r t b home spare (blockReadFault size shape r t b (home .now) (spare .now))
+DataSized size shape r t b home spare =
+    answer (blockReadFault size shape r t b (home .now) (spare .now)) (λ fault. Lends home 0 [])
+    (Lends (trackOf t b home spare) (dataStart size (driveOf shape r) t b) (dataOf size (imageFor size (driveOf shape r) t b (home .now) (spare .now))))
 
 -- the part at a spot: so many bytes from the offset on, in the image that the spot names; none at the start of home for a refusal
 pub data AtSpot (size : ℕ) (home spare part : RefT (List ℕ)) : Spot → Type 0 where

@@ -1,15 +1,12 @@
 -- Document 01, "Descriptors and spares" and "Sector image": in which of the two track images a block lies, and where in it, for any number of data bytes.
 use Prim.Native.Nat.{ℕ, _+_, _*_, _%_, _<_}
-use mathlib.Core.Path.{_≡_}
 use mathlib.Core.List.{List}
 use lib.ListN.{length, getD, take, drop}
 use Rattle.paper.specs.Checks.{pick}
-use Rattle.paper.specs.Limits.{imageExtra}
-use Rattle.image.specs.Image.{headerSize}
+use Rattle.paper.specs.Limits.{headerSize, imageExtra}
 use Rattle.layout.specs.declared.Drive.{Drive}
 use Rattle.layout.specs.Descriptors.{Names}
 use Rattle.table.specs.Lookup.{Replaced, placeOf, isReplaced}
-use Rattle.reading.specs.declared.Seat.{Seat}
 
 -- which image a block lies in, and on which sector of that track: at home on b mod l, or in the second image on l + q mod r, where place q names it
 pub data Seated {Track : Type 0} (drive : Drive) (t : List ℕ) (b : ℕ) (home spare : Track) : Track → ℕ → Type 0 where
@@ -23,9 +20,6 @@ trackOf t b home spare = pick (isReplaced t b) spare home
 -- the sector inside the track that it lies on
 unfoldable pub sectorIn : Drive → List ℕ → ℕ → ℕ
 sectorIn drive t b = pick (isReplaced t b) (drive .l + placeOf t b % drive .r) (b % drive .l)
-
-abbrev pub seatOf : Drive → List ℕ → ℕ → Seat
-seatOf drive t b = record { replaced = isReplaced t b; sector = sectorIn drive t b }
 
 -- bytes of so many sector images one after the other
 abbrev pub bytesIn : ℕ → ℕ → ℕ
@@ -49,9 +43,3 @@ imageFor size drive t b home spare = imageAt size (startOf size drive t b) (trac
 -- the header that the sector of a block must carry: its number
 unfoldable pub headerFor : Drive → List ℕ → ℕ → ℕ
 headerFor drive t b = b
-
--- two pairs of images that are as long and hold the same sector image of a block: whatever else they hold may differ
-pub record Agree (size : ℕ) (drive : Drive) (t : List ℕ) (b : ℕ) (home spare home′ spare′ : List ℕ) : Type 0 where
-  pub home-alike : length home ≡ length home′
-  pub spare-alike : length spare ≡ length spare′
-  pub lies-alike : imageFor size drive t b home spare ≡ imageFor size drive t b home′ spare′

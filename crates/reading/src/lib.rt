@@ -6,19 +6,19 @@ ghost use Rattle.paper.specs.Checks.{pick};
 ghost use Rattle.paper.specs.Limits.{sectorsMost, imageExtra};
 ghost use Rattle.image.specs.Image.{contentsFault};
 ghost use Rattle.layout.specs.Layouts.{Laid};
-ghost use Rattle.reading.specs.Tracks.{headerFor, seatOf, imageAt};
+ghost use Rattle.reading.specs.Tracks.{headerFor, imageAt};
+ghost use Rattle.reading.specs.Steps.{seatOf};
 ghost use Rattle.reading.specs.Faults.{lentFault};
 ghost use Rattle.reading.specs.Promises.{SpotSized, JudgeSized, DataSized, Judge, Data, Spots};
 
 mod answers;
 
 pub use answers::Spot;
-use image::HEADER_SIZE;
 use image::Verdict;
 use layout::Drive;
 use paper::DATA_SIZE;
+use paper::HEADER_SIZE;
 use paper::IMAGE_EXTRA;
-use paper::NO_SUCH_BLOCK;
 use paper::WRONG_LENGTH;
 use shape::Shape;
 
@@ -84,12 +84,9 @@ fn lent_fault(
     requires { ⌜ sectorsMost * (size + imageExtra) < 2 ^ 32 ⌝ }
     ensures { λ result. ⌜ result ≡ lentFault size shape r (now (table .entry)) block (now (home .entry)) (now (spare .entry)) ⌝ }
 {
-    let fault = table::table_fault(shape, r, table);
+    let fault = table::block_fault(shape, r, table, block);
     if fault != 0 {
         return fault;
-    }
-    if layout::drive_of(shape, r).blocks <= block {
-        return NO_SUCH_BLOCK;
     }
     let long = shape.sectors as usize * (size + IMAGE_EXTRA);
     if home.len() != long {
@@ -101,8 +98,8 @@ fn lent_fault(
     0
 }
 
-// Where the data of a block begins. Checks 1, 11, 5, 14, 15 to 18. Only other crates call this.
-pub fn spot_sized<'a>(
+// Where the data of a block begins. Checks 1, 11, 5, 14, 15 to 18.
+fn spot_sized<'a>(
     size: usize,
     shape: Shape,
     r: u32,
@@ -137,8 +134,8 @@ pub fn spot_sized<'a>(
     Spot::InHome(offset)
 }
 
-// The verdict on a block. Checks 1, 11, 5, 14, 15 to 18. Only other crates call this.
-pub fn judge_sized<'a>(
+// The verdict on a block. Checks 1, 11, 5, 14, 15 to 18.
+fn judge_sized<'a>(
     size: usize,
     shape: Shape,
     r: u32,
@@ -157,8 +154,8 @@ pub fn judge_sized<'a>(
     }
 }
 
-// The data of a good block where it lies, in whichever image that is; else the empty part at the start of home. Only other crates call this.
-pub fn data_sized<'a>(
+// The data of a good block where it lies, in whichever image that is; else the empty part at the start of home.
+fn data_sized<'a>(
     size: usize,
     shape: Shape,
     r: u32,

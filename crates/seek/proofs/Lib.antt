@@ -3,3 +3,4 @@ pub mod Counts
 pub mod Firsts
 pub mod Everys
 pub mod Searches
+pub mod Times

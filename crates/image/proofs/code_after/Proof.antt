@@ -1,4 +1,4 @@
--- `image::codeAfter` meets its contract: the union of the two shifts is the rotation of the definition.
+-- `image::code_after` meets its contract: the union of the two shifts is the rotation of the definition.
 -- Assumes nothing.
 use Rattle.image.specs.Code.{codeAfter}
 use Rattle.image.proofs.Coding.{rotated-union}

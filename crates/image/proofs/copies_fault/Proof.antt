@@ -3,7 +3,8 @@
 use borrow.Author.Needs.{needs}
 use Prim.Native.Nat.{_<_, _≤_}
 use borrow.Author.Tests.{lt-ltb, le-ltb}
-use Rattle.image.specs.Image.{copiesLeast, times, copies, headerOf, copiesFault}
+use Rattle.seek.specs.Count.{times}
+use Rattle.image.specs.Image.{copiesLeast, copies, headerOf, copiesFault}
 use Rattle.image.proofs.copies_fault.Statement.{statement}
 use Rattle.image.proofs.copies_fault.Tie as tie
 

@@ -1,12 +1,12 @@
 -- `image::data_sized` meets its contract: the fault is that of the definition, and the part that is lent is the one that it states.
 -- Assumes nothing.
 use borrow.Author.Needs.{needs}
-use mathlib.Core.Path.{_≡_, sym, _∙_}
+use mathlib.Core.Path.{_≡_, refl, sym, _∙_}
 use native.Mathlib.Omega.{arith}
-use Rattle.paper.proofs.Chain.{answer-refused, answer-accepted, given-refused}
-use Rattle.image.specs.Image.{headerSize, imageFault}
+use Rattle.image.specs.Image.{imageFault}
 use Rattle.image.proofs.Exact.{image-length}
 use Rattle.image.proofs.Images.{data-part}
+use Rattle.image.proofs.Lent.{lends-empty}
 use Rattle.image.proofs.data_sized.Statement.{statement}
 use Rattle.image.proofs.data_sized.Tie as tie
 
@@ -24,10 +24,8 @@ part-result-end c = search needs
 
 returns : tie.Need-returns
 returns c =
-    record {
-      holds = rw (← c .before .before .image-fault .ensures) (sym (answer-refused _ _ _ (c .before .if1 .taken)));
-      lies = rw (← c .before .before .image-fault .ensures, given-refused _ headerSize (c .before .if1 .taken));
-    }
+    let a = c .before .before .before .before .args in
+    lends-empty (a .size) (a .image) (a .number) _ (λ none. c .before .if1 .taken (c .before .before .image-fault .ensures ∙ none)) (record { holds = refl; lies = refl })
 
 add-result : tie.Need-add-result
 add-result c = search needs
@@ -47,7 +45,7 @@ returns-2 : tie.Need-returns-2
 returns-2 c =
     let a = c .before .before .before .before .args in
     let none : imageFault (a .size) (a .image .now) (a .number) ≡ 0 = sym (c .before .before .image-fault .ensures) ∙ c .before .if1 .left in
-    record { holds = data-part (a .size) (a .image .now) ∙ sym (answer-accepted _ _ _ none); lies = rw none }
+    rw none (record { holds = data-part (a .size) (a .image .now); lies = refl })
 
 pub data-sized-spec : {M : Type 1} → statement M
 data-sized-spec =

@@ -4,7 +4,8 @@ use borrow.Author.Needs.{needs}
 use Prim.Native.Nat.{_<_, _≤_}
 use borrow.Author.Tests.{lt-ltb, le-ltb}
 use Rattle.words.specs.Words.{word32At}
-use Rattle.image.specs.Image.{copiesLeast, times, copies, headerOf}
+use Rattle.seek.specs.Count.{times}
+use Rattle.image.specs.Image.{copiesLeast, copies, headerOf}
 use Rattle.image.proofs.header_of.Statement.{statement}
 use Rattle.image.proofs.header_of.Tie as tie
 

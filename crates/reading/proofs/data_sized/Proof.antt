@@ -3,7 +3,8 @@
 use borrow.Author.Needs.{needs}
 use mathlib.Core.Path.{refl, sym, _∙_}
 use native.Mathlib.Omega.{arith}
-use Rattle.reading.proofs.Spots.{read-shows, data-ends, home-told, spare-told, part-home, part-spare, part-refused}
+use Rattle.reading.proofs.Spots.{read-shows, data-ends, home-told, spare-told}
+use Rattle.reading.proofs.Parts.{lends-home, lends-spare, lends-empty}
 use Rattle.reading.proofs.data_sized.Statement.{statement}
 use Rattle.reading.proofs.data_sized.Tie as tie
 
@@ -71,17 +72,17 @@ part-result-end-3 c = search needs
 returns : tie.Need-returns
 returns c =
     let a = c .before .before .before .before .before .before .before .before .args in
-    part-home (a .size) (a .shape) (a .r) (a .table .now) (a .block) (a .home) (a .spare) (sym (c .before .before .before .before .spot-sized .ensures .answers) ∙ c .before .before .offset .given .1) refl refl
+    lends-home (a .size) (a .shape) (a .r) (a .table .now) (a .block) (a .home) (a .spare) _ (sym (c .before .before .before .before .spot-sized .ensures .answers) ∙ c .before .before .offset .given .1) (record { holds = refl; lies = refl })
 
 returns-2 : tie.Need-returns-2
 returns-2 c =
     let a = c .before .before .before .before .before .before .before .before .args in
-    part-spare (a .size) (a .shape) (a .r) (a .table .now) (a .block) (a .home) (a .spare) (sym (c .before .before .before .before .spot-sized .ensures .answers) ∙ c .before .before .offset2 .given .1) refl refl
+    lends-spare (a .size) (a .shape) (a .r) (a .table .now) (a .block) (a .home) (a .spare) _ (sym (c .before .before .before .before .spot-sized .ensures .answers) ∙ c .before .before .offset2 .given .1) (record { holds = refl; lies = refl })
 
 returns-3 : tie.Need-returns-3
 returns-3 c =
     let a = c .before .before .before .before .before .before .before .args in
-    part-refused (a .size) (a .shape) (a .r) (a .table .now) (a .block) (a .home) (a .spare) (sym (c .before .before .before .spot-sized .ensures .answers) ∙ c .before .enum-told .given .1) refl refl
+    lends-empty (a .size) (a .shape) (a .r) (a .table .now) (a .block) (a .home) (a .spare) _ (sym (c .before .before .before .spot-sized .ensures .answers) ∙ c .before .enum-told .given .1) (record { holds = refl; lies = refl })
 
 pub data-sized-spec : {M : Type 1} → statement M
 data-sized-spec =

@@ -18,12 +18,12 @@ returns c =
 drive-of-requires : tie.Need-drive-of-requires
 drive-of-requires c κs =
     let lent = lent-shows _ _ _ _ _ _ _ (sym (c .before .lent-fault .ensures) ∙ c .if1 .left) in
-    (lent .shaped, lent .drives)
+    (lent .ready .shaped, lent .ready .drives)
 
 seat-of-requires : tie.Need-seat-of-requires
 seat-of-requires c κs =
     let lent = lent-shows _ _ _ _ _ _ _ (sym (c .before .before .lent-fault .ensures) ∙ c .before .if1 .left) in
-    rw (c .drive-of .ensures) (lent .laid)
+    rw (c .drive-of .ensures) (lent .ready .laid)
 
 add-start : tie.Need-add-start
 add-start c = search needs
