@@ -5,6 +5,7 @@ use mathlib.Core.Path.{_≡_, sym, _∙_}
 use mathlib.Core.Bool.{Bool}
 use mathlib.Core.List.{List}
 use denote.Ref.{RefT}
+use Rattle.paper.specs.Limits.{dataSize}
 use Rattle.paper.specs.Promise.{Gives, Fills}
 use Rattle.paper.proofs.Kept.{gives-one, fills-one}
 use Rattle.shape.specs.declared.Shape.{Shape}
@@ -18,8 +19,9 @@ use Rattle.format.specs.Promises.{Formats}
 use Rattle.first_table.specs.Promises.{FirstTable}
 use Rattle.spares.specs.Promises as Spares
 use Rattle.image.specs.Promises as Image
-use Rattle.image.proofs.Lent.{lends-one}
+use Rattle.image.proofs.Lent.{data-one}
 use Rattle.reading.specs.Promises as Reading
+use Rattle.reading.proofs.Parts.{data-one as read-one}
 use Rattle.demands.specs.Mission.{OneResult, OneFilled, OneFilledTwice, OneLent}
 
 module _ {Answer Said : Type 0} (said : Answer → Said) (nothing : ℕ → Said) (refused : ℕ → Answer) (fault : ℕ) (accepted : Answer) where
@@ -36,10 +38,6 @@ formats-determines n p g space option d grown list first second one other =
     let same-grown : first .1 ≡ second .1 = grown-holds one ∙ sym (grown-holds other) in
     let same-list : first .2 ≡ second .2 = list-holds one ∙ sym (list-holds other) in
     λ i. (answers i, same-grown i, same-list i)
-
-pub lends-determines : (bytes : RefT (List ℕ)) (at : ℕ) (held : List ℕ) → OneLent (Image.Lends bytes at held)
-lends-determines bytes at held first second one other =
-    let same = lends-one bytes at held first second one other in λ i. (same .0 i, same .1 i)
 
 module _ (n : ℕ) (a : List ℕ) where
   pub skip-sector-of : (b : ℕ) → OneResult (Skip.SectorOf n a b)
@@ -115,14 +113,15 @@ pub image-judge : (image : List ℕ) (number : ℕ) → OneResult (Image.Judge i
 image-judge image number = gives-determines _ _ _ _ _
 
 pub image-data : (image : RefT (List ℕ)) (number : ℕ) → OneLent (Image.Data image number)
-image-data image number = lends-determines _ _ _
+image-data image number first second one other = let same = data-one dataSize image number first second one other in λ i. (same .0 i, same .1 i)
 
 module _ (shape : Shape) (r : ℕ) (t : List ℕ) (b : ℕ) where
   pub reading-judge : (home spare : List ℕ) → OneResult (Reading.Judge shape r t b home spare)
   reading-judge home spare = gives-determines _ _ _ _ _
 
   pub reading-data : (home spare : RefT (List ℕ)) → OneLent (Reading.Data shape r t b home spare)
-  reading-data home spare = lends-determines _ _ _
+  reading-data home spare first second one other =
+      let same = read-one dataSize shape r t b home spare first second one other in λ i. (same .0 i, same .1 i)
 
   pub reading-spot : (home spare : List ℕ) → OneResult (Reading.Spots shape r t b home spare)
   reading-spot home spare = gives-determines _ _ _ _ _

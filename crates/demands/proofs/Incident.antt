@@ -38,15 +38,16 @@ use Rattle.spares.proofs.Accepted.{replace-block, after-passes}
 use Rattle.table.proofs.Exact.{block-ready}
 use Rattle.spares.proofs.Shifts.{shift-replaced, shift-leads}
 use Rattle.image.specs.declared.Verdict.{Verdict}
-use Rattle.image.specs.Image.{imageOf, writeFault}
+use Rattle.image.specs.Image.{dataOf, imageOf, writeFault}
 use Rattle.image.specs.Promises.{Lends, Write}
 use Rattle.image.proofs.Exact.{write-shows}
+use Rattle.image.proofs.Lent.{partAt, part-some}
 use Rattle.image.proofs.ThereAndBack.{room-image}
-use Rattle.reading.specs.Tracks.{on-spare, sectorIn, bytesIn, dataStart, imageAt, headerFor}
+use Rattle.reading.specs.Tracks.{bytesIn, dataStart, headerFor, imageAt, imageFor, on-spare, sectorIn, trackOf}
 use Rattle.reading.specs.Faults.{lentFault, blockReadFault}
 use Rattle.reading.specs.Promises.{Data, Judge}
 use Rattle.reading.proofs.Alike.{home-unread, verdict-alike, part-alike}
-use Rattle.reading.proofs.Parts.{refused-empty, accepted-data}
+use Rattle.reading.proofs.Parts.{refused-empty, accepted-data, accepted-part}
 use Rattle.reading.proofs.Tracks.{seated-only, data-inside}
 use Rattle.reading.proofs.Written.{good-read, good-part}
 use Rattle.demands.proofs.ByKind.{spot-says}
@@ -56,14 +57,18 @@ use Rattle.demands.specs.Incident.{spareStart, spareData, imageFrom, Who
 use Rattle.demands.proofs.Demand2Revectored.{replacement-alters}
 use Rattle.demands.proofs.Examples.{allows, allows-where}
 
--- a promise that hands a part back allows what holds of every such part, and nothing else
+-- a read allows what holds of every part that it hands back, and nothing else
 allows-part :
-    {bytes : RefT (List ℕ)} {at : ℕ} {held : List ℕ} {Figures : RefT (List ℕ) → Type 0} →
-    ((part : RefT (List ℕ)) → Lends bytes at held part → Figures part) → AllowsOnly (Lends bytes at held) Figures
-allows-part {bytes} {at} {held} every =
+    (shape : Shape) (r : ℕ) (t : List ℕ) (b : ℕ) (home spare : RefT (List ℕ)) {Figures : RefT (List ℕ) → Type 0} →
+    ((part : RefT (List ℕ)) → Data shape r t b home spare part → Figures part) → AllowsOnly (Data shape r t b home spare) Figures
+allows-part shape r t b home spare every =
+    let fault = blockReadFault dataSize shape r t b (home .now) (spare .now) in
+    let track = trackOf t b home spare in
+    let start = dataStart dataSize (driveOf shape r) t b in
+    let bytes = dataOf dataSize (imageFor dataSize (driveOf shape r) t b (home .now) (spare .now)) in
     record {
-      some = record { ptr = (bytes .ptr .0, at + bytes .ptr .1); name = bytes .name; now = held };
-      allowed = record { holds = refl; lies = refl };
+      some = answer fault (λ number. partAt home 0 []) (partAt track start bytes);
+      allowed = part-some home 0 [] track start bytes fault;
       every = every;
     }
 
@@ -96,7 +101,7 @@ module _ (shape : Shape) (r : ℕ) (t : List ℕ) (b q : ℕ) (passed : blockFau
         holds =
             accepted-data dataSize shape r t b home spare part given-part none
             ∙ rw (is-replaced, its-sector) (data-inside dataSize (spareStart shape r q) (spare .now));
-        lies = rw (none, is-replaced, its-sector) at (given-part .lies);
+        lies = rw (is-replaced, its-sector) at (accepted-part dataSize shape r t b home spare part given-part none .lies);
       }
 
   part-filled :
@@ -130,8 +135,7 @@ module _ (shape : Shape) (r : ℕ) (t : List ℕ) (b q : ℕ) (passed : blockFau
   unfolding lentFault
   lent-passes home spare whole whole′ =
       rw (
-        orElse-first (tableFault shape r t) _ passed,
-        orElse-next (tableFault shape r t) _ passed,
+        passed,
         eq-eqb (length home) (bytesIn dataSize (shape .sectors)) whole,
         eq-eqb (length spare) (bytesIn dataSize (shape .sectors)) whole′,
       )
@@ -171,13 +175,13 @@ module _ (shape : Shape) (r : ℕ) (t : List ℕ) (b q : ℕ) (passed : blockFau
             (λ answer given-spot none.
             let passes : blockReadFault dataSize shape r t b home spare ≡ 0 = sym (gives-number given-spot (λ said. said .0) (λ k. refl) (spot-says (isReplaced t b) (dataStart dataSize (driveOf shape r) t b))) ∙ none in
             given-spot .says ∙ rw (passes, is-replaced, its-sector));
-        lends = λ home spare. allows-part (part-filled home spare);
+        lends = λ home spare. allows-part shape r t b home spare (part-filled home spare);
         same-part = part-unread;
         same-verdict = verdict-unread;
         gives-back = λ home spare bytes whole whole′ long h stands.
             record {
               accepted = allows (λ k. refl) (rw (read-passes home spare bytes whole whole′ long h stands));
-              bytes-lent = allows-part (data-lent home spare bytes whole whole′ long h stands);
+              bytes-lent = allows-part shape r t b home spare (data-lent home spare bytes whole whole′ long h stands);
             };
       }
 

@@ -11,7 +11,8 @@ use lib.Bits.{bitOr, bitXor, or-shifted, xor-lt}
 use lib.Pow.{pow-pos, pow-lt}
 use Rattle.paper.specs.Limits.{startCode}
 use Rattle.paper.proofs.Cases.{byEq}
-use Rattle.words.specs.Words.{be16, word16At, Below, Bytes}
+use Rattle.words.specs.Words.{be16, word16At, Bytes}
+use Rattle.words.proofs.Fitting.{Below}
 use Rattle.words.proofs.Digits.{be16-below}
 use Rattle.words.proofs.Places.{word16-drop}
 use Rattle.image.specs.Code.{wordsOf, rotated, codeAfter, codeFrom, dataCode, complement}
