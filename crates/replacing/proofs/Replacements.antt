@@ -13,11 +13,13 @@ use Rattle.paper.specs.Limits.{tableBlock}
 use Rattle.paper.proofs.Cases.{byBool, byLt}
 use Rattle.paper.proofs.Rows.{Tells, tells-eq, tells-false}
 use Rattle.layout.specs.declared.Drive.{Drive}
-use Rattle.layout.specs.Layouts.{Laid, spareSector}
+use Rattle.layout.specs.Layouts.{spareSector}
+use Rattle.layout.specs.Steps.{Laid}
 use Rattle.layout.specs.Descriptors.{free, elsewhere, codeOf, primary, names}
 use Rattle.layout.proofs.Sectors.{primary-below}
 use Rattle.layout.proofs.Words.{word-of-parts, tells-names}
-use Rattle.table.specs.Rules.{Obeys, codeAt}
+use Rattle.table.specs.Steps.{Obeys}
+use Rattle.table.specs.Places.{codeAt}
 use Rattle.table.specs.Lookup.{placeOf, Replaced, liesOn}
 use Rattle.table.proofs.Standings.{Standing, is-null, is-free, is-unusable, at-primary, at-other, tells-standing, block-stands, tells-block}
 use Rattle.table.proofs.Obeying.{spare-in, store-keeps}

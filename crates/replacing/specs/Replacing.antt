@@ -6,7 +6,8 @@ use lib.ListN.{length, getD, set}
 use Rattle.layout.specs.Layouts.{spareSector}
 use Rattle.layout.specs.Descriptors.{free, wordOf, codeOf, primary, Names}
 use Rattle.layout.specs.declared.Drive.{Drive}
-use Rattle.table.specs.Rules.{codeAt, Obeys}
+use Rattle.table.specs.Places.{codeAt}
+use Rattle.table.specs.Steps.{Obeys}
 use Rattle.table.specs.Lookup.{liesOn}
 use Rattle.order.specs.Order.{firstFree}
 

@@ -15,10 +15,12 @@ use Rattle.paper.proofs.Rows.{Tells, tells-eq, and-left, and-right}
 use Rattle.seek.specs.Every.{allBelow}
 use Rattle.seek.proofs.Everys.{every-here, here-every, Fails, one-fails}
 use Rattle.layout.specs.declared.Drive.{Drive}
-use Rattle.layout.specs.Layouts.{Laid}
+use Rattle.layout.specs.Steps.{Laid}
 use Rattle.layout.specs.Descriptors.{numberOf, names}
 use Rattle.layout.proofs.Words.{tells-names}
-use Rattle.table.specs.Rules.{tableLength, mayStand, namedFirst, obeys, Obeys, Breaks, other-length, misplaced, named-twice}
+use Rattle.table.specs.Rules.{Breaks, other-length, misplaced, named-twice}
+use Rattle.table.specs.Places.{tableLength}
+use Rattle.table.specs.Steps.{mayStand, namedFirst, obeys, Obeys}
 use Rattle.table.proofs.Standings.{tells-misplaced, allocated-stands}
 use Rattle.table.proofs.Once.{once-shows, once-told, Earlier, named-earlier}
 

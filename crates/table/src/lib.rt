@@ -2,9 +2,12 @@
 ghost use mathlib.Core.Path.{_≡_};
 ghost use Prim.Native.Nat.{_<_, _*_, _^_};
 ghost use lib.ListN.{length};
-ghost use Rattle.layout.specs.Layouts.{Laid, sectorsPerTrack};
-ghost use Rattle.table.specs.Rules.{tableLength, codeAt, mayStand, namedFirst, obeys, Obeys, tableFault, blockFault};
-ghost use Rattle.table.specs.Counting.{Countable, counted, censusOf};
+ghost use Rattle.layout.specs.Layouts.{sectorsPerTrack};
+ghost use Rattle.layout.specs.Steps.{Laid};
+ghost use Rattle.table.specs.Rules.{tableFault, blockFault};
+ghost use Rattle.table.specs.Places.{tableLength, codeAt};
+ghost use Rattle.table.specs.Steps.{mayStand, namedFirst, obeys, Obeys, Countable, counted};
+ghost use Rattle.table.specs.Counting.{censusOf};
 ghost use Rattle.table.specs.Lookup.{placeOf, liesOn, lyingOn};
 use layout::AT_PRIMARY;
 use layout::CODE_UNIT;

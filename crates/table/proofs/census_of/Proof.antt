@@ -5,7 +5,7 @@ use mathlib.Core.Path.{_≡_, sym, _∙_, ap}
 use native.Mathlib.Omega.{arith}
 use lib.ListN.{length}
 use denote.Ref.{now}
-use Rattle.table.specs.Counting.{censusBelow}
+use Rattle.table.specs.Steps.{censusBelow}
 use Rattle.table.proofs.Censuses.{census-none, census-countable, census-next}
 use Rattle.table.proofs.census_of.Statement.{statement}
 use Rattle.table.proofs.census_of.Tie as tie
