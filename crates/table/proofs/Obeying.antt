@@ -1,4 +1,4 @@
--- The check of a table tells whether it obeys its rules, refuses exactly the tables that break one, and what may be stored in a table that obeys them.
+-- The test of a table passes exactly the tables that break no rule, and shows what `Obeys` says of them; and what may be stored in such a table.
 -- Assumes nothing.
 use Prim.Native.Nat.{ℕ, _<_, _≤_}
 use mathlib.Core.Path.{_≡_, refl, sym, _∙_}
@@ -41,13 +41,13 @@ module _ (drive : Drive) (t : List ℕ) where
   pub tells-obeys : Tells (obeys drive t) (Obeys drive t)
   tells-obeys = record { holds = obeys-shows; told = obeys-told }
 
-  -- a table that breaks a rule does not obey them all
-  breaks-wrong : Breaks drive t → Obeys drive t → ⊥
-  breaks-wrong (other-length other) o = other (o .long)
-  breaks-wrong (misplaced q h m) o =
+  -- no table that the test passes breaks a rule
+  passed-unbroken : Breaks drive t → Obeys drive t → ⊥
+  passed-unbroken (other-length other) o = other (o .long)
+  passed-unbroken (misplaced q h m) o =
       let stands : true ≡ false = sym (o .stands q h) ∙ not-true (mayStand drive q (getD t q 0)) (tells-misplaced drive q (getD t q 0) .told m) in
       absurd (true≢false stands)
-  breaks-wrong (named-twice p q early h there here same) o =
+  passed-unbroken (named-twice p q early h there here same) o =
       let one : p ≡ q =
       o .once p q (numberOf (getD t q 0)) (omega arith) h
       (tells-names (getD t p 0) (numberOf (getD t q 0)) .told (there, same))
@@ -55,7 +55,7 @@ module _ (drive : Drive) (t : List ℕ) where
       in
       omega arith
 
-  -- and a table that does not obey them all breaks one
+  -- and a table that it does not pass breaks one
   wrong-breaks : obeys drive t ≡ false → Breaks drive t
   wrong-breaks e =
       byEq (length t) (tableLength drive)
@@ -74,8 +74,15 @@ module _ (drive : Drive) (t : List ℕ) where
   tells-breaks =
       record {
         holds = λ e. wrong-breaks (not-true (obeys drive t) e);
-        told = λ b. byBool (obeys drive t) (λ e. absurd (breaks-wrong b (obeys-shows e))) (λ e. rw e);
+        told = λ b. byBool (obeys drive t) (λ e. absurd (passed-unbroken b (obeys-shows e))) (λ e. rw e);
       }
+
+module _ {drive : Drive} {t : List ℕ} where
+  pub obeys-unbroken : Obeys drive t → Breaks drive t → ⊥
+  obeys-unbroken o breaks = passed-unbroken drive t breaks o
+
+  pub unbroken-obeys : (Breaks drive t → ⊥) → Obeys drive t
+  unbroken-obeys unbroken = byBool (obeys drive t) (obeys-shows drive t) (λ e. absurd (unbroken (wrong-breaks drive t e)))
 
 -- the table has a place for each spare
 pub spares-in-table : (drive : Drive) → drive .spares ≤ tableLength drive

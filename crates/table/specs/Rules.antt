@@ -45,7 +45,7 @@ pub data Breaks (drive : Drive) (t : List ℕ) : Type 0 where
       (p q : ℕ) → p < q → q < length t → Allocated (getD t p 0) → Allocated (getD t q 0) →
       numberOf (getD t p 0) ≡ numberOf (getD t q 0) → Breaks drive t
 
--- checks 1, 11
+-- checks 1, 11: the test refuses exactly the tables that break a rule, as the rows below say
 abbrev pub tableFault : Shape → ℕ → List ℕ → ℕ
 tableFault shape r t = driveFault shape r orElse refuse (not (obeys (driveOf shape r) t)) badTable
 

@@ -28,7 +28,7 @@ mayStand drive q w =
 abbrev pub namedFirst : List ℕ → ℕ → Bool
 namedFirst t q = not (isAllocated (getD t q 0)) || allBelow (λ p. not (names (getD t p 0) (numberOf (getD t q 0)))) q
 
--- a table breaks no rule: `tells-breaks` proves this test against `Breaks`
+-- a table breaks no rule
 abbrev pub obeys : Drive → List ℕ → Bool
 obeys drive t =
     eqb (length t) (tableLength drive)

@@ -1,4 +1,4 @@
-// The descriptor table of a revectored drive: the table's rules and their check, the place that names a block, where a block lies and what lies on a sector.
+// The descriptor table of a revectored drive: the check of its rules, the place that names a block, where a block lies, what lies on a sector, and the census.
 ghost use mathlib.Core.Path.{_≡_};
 ghost use Prim.Native.Nat.{_<_, _*_, _^_};
 ghost use lib.ListN.{length};
@@ -31,7 +31,7 @@ pub struct Census {
     pub null: u32,
 }
 
-// How many descriptors the table has. Only other crates call this.
+// How many places the table has. Only other crates call this.
 pub fn table_length(drive: Drive) -> usize
     requires { ⌜ Laid drive ⌝ }
     ensures { λ result. ⌜ result ≡ tableLength drive ⌝ }
@@ -51,8 +51,8 @@ pub fn code_at(drive: Drive, place: usize, block: u32) -> u32
     ELSEWHERE
 }
 
-// Whether a word may stand at a place of the table. Only other crates call this.
-pub fn may_stand(drive: Drive, place: usize, word: u32) -> bool
+// Whether a word may stand at a place of the table.
+fn may_stand(drive: Drive, place: usize, word: u32) -> bool
     requires { ⌜ Laid drive ⌝ }
     ensures { λ result. ⌜ result ≡ mayStand drive place word ⌝ }
 {
@@ -72,8 +72,8 @@ pub fn may_stand(drive: Drive, place: usize, word: u32) -> bool
     layout::code_of(word) == code_at(drive, place, number)
 }
 
-// Whether no place before this one names its block too. Only other crates call this.
-pub fn named_first(table: &[u32], place: usize) -> bool
+// Whether no place before this one names the block that it names.
+fn named_first(table: &[u32], place: usize) -> bool
     requires { ⌜ place < length (now table) ⌝ }
     ensures { λ result. ⌜ result ≡ namedFirst (now (table .entry)) place ⌝ }
 {
@@ -92,8 +92,8 @@ pub fn named_first(table: &[u32], place: usize) -> bool
     true
 }
 
-// Whether a table obeys its rules. Only other crates call this.
-pub fn obeys_rules(drive: Drive, table: &[u32]) -> bool
+// Whether a table breaks no rule.
+fn obeys_rules(drive: Drive, table: &[u32]) -> bool
     requires { ⌜ Laid drive ⌝ }
     ensures { λ result. ⌜ result ≡ obeys drive (now (table .entry)) ⌝ }
 {
