@@ -127,7 +127,7 @@ pub fn table_fault(shape: Shape, r: u32, table: &[u32]) -> u32
     0
 }
 
-// Refusal 1 for the drive's numbers, 11 for its table, 5 for a block number that is too high, else 0. Only other crates call this.
+// Refusal 1 for the drive's numbers, 11 for its table, 5 for a block number that is not below the number of blocks, else 0. Only other crates call this.
 pub fn block_fault(shape: Shape, r: u32, table: &[u32], block: u32) -> u32
     ensures { λ result. ⌜ result ≡ blockFault shape r (now (table .entry)) block ⌝ }
 {
@@ -216,10 +216,10 @@ pub fn census_of(table: &[u32]) -> Census
         unusable: 0,
         null: 0,
     };
-    let mut place = 0;
-    while place < table.len() {
-        census = count_code(census, layout::code_of(table[place]));
-        place += 1;
+    let mut passed = 0;
+    while passed < table.len() {
+        census = count_code(census, layout::code_of(table[passed]));
+        passed += 1;
     }
     census
 }
