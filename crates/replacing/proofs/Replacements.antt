@@ -1,9 +1,9 @@
--- What a replacement does: a free place is a spare's, one is found exactly where there is one, and the descriptor stored there keeps the table's rules, puts the block on the spare and leaves every other block where it lies.
+-- What a replacement does: a free place is a spare's, one is found exactly where there is one, the first in the search order, and the descriptor stored there keeps the table's rules, puts the block on the spare and leaves every other block where it lies.
 -- Assumes nothing.
 use Prim.Native.Nat.{ℕ, zero, suc, _%_, _<_, _≤_}
 use mathlib.Core.Path.{_≡_, refl, sym, _∙_, ap, subst}
 use mathlib.Core.Bool.{true, false}
-use mathlib.Core.List.{List, [], _∷_, _++_, List·Memᴰ, List·Memᴰ·head, List·Memᴰ·tail, Memᴰ·append-left}
+use mathlib.Core.List.{List, [], _∷_, List·Memᴰ, List·Memᴰ·head, List·Memᴰ·tail, Memᴰ·append-left}
 use native.Mathlib.Omega.{arith}
 use lib.Dec.{leb, eqb}
 use lib.ListN.{length, getD, set, length-set}
@@ -24,7 +24,7 @@ use Rattle.table.specs.Places.{codeAt}
 use Rattle.table.specs.Lookup.{placeOf, Replaced, liesOn}
 use Rattle.table.proofs.Standings.{Standing, is-null, is-free, is-unusable, at-primary, at-other, tells-standing, block-stands, tells-block}
 use Rattle.table.proofs.Obeying.{spare-in, store-keeps, obeys-unbroken}
-use Rattle.table.proofs.Lookups.{place-kept, lies-kept, place-once}
+use Rattle.table.proofs.Lookups.{lies-kept, place-once}
 use Rattle.order.specs.Order.{isFree, freeAt, order}
 use Rattle.order.proofs.Once.{order-inside}
 use Rattle.order.proofs.Found.{found-free, first-bound, none-free}
@@ -125,10 +125,7 @@ module _ {drive : Drive} (laid : Laid drive) {t : List ℕ} (o : Obeys drive t) 
   pub stored-named : names (getD (set t q (descriptorAt drive q b)) q 0) b ≡ true
   stored-named = rw (getD-set-same t q (descriptorAt drive q b) 0 h) (tells-block laid q b below b .told refl)
 
-  -- every other block has the place that it had, and lies where it lay
-  pub others-place : (a : ℕ) → (a ≡ b → ⊥) → placeOf (set t q (descriptorAt drive q b)) a ≡ placeOf t a
-  others-place a apart = place-kept t q (descriptorAt drive q b) a h (free-names-none a) (other-unnamed a apart)
-
+  -- every other block lies where it lay
   pub others-lie : (a : ℕ) → (a ≡ b → ⊥) → liesOn drive (set t q (descriptorAt drive q b)) a ≡ liesOn drive t a
   others-lie a apart = lies-kept t q (descriptorAt drive q b) a h (free-names-none a) (other-unnamed a apart) drive
 
@@ -158,7 +155,7 @@ replacement-alters {drive} {t} {b} laid o below not-replaced found =
       same-length = length-set t q (descriptorAt drive q b);
       names-block = tells-names (getD (replacedIn drive t b) q 0) b .holds (stored-named laid o below found was-free);
       others-stand = λ p apart. getD-set-other t q p (descriptorAt drive q b) 0 apart;
-      obeys = obeys-unbroken (stored-obeys laid o below found was-free not-replaced);
+      breaks-none = obeys-unbroken (stored-obeys laid o below found was-free not-replaced);
       lies = stored-lies laid o below found was-free not-replaced;
       others-lie = others-lie laid o below found was-free;
     }

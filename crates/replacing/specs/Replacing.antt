@@ -34,7 +34,7 @@ descriptorAt drive q b = wordOf (codeAt drive q b) b
 abbrev pub replacedIn : Drive → List ℕ → ℕ → List ℕ
 replacedIn drive t b = set t (spareFor drive t b) (descriptorAt drive (spareFor drive t b) b)
 
--- what a replacement of block b by place q does: that place was the first free one in the search order, one descriptor is altered, the table breaks no rule, the block lies on its spare, and every other block lies where it lay
+-- what a replacement that gives block b the spare q does: q was the first free place in the search order, its descriptor alone is altered, the table breaks no rule, the block lies on its spare, and every other block lies where it lay
 pub record Altered (drive : Drive) (before : List ℕ) (b q : ℕ) (after : List ℕ) : Type 0 where
   pub in-table : q < length before
   pub was-free : codeOf (getD before q 0) ≡ free
@@ -42,6 +42,6 @@ pub record Altered (drive : Drive) (before : List ℕ) (b q : ℕ) (after : List
   pub same-length : length after ≡ length before
   pub names-block : Names (getD after q 0) b
   pub others-stand : (p : ℕ) → (p ≡ q → ⊥) → getD after p 0 ≡ getD before p 0
-  pub obeys : Breaks drive after → ⊥
+  pub breaks-none : Breaks drive after → ⊥
   pub lies : liesOn drive after b ≡ spareSector drive q
   pub others-lie : (a : ℕ) → (a ≡ b → ⊥) → liesOn drive after a ≡ liesOn drive before a

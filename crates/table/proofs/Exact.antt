@@ -17,7 +17,7 @@ use Rattle.layout.proofs.Layings.{laid}
 use Rattle.layout.proofs.Exact.{drive-shows, drive-exactly}
 use Rattle.table.specs.Rules.{Breaks, tableFault, blockFault, TableJudged, BlockJudged}
 use Rattle.table.specs.Steps.{Obeys}
-use Rattle.table.proofs.Obeying.{obeys-told, tells-obeys, tells-breaks, unbroken-obeys}
+use Rattle.table.proofs.Obeying.{obeys-told, tells-obeys, tells-breaks}
 
 -- what checks 1 and 11 show
 pub record Ready (shape : Shape) (r : ℕ) (t : List ℕ) : Type 0 where
@@ -44,9 +44,8 @@ module _ (shape : Shape) (r : ℕ) (t : List ℕ) where
       let table = table-shows none in
       record { shaped = drive .0; drives = drive .1; laid = table .0; obeys = table .1 }
 
-  -- a table that breaks no rule of a drive that passes its check passes
-  pub table-passes : driveFault shape r ≡ 0 → (Breaks (driveOf shape r) t → ⊥) → tableFault shape r t ≡ 0
-  table-passes none unbroken = rw (none, obeys-told (driveOf shape r) t (unbroken-obeys unbroken))
+  pub table-passes : driveFault shape r ≡ 0 → Obeys (driveOf shape r) t → tableFault shape r t ≡ 0
+  table-passes none obeys = rw (none, obeys-told (driveOf shape r) t obeys)
 
   module _ (b : ℕ) where
     pub block-ready : blockFault shape r t b ≡ 0 → Ready shape r t

@@ -13,7 +13,7 @@ use borrow.Author.Tests.{lt-ltb, le-ltb}
 use Rattle.paper.specs.declared.Named.the-variants.{Block, NoBlock}
 use Rattle.paper.proofs.Cases.{byBool, byLt, byEq}
 use Rattle.paper.proofs.Rows.{Tells, tells-lt, tells-false}
-use Rattle.seek.proofs.Firsts.{first-is, first-none, first-le, first-passes, first-before, first-alike}
+use Rattle.seek.proofs.Firsts.{first-is, first-none, first-passes, first-before, first-alike}
 use Rattle.layout.specs.declared.Drive.{Drive}
 use Rattle.layout.specs.Layouts.{sectorsPerTrack, homeSector, spareSector}
 use Rattle.layout.specs.Steps.{Laid}
@@ -33,10 +33,6 @@ module _ (t : List ℕ) (b : ℕ) where
   pub place-none : ((k : ℕ) → k < length t → names (getD t k 0) b ≡ false) → placeOf t b ≡ length t
   unfolding placeOf
   place-none none = first-none (λ k. names (getD t k 0) b) (length t) none
-
-  pub place-le : placeOf t b ≤ length t
-  unfolding placeOf
-  place-le = first-le (λ k. names (getD t k 0) b) (length t)
 
   -- the place of a replaced block names it
   pub place-names : placeOf t b < length t → names (getD t (placeOf t b) 0) b ≡ true

@@ -1,4 +1,4 @@
--- The test of a table passes exactly the tables that break no rule, and shows what `Obeys` says of them; and what may be stored in such a table.
+-- The test of a table passes exactly the tables that break no rule, which are those that obey them all; and what may be stored in such a table.
 -- Assumes nothing.
 use Prim.Native.Nat.{ℕ, _<_, _≤_}
 use mathlib.Core.Path.{_≡_, refl, sym, _∙_}
@@ -24,6 +24,20 @@ use Rattle.table.specs.Steps.{mayStand, namedFirst, obeys, Obeys}
 use Rattle.table.proofs.Standings.{tells-misplaced, allocated-stands}
 use Rattle.table.proofs.Once.{once-shows, once-told, Earlier, named-earlier}
 
+-- a table that obeys the rules breaks none
+pub obeys-unbroken : {drive : Drive} {t : List ℕ} → Obeys drive t → Breaks drive t → ⊥
+obeys-unbroken o (other-length other) = other (o .long)
+obeys-unbroken {drive} {t} o (misplaced q h m) =
+    let stands : true ≡ false = sym (o .stands q h) ∙ not-true (mayStand drive q (getD t q 0)) (tells-misplaced drive q (getD t q 0) .told m) in
+    absurd (true≢false stands)
+obeys-unbroken {drive} {t} o (named-twice p q early h there here same) =
+    let one : p ≡ q =
+    o .once p q (numberOf (getD t q 0)) (omega arith) h
+    (tells-names (getD t p 0) (numberOf (getD t q 0)) .told (there, same))
+    (tells-names (getD t q 0) (numberOf (getD t q 0)) .told (here, refl))
+    in
+    omega arith
+
 module _ (drive : Drive) (t : List ℕ) where
   pub obeys-shows : obeys drive t ≡ true → Obeys drive t
   obeys-shows e =
@@ -41,21 +55,7 @@ module _ (drive : Drive) (t : List ℕ) where
   pub tells-obeys : Tells (obeys drive t) (Obeys drive t)
   tells-obeys = record { holds = obeys-shows; told = obeys-told }
 
-  -- no table that the test passes breaks a rule
-  passed-unbroken : Breaks drive t → Obeys drive t → ⊥
-  passed-unbroken (other-length other) o = other (o .long)
-  passed-unbroken (misplaced q h m) o =
-      let stands : true ≡ false = sym (o .stands q h) ∙ not-true (mayStand drive q (getD t q 0)) (tells-misplaced drive q (getD t q 0) .told m) in
-      absurd (true≢false stands)
-  passed-unbroken (named-twice p q early h there here same) o =
-      let one : p ≡ q =
-      o .once p q (numberOf (getD t q 0)) (omega arith) h
-      (tells-names (getD t p 0) (numberOf (getD t q 0)) .told (there, same))
-      (tells-names (getD t q 0) (numberOf (getD t q 0)) .told (here, refl))
-      in
-      omega arith
-
-  -- and a table that it does not pass breaks one
+  -- a table that the test does not pass breaks a rule
   wrong-breaks : obeys drive t ≡ false → Breaks drive t
   wrong-breaks e =
       byEq (length t) (tableLength drive)
@@ -74,15 +74,12 @@ module _ (drive : Drive) (t : List ℕ) where
   tells-breaks =
       record {
         holds = λ e. wrong-breaks (not-true (obeys drive t) e);
-        told = λ b. byBool (obeys drive t) (λ e. absurd (passed-unbroken b (obeys-shows e))) (λ e. rw e);
+        told = λ b. byBool (obeys drive t) (λ e. absurd (obeys-unbroken (obeys-shows e) b)) (λ e. rw e);
       }
 
-module _ {drive : Drive} {t : List ℕ} where
-  pub obeys-unbroken : Obeys drive t → Breaks drive t → ⊥
-  obeys-unbroken o breaks = passed-unbroken drive t breaks o
-
-  pub unbroken-obeys : (Breaks drive t → ⊥) → Obeys drive t
-  unbroken-obeys unbroken = byBool (obeys drive t) (obeys-shows drive t) (λ e. absurd (unbroken (wrong-breaks drive t e)))
+-- a table that breaks no rule obeys them all
+pub unbroken-obeys : {drive : Drive} {t : List ℕ} → (Breaks drive t → ⊥) → Obeys drive t
+unbroken-obeys {drive} {t} unbroken = byBool (obeys drive t) (obeys-shows drive t) (λ e. absurd (unbroken (wrong-breaks drive t e)))
 
 -- the table has a place for each spare
 pub spares-in-table : (drive : Drive) → drive .spares ≤ tableLength drive
