@@ -1,4 +1,4 @@
--- The layout of a drive that passes its check obeys what every layout obeys, and so its products fit.
+-- A drive that passes its check is laid: the homes and spares of its tracks are its sectors, and so its products fit.
 -- Assumes nothing.
 use Prim.Native.Nat.{ℕ, _*_}
 use mathlib.Core.Path.{_≡_, refl}
@@ -7,7 +7,8 @@ use native.Mathlib.Omega.{arith}
 use Rattle.shape.specs.declared.Shape.{Shape}
 use Rattle.shape.specs.Shapes.{Shaped, sizeOf}
 use Rattle.shape.proofs.Bounds.{size-fits}
-use Rattle.layout.specs.Layouts.{Spared, Laid, driveOf, sectorsPerTrack}
+use Rattle.layout.specs.Layouts.{Spared, driveOf, sectorsPerTrack}
+use Rattle.layout.specs.Steps.{Laid}
 
 module _ {shape : Shape} {r : ℕ} (drives : Spared shape r) where
   -- homes and spares of a track are its sectors, and those of all tracks the drive's

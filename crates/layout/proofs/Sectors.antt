@@ -8,7 +8,8 @@ use lib.Arith.{digits-lt, digits-div, digits-mod}
 use Rattle.paper.specs.Limits.{unitsMost}
 use Rattle.paper.proofs.Cases.{byLt}
 use Rattle.layout.specs.declared.Drive.{Drive}
-use Rattle.layout.specs.Layouts.{Laid, sectorsPerTrack, homeSector, spareSector, homeCylinder, spareCylinder}
+use Rattle.layout.specs.Layouts.{sectorsPerTrack, homeSector, spareSector, homeCylinder, spareCylinder}
+use Rattle.layout.specs.Steps.{Laid}
 use Rattle.layout.specs.Descriptors.{primary}
 
 -- what a sector of the drive is
@@ -80,7 +81,7 @@ module _ {drive : Drive} (laid : Laid drive) where
     pub home-below : homeSector drive b < drive .tracks * sectorsPerTrack drive
     home-below = digits-lt home-track-below (omega (arith, home-offset-below b))
 
-    -- the place that a block is given first is a spare's
+    -- the primary of a block is a spare's place
     pub primary-below : primary drive b < drive .spares
     primary-below = rw (laid .are-spares) (mul-lt-mul-of-pos-right home-track-below (laid .spare-some))
 

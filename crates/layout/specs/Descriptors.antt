@@ -6,7 +6,7 @@ use mathlib.Core.Logic.{_⊎_}
 use lib.Dec.{eqb}
 use Rattle.layout.specs.declared.Drive.{Drive}
 
--- the codes
+-- the codes: 0 free, 2 allocated at its primary, 3 allocated elsewhere, 4 unusable, 8 null
 abbrev pub free : ℕ
 free = 0
 
@@ -22,31 +22,34 @@ unusable = 4
 abbrev pub null : ℕ
 null = 8
 
--- the top four bits are the code, the low 28 the number
+-- 2²⁸: the low 28 bits of a word are its number
 abbrev pub codeUnit : ℕ
 codeUnit = 268435456
 
+-- the word of a code and a number
 abbrev pub wordOf : ℕ → ℕ → ℕ
 wordOf code number = code * codeUnit + number
 
+-- the top four bits
 abbrev pub codeOf : ℕ → ℕ
 codeOf word = word / codeUnit
 
+-- the low 28 bits
 abbrev pub numberOf : ℕ → ℕ
 numberOf word = word % codeUnit
 
--- the place that a block is given first: (b / l) × r
+-- the place where the search for a block's spare starts: (b / l) × r
 abbrev pub primary : Drive → ℕ → ℕ
 primary drive b = b / drive .l * drive .r
 
--- a word that names a block: allocated at the primary or elsewhere
+-- a word that is allocated, at its primary or elsewhere
 abbrev pub Allocated : ℕ → Type 0
 Allocated word = (codeOf word ≡ atPrimary) ⊎ (codeOf word ≡ elsewhere)
 
 abbrev pub isAllocated : ℕ → Bool
 isAllocated word = eqb (codeOf word) atPrimary || eqb (codeOf word) elsewhere
 
--- the block that a word names
+-- an allocated word names the block of its number
 abbrev pub Names : ℕ → ℕ → Type 0
 Names word b = Allocated word × (numberOf word ≡ b)
 

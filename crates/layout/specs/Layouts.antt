@@ -1,11 +1,10 @@
 -- Document 01, "Numbers" and "Descriptors and spares": the numbers of a revectored drive, its check, and where homes and spares lie.
 use Prim.Native.Nat.{ℕ, _+_, _-_, _*_, _/_, _%_, _<_, _≤_}
-use mathlib.Core.Path.{_≡_}
 use mathlib.Core.Bool.{Bool, not, _&&_}
 use lib.Dec.{ltb, leb}
 use Rattle.paper.specs.Checks.{refuse, _orElse_}
 use Rattle.paper.specs.Refusals.{outOfRange}
-use Rattle.paper.specs.Limits.{unitsMost, sparesMost}
+use Rattle.paper.specs.Limits.{sparesMost}
 use Rattle.paper.specs.Exactly.{When, _andThen_}
 use Rattle.shape.specs.Shapes.{shapeFault, ShapeJudged}
 use Rattle.shape.specs.declared.Shape.{Shape}
@@ -15,7 +14,7 @@ use Rattle.layout.specs.declared.Drive.{Drive}
 abbrev pub tracksOf : Shape → ℕ
 tracksOf shape = shape .cylinders * shape .heads
 
--- 1 ≤ r < S, and no more than the most spares on all tracks
+-- r is in its range, 1 ≤ r < S, and so is T × r, the spares of all tracks
 pub record Spared (shape : Shape) (r : ℕ) : Type 0 where
   pub some : 1 ≤ r
   pub fewer : r < shape .sectors
@@ -24,7 +23,7 @@ pub record Spared (shape : Shape) (r : ℕ) : Type 0 where
 abbrev pub spared : Shape → ℕ → Bool
 spared shape r = leb 1 r && (ltb r (shape .sectors) && leb (tracksOf shape * r) sparesMost)
 
--- check 1 of a revectored drive
+-- check 1 of a revectored drive: its shape, then r and T × r
 abbrev pub driveFault : Shape → ℕ → ℕ
 driveFault shape r = shapeFault shape orElse refuse (not (spared shape r)) outOfRange
 
@@ -32,7 +31,7 @@ driveFault shape r = shapeFault shape orElse refuse (not (spared shape r)) outOf
 abbrev pub DriveJudged : Shape → ℕ → ℕ → Type 0
 DriveJudged shape r = ShapeJudged shape andThen When outOfRange (Spared shape r → ⊥)
 
--- l = S − r home sectors of a track, T × r spares, T × l blocks
+-- the numbers of the drive: l = S − r home sectors of a track, T × r spares, T × l home blocks
 abbrev pub driveOf : Shape → ℕ → Drive
 driveOf shape r =
     record {
@@ -44,20 +43,9 @@ driveOf shape r =
       blocks = tracksOf shape * (shape .sectors - r);
     }
 
--- sectors of a track
+-- S, the sectors of a track: its homes and its spares
 abbrev pub sectorsPerTrack : Drive → ℕ
 sectorsPerTrack drive = drive .l + drive .r
-
--- what every layout of a drive obeys: tracks, heads, homes and spares of a track, all in range, and the two products
-pub record Laid (drive : Drive) : Type 0 where
-  pub heads-some : 1 ≤ drive .heads
-  pub home-some : 1 ≤ drive .l
-  pub spare-some : 1 ≤ drive .r
-  pub tracks-some : 1 ≤ drive .tracks
-  pub are-spares : drive .spares ≡ drive .tracks * drive .r
-  pub are-blocks : drive .blocks ≡ drive .tracks * drive .l
-  pub spares-fit : drive .spares ≤ sparesMost
-  pub sectors-fit : drive .tracks * sectorsPerTrack drive ≤ unitsMost
 
 -- block b: track b / l, sector b mod l
 abbrev pub homeSector : Drive → ℕ → ℕ

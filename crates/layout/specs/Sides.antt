@@ -1,11 +1,11 @@
--- Document 01, "Descriptors and spares": a sector by its number, as the home of a block or the place of a spare.
+-- Document 01, "Descriptors and spares": which block's home, or which spare, a sector of the drive is.
 use Prim.Native.Nat.{ℕ, _+_, _-_, _*_, _/_, _%_}
 use mathlib.Core.Bool.{Bool}
 use lib.Dec.{ltb}
 use Rattle.layout.specs.declared.Drive.{Drive}
 use Rattle.layout.specs.Layouts.{sectorsPerTrack}
 
--- a track has its homes first and then its spares
+-- a sector is a home: the spares are at the end of each track
 abbrev pub isHome : Drive → ℕ → Bool
 isHome drive s = ltb (s % sectorsPerTrack drive) (drive .l)
 
@@ -13,6 +13,6 @@ isHome drive s = ltb (s % sectorsPerTrack drive) (drive .l)
 abbrev pub blockOfHome : Drive → ℕ → ℕ
 blockOfHome drive s = s / sectorsPerTrack drive * drive .l + s % sectorsPerTrack drive
 
--- the place of the spare that a sector is
+-- the number of the spare that a sector is, which is its place in the table
 abbrev pub placeOfSpare : Drive → ℕ → ℕ
 placeOfSpare drive s = s / sectorsPerTrack drive * drive .r + (s % sectorsPerTrack drive - drive .l)

@@ -1,15 +1,17 @@
-// A revectored drive: its check, the numbers of its layout, where homes and spares lie, and descriptor words.
+// A revectored drive: its check, its numbers, where homes and spares lie, and descriptor words.
 ghost use mathlib.Core.Path.{_≡_};
 ghost use mathlib.Core.Bool.{false};
 ghost use Prim.Native.Nat.{_<_, _*_};
 ghost use Rattle.shape.specs.Shapes.{Shaped};
-ghost use Rattle.layout.specs.Layouts.{Spared, driveFault, driveOf, Laid, sectorsPerTrack, homeSector, spareSector, homeCylinder, spareCylinder};
+ghost use Rattle.layout.specs.Layouts.{Spared, driveFault, driveOf, sectorsPerTrack, homeSector, spareSector, homeCylinder, spareCylinder};
+ghost use Rattle.layout.specs.Steps.{Laid};
 ghost use Rattle.layout.specs.Sides.{isHome, blockOfHome, placeOfSpare};
 ghost use Rattle.layout.specs.Descriptors.{free, atPrimary, elsewhere, unusable, null, codeUnit, codeOf, numberOf, primary, isAllocated, names};
 use paper::OUT_OF_RANGE;
 use paper::SPARES_MOST;
 use shape::Shape;
 
+// The codes of a descriptor stand here and not in `paper`, since a descriptor is a revectored drive's alone.
 pub const FREE: u32 = 0;
 
 pub const AT_PRIMARY: u32 = 2;
@@ -20,10 +22,10 @@ pub const UNUSABLE: u32 = 4;
 
 pub const NULL: u32 = 8;
 
-// What the code's unit weighs in a descriptor word: the low 28 bits are the number.
+// 2²⁸: the low 28 bits of a descriptor are its number.
 pub const CODE_UNIT: u32 = 268_435_456;
 
-// Each code and the code's unit are those of the definitions.
+// The constants are those of the definitions.
 fn codes_agree()
     ensures { λ result. do ⌜ (← ⟦FREE⟧ .entry) ≡ free ⌝ }
     ensures { λ result. do ⌜ (← ⟦AT_PRIMARY⟧ .entry) ≡ atPrimary ⌝ }
@@ -33,7 +35,7 @@ fn codes_agree()
     ensures { λ result. do ⌜ (← ⟦CODE_UNIT⟧ .entry) ≡ codeUnit ⌝ }
 {}
 
-// A revectored drive in the paper's letters: T tracks, H heads, l home sectors and r spares of a track, all its spares and all its blocks.
+// The numbers of a revectored drive: T tracks, H heads, l home sectors and r spares of a track, T × r spares and T × l home blocks.
 pub struct Drive {
     pub tracks: u32,
     pub heads: u32,
@@ -43,7 +45,7 @@ pub struct Drive {
     pub blocks: u32,
 }
 
-// Refusal 1 for a shape, an r or a number of spares outside its range, else 0. Only other crates call this.
+// Refusal 1 for a number of the shape, r or T × r outside its range, else 0. Only other crates call this.
 pub fn drive_fault(shape: Shape, r: u32) -> u32
     ensures { λ result. ⌜ result ≡ driveFault shape r ⌝ }
 {
@@ -63,7 +65,7 @@ pub fn drive_fault(shape: Shape, r: u32) -> u32
     0
 }
 
-// The layout of a drive that passes its check. Only other crates call this.
+// The numbers of a drive that passes its check. Only other crates call this.
 pub fn drive_of(shape: Shape, r: u32) -> Drive
     requires { ⌜ Shaped shape ⌝ }
     requires { ⌜ Spared shape r ⌝ }
@@ -94,7 +96,7 @@ pub fn number_of(word: u32) -> u32
     word % CODE_UNIT
 }
 
-// Whether a descriptor names a block. Only other crates call this.
+// Whether a descriptor is allocated. Only other crates call this.
 pub fn is_allocated(word: u32) -> bool
     ensures { λ result. ⌜ result ≡ isAllocated word ⌝ }
 {
@@ -105,7 +107,7 @@ pub fn is_allocated(word: u32) -> bool
     code == ELSEWHERE
 }
 
-// Whether a descriptor names this block: the number is compared first, since few are equal. Only other crates call this.
+// Whether a descriptor names this block. The number is compared first, since few are equal. Only other crates call this.
 pub fn names(word: u32, block: u32) -> bool
     ensures { λ result. ⌜ result ≡ names word block ⌝ }
 {
@@ -115,7 +117,7 @@ pub fn names(word: u32, block: u32) -> bool
     is_allocated(word)
 }
 
-// The place that a block is given first. Only other crates call this.
+// The place where the search for a block's spare starts. Only other crates call this.
 pub fn primary(drive: Drive, block: u32) -> u32
     requires { ⌜ Laid drive ⌝ }
     requires { ⌜ block < drive .blocks ⌝ }
@@ -124,7 +126,7 @@ pub fn primary(drive: Drive, block: u32) -> u32
     block / drive.l * drive.r
 }
 
-// The home of a block. Only other crates call this.
+// The sector of a block's home. Only other crates call this.
 pub fn home_sector(drive: Drive, block: u32) -> u32
     requires { ⌜ Laid drive ⌝ }
     requires { ⌜ block < drive .blocks ⌝ }
@@ -176,7 +178,7 @@ pub fn block_of_home(drive: Drive, sector: u32) -> u32
     sector / sectors * drive.l + sector % sectors
 }
 
-// The place of the spare that a sector is. Only other crates call this.
+// The number of the spare that a sector is, which is its place in the table. Only other crates call this.
 pub fn place_of_spare(drive: Drive, sector: u32) -> u32
     requires { ⌜ Laid drive ⌝ }
     requires { ⌜ sector < drive .tracks * sectorsPerTrack drive ⌝ }

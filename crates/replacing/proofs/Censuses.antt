@@ -11,11 +11,11 @@ use borrow.Author.Tests.{eq-eqb, ne-eqb, eqb-false}
 use Rattle.paper.specs.Checks.{pick}
 use Rattle.paper.proofs.Cases.{byBool}
 use Rattle.layout.specs.declared.Drive.{Drive}
-use Rattle.layout.specs.Layouts.{Laid}
+use Rattle.layout.specs.Steps.{Laid}
 use Rattle.layout.specs.Descriptors.{free, codeOf, primary}
 use Rattle.layout.proofs.Sectors.{blocks-few}
 use Rattle.layout.proofs.Words.{code-of-word}
-use Rattle.table.specs.Rules.{codeAt}
+use Rattle.table.specs.Places.{codeAt}
 use Rattle.table.specs.Counting.{codeCount}
 use Rattle.table.proofs.Censuses.{count-set}
 use Rattle.replacing.specs.Replacing.{descriptorAt}

@@ -1,9 +1,9 @@
--- What a replacement does: a free place is a spare's, one is found exactly where there is one, and the descriptor stored there keeps the table's rules, puts the block on the spare and leaves every other block where it lies.
+-- What a replacement does: a free place is a spare's, one is found exactly where there is one, the first in the search order, and the descriptor stored there keeps the table's rules, puts the block on the spare and leaves every other block where it lies.
 -- Assumes nothing.
-use Prim.Native.Nat.{ℕ, _%_, _<_, _≤_}
-use mathlib.Core.Path.{_≡_, refl, sym, _∙_, ap}
+use Prim.Native.Nat.{ℕ, zero, suc, _%_, _<_, _≤_}
+use mathlib.Core.Path.{_≡_, refl, sym, _∙_, ap, subst}
 use mathlib.Core.Bool.{true, false}
-use mathlib.Core.List.{List}
+use mathlib.Core.List.{List, [], _∷_, List·Memᴰ, List·Memᴰ·head, List·Memᴰ·tail, Memᴰ·append-left}
 use native.Mathlib.Omega.{arith}
 use lib.Dec.{leb, eqb}
 use lib.ListN.{length, getD, set, length-set}
@@ -12,19 +12,29 @@ use borrow.Author.Tests.{lt-ltb, le-leb, leb-true}
 use Rattle.paper.specs.Limits.{tableBlock}
 use Rattle.paper.proofs.Cases.{byBool, byLt}
 use Rattle.paper.proofs.Rows.{Tells, tells-eq, tells-false}
+use Rattle.seek.proofs.Searches.{Found, firstOr-found}
 use Rattle.layout.specs.declared.Drive.{Drive}
-use Rattle.layout.specs.Layouts.{Laid, spareSector}
+use Rattle.layout.specs.Layouts.{spareSector}
+use Rattle.layout.specs.Steps.{Laid}
 use Rattle.layout.specs.Descriptors.{free, elsewhere, codeOf, primary, names}
 use Rattle.layout.proofs.Sectors.{primary-below}
 use Rattle.layout.proofs.Words.{word-of-parts, tells-names}
-use Rattle.table.specs.Rules.{Obeys, codeAt}
+use Rattle.table.specs.Steps.{Obeys}
+use Rattle.table.specs.Places.{codeAt}
 use Rattle.table.specs.Lookup.{placeOf, Replaced, liesOn}
 use Rattle.table.proofs.Standings.{Standing, is-null, is-free, is-unusable, at-primary, at-other, tells-standing, block-stands, tells-block}
-use Rattle.table.proofs.Obeying.{spare-in, store-keeps}
-use Rattle.table.proofs.Lookups.{place-kept, lies-kept, place-once}
-use Rattle.order.specs.Order.{isFree}
+use Rattle.table.proofs.Obeying.{spare-in, store-keeps, obeys-unbroken}
+use Rattle.table.proofs.Lookups.{lies-kept, place-once}
+use Rattle.order.specs.Order.{isFree, freeAt, order}
+use Rattle.order.proofs.Once.{order-inside}
 use Rattle.order.proofs.Found.{found-free, first-bound, none-free}
-use Rattle.replacing.specs.Replacing.{spareFor, NoneFree, descriptorAt, replacedIn, Altered}
+use Rattle.replacing.specs.Replacing.{spareFor, NoneFree, ComesFirst, descriptorAt, replacedIn, Altered}
+
+-- what stands at a place of a list is of the list
+member-at : (xs : List ℕ) (k : ℕ) → k < length xs → List·Memᴰ (getD xs k 0) xs
+member-at [] k h = absurd (omega arith)
+member-at (x ∷ xs) zero h = List·Memᴰ·head refl
+member-at (x ∷ xs) (suc k) h = List·Memᴰ·tail (member-at xs k (omega arith))
 
 -- the code of an allocated descriptor is at most 3
 pub code-few : (drive : Drive) (q b : ℕ) → codeAt drive q b ≤ elsewhere
@@ -74,6 +84,24 @@ module _ {drive : Drive} (laid : Laid drive) {t : List ℕ} (o : Obeys drive t) 
   pub spare-free : spareFor drive t b < length t → codeOf (getD t (spareFor drive t b) 0) ≡ free
   spare-free h = tells-free o h .holds (found-free t (primary drive b) h)
 
+  -- and no place that the search comes to before it is
+  pub spare-first : spareFor drive t b < length t → ComesFirst drive t b (spareFor drive t b)
+  spare-first h =
+      record {
+        earlier = found .before;
+        later = found .after;
+        searched = found .splits;
+        none-earlier = λ k l. tells-false (tells-free o (inside (getD (found .before) k 0) (member-at (found .before) k l))) (found .none-before (getD (found .before) k 0) (member-at (found .before) k l));
+      }
+    where
+      found : Found (freeAt t) (order (length t) (primary drive b)) (spareFor drive t b)
+      found = firstOr-found (freeAt t) (length t) (order (length t) (primary drive b)) (λ none. omega arith)
+
+      inside : (p : ℕ) → List·Memᴰ p (found .before) → p < length t
+      inside p m =
+          order-inside (length t) (primary drive b) (table-whole o) primary-in p
+          (subst (λ (l : List ℕ). List·Memᴰ p l) (sym (found .splits)) (Memᴰ·append-left (spareFor drive t b ∷ found .after) m))
+
   -- no spare is found exactly where no place is free
   pub tells-none-free : Tells (leb (length t) (spareFor drive t b)) (NoneFree t)
   tells-none-free =
@@ -97,10 +125,7 @@ module _ {drive : Drive} (laid : Laid drive) {t : List ℕ} (o : Obeys drive t) 
   pub stored-named : names (getD (set t q (descriptorAt drive q b)) q 0) b ≡ true
   stored-named = rw (getD-set-same t q (descriptorAt drive q b) 0 h) (tells-block laid q b below b .told refl)
 
-  -- every other block has the place that it had, and lies where it lay
-  pub others-place : (a : ℕ) → (a ≡ b → ⊥) → placeOf (set t q (descriptorAt drive q b)) a ≡ placeOf t a
-  others-place a apart = place-kept t q (descriptorAt drive q b) a h (free-names-none a) (other-unnamed a apart)
-
+  -- every other block lies where it lay
   pub others-lie : (a : ℕ) → (a ≡ b → ⊥) → liesOn drive (set t q (descriptorAt drive q b)) a ≡ liesOn drive t a
   others-lie a apart = lies-kept t q (descriptorAt drive q b) a h (free-names-none a) (other-unnamed a apart) drive
 
@@ -118,21 +143,25 @@ module _ {drive : Drive} (laid : Laid drive) {t : List ℕ} (o : Obeys drive t) 
     pub stored-lies : liesOn drive (set t q (descriptorAt drive q b)) b ≡ spareSector drive q
     stored-lies = rw (stored-place, length-set t q (descriptorAt drive q b), lt-ltb q (length t) h)
 
-    pub stored-alters : Altered drive t b q (set t q (descriptorAt drive q b))
-    stored-alters =
-        record {
-          in-table = h;
-          was-free = was-free;
-          same-length = length-set t q (descriptorAt drive q b);
-          names-block = tells-names (getD (set t q (descriptorAt drive q b)) q 0) b .holds stored-named;
-          others-stand = λ p apart. getD-set-other t q p (descriptorAt drive q b) 0 apart;
-          obeys = stored-obeys;
-          lies = stored-lies;
-          others-lie = others-lie;
-        }
-
 -- a replacement for which there is a spare
 pub replacement-alters :
     {drive : Drive} {t : List ℕ} {b : ℕ} → Laid drive → Obeys drive t → b < drive .blocks → (Replaced t b → ⊥) → spareFor drive t b < length t →
     Altered drive t b (spareFor drive t b) (replacedIn drive t b)
-replacement-alters laid o below not-replaced found = stored-alters laid o below found (spare-free laid o below found) not-replaced
+replacement-alters {drive} {t} {b} laid o below not-replaced found =
+    record {
+      in-table = found;
+      was-free = was-free;
+      searched-first = spare-first laid o below found;
+      same-length = length-set t q _;
+      names-block = tells-names (getD (replacedIn drive t b) q 0) b .holds (stored-named laid o below found was-free);
+      others-stand = λ p apart. getD-set-other t q p _ 0 apart;
+      breaks-none = obeys-unbroken (stored-obeys laid o below found was-free not-replaced);
+      lies = stored-lies laid o below found was-free not-replaced;
+      others-lie = others-lie laid o below found was-free;
+    }
+  where
+    q : ℕ
+    q = spareFor drive t b
+
+    was-free : codeOf (getD t (spareFor drive t b) 0) ≡ free
+    was-free = spare-free laid o below found

@@ -1,14 +1,15 @@
 -- Document 01, "Descriptors and spares": the spare that a replacement takes, the descriptor that it writes, and the table after it.
 use Prim.Native.Nat.{ℕ, _<_}
 use mathlib.Core.Path.{_≡_}
-use mathlib.Core.List.{List}
+use mathlib.Core.List.{List, _∷_, _++_}
 use lib.ListN.{length, getD, set}
 use Rattle.layout.specs.Layouts.{spareSector}
 use Rattle.layout.specs.Descriptors.{free, wordOf, codeOf, primary, Names}
 use Rattle.layout.specs.declared.Drive.{Drive}
-use Rattle.table.specs.Rules.{codeAt, Obeys}
+use Rattle.table.specs.Places.{codeAt}
+use Rattle.table.specs.Rules.{Breaks}
 use Rattle.table.specs.Lookup.{liesOn}
-use Rattle.order.specs.Order.{firstFree}
+use Rattle.order.specs.Order.{order, firstFree}
 
 -- the spare that a block is given: the first free place in its search order, or the table's length where none is free
 abbrev pub spareFor : Drive → List ℕ → ℕ → ℕ
@@ -18,21 +19,29 @@ spareFor drive t b = firstFree t (primary drive b)
 abbrev pub NoneFree : List ℕ → Type 0
 NoneFree t = (q : ℕ) → q < length t → codeOf (getD t q 0) ≡ free → ⊥
 
+-- no place that comes before q in the search order of block b is free
+pub record ComesFirst (drive : Drive) (t : List ℕ) (b q : ℕ) : Type 0 where
+  pub earlier : List ℕ
+  pub later : List ℕ
+  pub searched : order (length t) (primary drive b) ≡ earlier ++ (q ∷ later)
+  pub none-earlier : (k : ℕ) → k < length earlier → codeOf (getD t (getD earlier k 0) 0) ≡ free → ⊥
+
 -- the descriptor of a block at a place
 abbrev pub descriptorAt : Drive → ℕ → ℕ → ℕ
 descriptorAt drive q b = wordOf (codeAt drive q b) b
 
--- the table after a replacement: one descriptor altered
+-- the table after a replacement: the block's descriptor stands at its spare
 abbrev pub replacedIn : Drive → List ℕ → ℕ → List ℕ
 replacedIn drive t b = set t (spareFor drive t b) (descriptorAt drive (spareFor drive t b) b)
 
--- what a replacement does to a table that obeys its rules: one descriptor is altered, which was free, the block lies on its spare, and every other block lies where it lay
+-- what a replacement that gives block b the spare q does: q was the first free place in the search order, its descriptor alone is altered, the table breaks no rule, the block lies on its spare, and every other block lies where it lay
 pub record Altered (drive : Drive) (before : List ℕ) (b q : ℕ) (after : List ℕ) : Type 0 where
   pub in-table : q < length before
   pub was-free : codeOf (getD before q 0) ≡ free
+  pub searched-first : ComesFirst drive before b q
   pub same-length : length after ≡ length before
   pub names-block : Names (getD after q 0) b
   pub others-stand : (p : ℕ) → (p ≡ q → ⊥) → getD after p 0 ≡ getD before p 0
-  pub obeys : Obeys drive after
+  pub breaks-none : Breaks drive after → ⊥
   pub lies : liesOn drive after b ≡ spareSector drive q
   pub others-lie : (a : ℕ) → (a ≡ b → ⊥) → liesOn drive after a ≡ liesOn drive before a

@@ -2,8 +2,8 @@
 ghost use mathlib.Core.Path.{_≡_};
 ghost use Prim.Native.Nat.{_<_};
 ghost use lib.ListN.{length, set};
-ghost use Rattle.layout.specs.Layouts.{Laid};
-ghost use Rattle.table.specs.Rules.{Obeys};
+ghost use Rattle.layout.specs.Steps.{Laid};
+ghost use Rattle.table.specs.Steps.{Obeys};
 ghost use Rattle.replacing.specs.Replacing.{spareFor, descriptorAt, replacedIn};
 use layout::CODE_UNIT;
 use layout::Drive;

@@ -13,8 +13,8 @@ use Rattle.seek.specs.Count.{countBelow}
 use Rattle.seek.proofs.Counts.{count-le, count-but-one}
 use Rattle.layout.specs.declared.Drive.{Drive}
 use Rattle.layout.specs.Descriptors.{free, atPrimary, elsewhere, unusable, null, codeOf}
-use Rattle.table.specs.Rules.{Obeys}
-use Rattle.table.specs.Counting.{codedAt, codeCount, censusBelow, counted, Countable}
+use Rattle.table.specs.Steps.{Obeys, censusBelow, counted, Countable}
+use Rattle.table.specs.Counting.{codedAt, codeCount}
 use Rattle.table.proofs.Standings.{Standing, is-null, is-free, is-unusable, at-primary, at-other, tells-standing}
 
 module _ (t : List ℕ) (n : ℕ) where

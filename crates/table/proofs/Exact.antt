@@ -11,10 +11,12 @@ use Rattle.paper.proofs.Chain.{orElse-first, orElse-next}
 use Rattle.paper.proofs.Rows.{tells-le, passed-shows, passed-not, row, rows}
 use Rattle.shape.specs.declared.Shape.{Shape}
 use Rattle.shape.specs.Shapes.{Shaped}
-use Rattle.layout.specs.Layouts.{Spared, Laid, driveOf, driveFault, DriveJudged}
+use Rattle.layout.specs.Layouts.{Spared, driveOf, driveFault, DriveJudged}
+use Rattle.layout.specs.Steps.{Laid}
 use Rattle.layout.proofs.Layings.{laid}
 use Rattle.layout.proofs.Exact.{drive-shows, drive-exactly}
-use Rattle.table.specs.Rules.{Obeys, Breaks, tableFault, blockFault, TableJudged, BlockJudged}
+use Rattle.table.specs.Rules.{Breaks, tableFault, blockFault, TableJudged, BlockJudged}
+use Rattle.table.specs.Steps.{Obeys}
 use Rattle.table.proofs.Obeying.{obeys-told, tells-obeys, tells-breaks}
 
 -- what checks 1 and 11 show

@@ -13,13 +13,14 @@ use borrow.Author.Tests.{lt-ltb, le-ltb}
 use Rattle.paper.specs.declared.Named.the-variants.{Block, NoBlock}
 use Rattle.paper.proofs.Cases.{byBool, byLt, byEq}
 use Rattle.paper.proofs.Rows.{Tells, tells-lt, tells-false}
-use Rattle.seek.proofs.Firsts.{first-is, first-none, first-le, first-passes, first-before, first-alike}
+use Rattle.seek.proofs.Firsts.{first-is, first-none, first-passes, first-before, first-alike}
 use Rattle.layout.specs.declared.Drive.{Drive}
-use Rattle.layout.specs.Layouts.{Laid, sectorsPerTrack, homeSector, spareSector}
+use Rattle.layout.specs.Layouts.{sectorsPerTrack, homeSector, spareSector}
+use Rattle.layout.specs.Steps.{Laid}
 use Rattle.layout.specs.Descriptors.{unusable, codeOf, numberOf, Allocated, isAllocated, names}
 use Rattle.layout.proofs.Words.{tells-allocated, tells-names}
 use Rattle.layout.proofs.Sectors.{HomeOrSpare, is-home, is-spare, home-or-spare, home-offset, home-block, home-once, home-below, spare-offset, spare-place, spare-once, spare-below, home-no-spare}
-use Rattle.table.specs.Rules.{Obeys}
+use Rattle.table.specs.Steps.{Obeys}
 use Rattle.table.specs.Lookup.{placeOf, Replaced, isReplaced, Resides, at-home, on-spare, liesOn, Vacant, home-left, spare-unused, blockAtHome, blockOnSpare, lyingOn}
 use Rattle.table.proofs.Obeying.{spare-in, named-stands}
 
@@ -32,10 +33,6 @@ module _ (t : List ℕ) (b : ℕ) where
   pub place-none : ((k : ℕ) → k < length t → names (getD t k 0) b ≡ false) → placeOf t b ≡ length t
   unfolding placeOf
   place-none none = first-none (λ k. names (getD t k 0) b) (length t) none
-
-  pub place-le : placeOf t b ≤ length t
-  unfolding placeOf
-  place-le = first-le (λ k. names (getD t k 0) b) (length t)
 
   -- the place of a replaced block names it
   pub place-names : placeOf t b < length t → names (getD t (placeOf t b) 0) b ≡ true

@@ -1,4 +1,4 @@
--- The check of a table tells whether it obeys its rules, refuses exactly the tables that break one, and what may be stored in a table that obeys them.
+-- The test of a table passes exactly the tables that break no rule, which are those that obey them all; and what may be stored in such a table.
 -- Assumes nothing.
 use Prim.Native.Nat.{ℕ, _<_, _≤_}
 use mathlib.Core.Path.{_≡_, refl, sym, _∙_}
@@ -15,12 +15,28 @@ use Rattle.paper.proofs.Rows.{Tells, tells-eq, and-left, and-right}
 use Rattle.seek.specs.Every.{allBelow}
 use Rattle.seek.proofs.Everys.{every-here, here-every, Fails, one-fails}
 use Rattle.layout.specs.declared.Drive.{Drive}
-use Rattle.layout.specs.Layouts.{Laid}
+use Rattle.layout.specs.Steps.{Laid}
 use Rattle.layout.specs.Descriptors.{numberOf, names}
 use Rattle.layout.proofs.Words.{tells-names}
-use Rattle.table.specs.Rules.{tableLength, mayStand, namedFirst, obeys, Obeys, Breaks, other-length, misplaced, named-twice}
+use Rattle.table.specs.Rules.{Breaks, other-length, misplaced, named-twice}
+use Rattle.table.specs.Places.{tableLength}
+use Rattle.table.specs.Steps.{mayStand, namedFirst, obeys, Obeys}
 use Rattle.table.proofs.Standings.{tells-misplaced, allocated-stands}
 use Rattle.table.proofs.Once.{once-shows, once-told, Earlier, named-earlier}
+
+-- a table that obeys the rules breaks none
+pub obeys-unbroken : {drive : Drive} {t : List ℕ} → Obeys drive t → Breaks drive t → ⊥
+obeys-unbroken o (other-length other) = other (o .long)
+obeys-unbroken {drive} {t} o (misplaced q h m) =
+    let stands : true ≡ false = sym (o .stands q h) ∙ not-true (mayStand drive q (getD t q 0)) (tells-misplaced drive q (getD t q 0) .told m) in
+    absurd (true≢false stands)
+obeys-unbroken {drive} {t} o (named-twice p q early h there here same) =
+    let one : p ≡ q =
+    o .once p q (numberOf (getD t q 0)) (omega arith) h
+    (tells-names (getD t p 0) (numberOf (getD t q 0)) .told (there, same))
+    (tells-names (getD t q 0) (numberOf (getD t q 0)) .told (here, refl))
+    in
+    omega arith
 
 module _ (drive : Drive) (t : List ℕ) where
   pub obeys-shows : obeys drive t ≡ true → Obeys drive t
@@ -39,21 +55,7 @@ module _ (drive : Drive) (t : List ℕ) where
   pub tells-obeys : Tells (obeys drive t) (Obeys drive t)
   tells-obeys = record { holds = obeys-shows; told = obeys-told }
 
-  -- a table that breaks a rule does not obey them all
-  breaks-wrong : Breaks drive t → Obeys drive t → ⊥
-  breaks-wrong (other-length other) o = other (o .long)
-  breaks-wrong (misplaced q h m) o =
-      let stands : true ≡ false = sym (o .stands q h) ∙ not-true (mayStand drive q (getD t q 0)) (tells-misplaced drive q (getD t q 0) .told m) in
-      absurd (true≢false stands)
-  breaks-wrong (named-twice p q early h there here same) o =
-      let one : p ≡ q =
-      o .once p q (numberOf (getD t q 0)) (omega arith) h
-      (tells-names (getD t p 0) (numberOf (getD t q 0)) .told (there, same))
-      (tells-names (getD t q 0) (numberOf (getD t q 0)) .told (here, refl))
-      in
-      omega arith
-
-  -- and a table that does not obey them all breaks one
+  -- a table that the test does not pass breaks a rule
   wrong-breaks : obeys drive t ≡ false → Breaks drive t
   wrong-breaks e =
       byEq (length t) (tableLength drive)
@@ -72,8 +74,12 @@ module _ (drive : Drive) (t : List ℕ) where
   tells-breaks =
       record {
         holds = λ e. wrong-breaks (not-true (obeys drive t) e);
-        told = λ b. byBool (obeys drive t) (λ e. absurd (breaks-wrong b (obeys-shows e))) (λ e. rw e);
+        told = λ b. byBool (obeys drive t) (λ e. absurd (obeys-unbroken (obeys-shows e) b)) (λ e. rw e);
       }
+
+-- a table that breaks no rule obeys them all
+pub unbroken-obeys : {drive : Drive} {t : List ℕ} → (Breaks drive t → ⊥) → Obeys drive t
+unbroken-obeys {drive} {t} unbroken = byBool (obeys drive t) (obeys-shows drive t) (λ e. absurd (unbroken (wrong-breaks drive t e)))
 
 -- the table has a place for each spare
 pub spares-in-table : (drive : Drive) → drive .spares ≤ tableLength drive

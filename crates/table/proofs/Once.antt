@@ -12,7 +12,7 @@ use Rattle.seek.specs.Every.{allBelow}
 use Rattle.seek.proofs.Everys.{every-here, here-every, every-fails, Fails, one-fails}
 use Rattle.layout.specs.Descriptors.{numberOf, Allocated, isAllocated, names}
 use Rattle.layout.proofs.Words.{tells-allocated, tells-names}
-use Rattle.table.specs.Rules.{namedFirst}
+use Rattle.table.specs.Steps.{namedFirst}
 
 module _ (t : List ℕ) where
   -- a place names its block first where it names none, or no place before it names the same

@@ -10,11 +10,13 @@ use borrow.Author.Tests.{le-leb, lt-leb, eq-eqb, ne-eqb, not-true}
 use Rattle.paper.proofs.Cases.{byBool, byLt, byEq}
 use Rattle.paper.proofs.Rows.{Tells, tells-eq, tells-lt, tells-both, tells-false, tells-either}
 use Rattle.layout.specs.declared.Drive.{Drive}
-use Rattle.layout.specs.Layouts.{Laid}
+use Rattle.layout.specs.Steps.{Laid}
 use Rattle.layout.specs.Descriptors.{free, atPrimary, elsewhere, unusable, null, codeUnit, wordOf, codeOf, numberOf, primary, Allocated, names}
 use Rattle.layout.proofs.Sectors.{blocks-few}
 use Rattle.layout.proofs.Words.{code-of-word, number-of-word, tells-bare, tells-names}
-use Rattle.table.specs.Rules.{codeAt, mayStand, Misplaced, null-missing, null-early, unknown-code, number-carried, no-home, not-primary, is-primary}
+use Rattle.table.specs.Rules.{Misplaced, null-missing, null-early, unknown-code, number-carried, no-home, not-primary, is-primary}
+use Rattle.table.specs.Places.{codeAt}
+use Rattle.table.specs.Steps.{mayStand}
 
 -- what the word w is where it may stand at place q
 pub data Standing (drive : Drive) (q w : ℕ) : Type 0 where

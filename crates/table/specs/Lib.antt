@@ -1,3 +1,5 @@
+pub mod Places
 pub mod Rules
 pub mod Lookup
 pub mod Counting
+pub mod Steps

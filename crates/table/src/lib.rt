@@ -1,10 +1,13 @@
-// The descriptor table of a revectored drive: the table's rules and their check, the place that names a block, where a block lies and what lies on a sector.
+// The descriptor table of a revectored drive: the check of its rules, the place that names a block, where a block lies, what lies on a sector, and the census.
 ghost use mathlib.Core.Path.{_≡_};
 ghost use Prim.Native.Nat.{_<_, _*_, _^_};
 ghost use lib.ListN.{length};
-ghost use Rattle.layout.specs.Layouts.{Laid, sectorsPerTrack};
-ghost use Rattle.table.specs.Rules.{tableLength, codeAt, mayStand, namedFirst, obeys, Obeys, tableFault, blockFault};
-ghost use Rattle.table.specs.Counting.{Countable, counted, censusOf};
+ghost use Rattle.layout.specs.Layouts.{sectorsPerTrack};
+ghost use Rattle.layout.specs.Steps.{Laid};
+ghost use Rattle.table.specs.Rules.{tableFault, blockFault};
+ghost use Rattle.table.specs.Places.{tableLength, codeAt};
+ghost use Rattle.table.specs.Steps.{mayStand, namedFirst, obeys, Obeys, Countable, counted};
+ghost use Rattle.table.specs.Counting.{censusOf};
 ghost use Rattle.table.specs.Lookup.{placeOf, liesOn, lyingOn};
 use layout::AT_PRIMARY;
 use layout::CODE_UNIT;
@@ -28,7 +31,7 @@ pub struct Census {
     pub null: u32,
 }
 
-// How many descriptors the table has. Only other crates call this.
+// How many places the table has. Only other crates call this.
 pub fn table_length(drive: Drive) -> usize
     requires { ⌜ Laid drive ⌝ }
     ensures { λ result. ⌜ result ≡ tableLength drive ⌝ }
@@ -48,8 +51,8 @@ pub fn code_at(drive: Drive, place: usize, block: u32) -> u32
     ELSEWHERE
 }
 
-// Whether a word may stand at a place of the table. Only other crates call this.
-pub fn may_stand(drive: Drive, place: usize, word: u32) -> bool
+// Whether a word may stand at a place of the table.
+fn may_stand(drive: Drive, place: usize, word: u32) -> bool
     requires { ⌜ Laid drive ⌝ }
     ensures { λ result. ⌜ result ≡ mayStand drive place word ⌝ }
 {
@@ -69,8 +72,8 @@ pub fn may_stand(drive: Drive, place: usize, word: u32) -> bool
     layout::code_of(word) == code_at(drive, place, number)
 }
 
-// Whether no place before this one names its block too. Only other crates call this.
-pub fn named_first(table: &[u32], place: usize) -> bool
+// Whether no place before this one names the block that it names.
+fn named_first(table: &[u32], place: usize) -> bool
     requires { ⌜ place < length (now table) ⌝ }
     ensures { λ result. ⌜ result ≡ namedFirst (now (table .entry)) place ⌝ }
 {
@@ -89,8 +92,8 @@ pub fn named_first(table: &[u32], place: usize) -> bool
     true
 }
 
-// Whether a table obeys its rules. Only other crates call this.
-pub fn obeys_rules(drive: Drive, table: &[u32]) -> bool
+// Whether a table breaks no rule.
+fn obeys_rules(drive: Drive, table: &[u32]) -> bool
     requires { ⌜ Laid drive ⌝ }
     ensures { λ result. ⌜ result ≡ obeys drive (now (table .entry)) ⌝ }
 {
@@ -124,7 +127,7 @@ pub fn table_fault(shape: Shape, r: u32, table: &[u32]) -> u32
     0
 }
 
-// Refusal 1 for the drive's numbers, 11 for its table, 5 for a block number that is too high, else 0. Only other crates call this.
+// Refusal 1 for the drive's numbers, 11 for its table, 5 for a block number that is not below the number of blocks, else 0. Only other crates call this.
 pub fn block_fault(shape: Shape, r: u32, table: &[u32], block: u32) -> u32
     ensures { λ result. ⌜ result ≡ blockFault shape r (now (table .entry)) block ⌝ }
 {
@@ -213,10 +216,10 @@ pub fn census_of(table: &[u32]) -> Census
         unusable: 0,
         null: 0,
     };
-    let mut place = 0;
-    while place < table.len() {
-        census = count_code(census, layout::code_of(table[place]));
-        place += 1;
+    let mut passed = 0;
+    while passed < table.len() {
+        census = count_code(census, layout::code_of(table[passed]));
+        passed += 1;
     }
     census
 }

@@ -1,4 +1,4 @@
--- `layout::drive_of` meets its contract: its fields are the definition's, and no product wraps, since the layout of such a drive is laid.
+-- `layout::drive_of` meets its contract: its fields are the definition's, and no product wraps, since such a drive is laid.
 -- Assumes nothing.
 use borrow.Author.Needs.{needs}
 use native.Mathlib.Omega.{arith}

@@ -9,7 +9,8 @@ use denote.Ref.{now}
 use borrow.Author.Count.{below-more}
 use borrow.Author.Tests.{eq-eqb, ne-eqb, not-true, not-false}
 use Rattle.seek.proofs.Everys.{here-every, every-fails}
-use Rattle.table.specs.Rules.{tableLength, mayStand, namedFirst}
+use Rattle.table.specs.Places.{tableLength}
+use Rattle.table.specs.Steps.{mayStand, namedFirst}
 use Rattle.table.proofs.obeys_rules.Statement.{statement}
 use Rattle.table.proofs.obeys_rules.Tie as tie
 

@@ -1,0 +1,72 @@
+-- For the code alone: no sentence of the paper needs it.
+-- The test that a table breaks no rule, what is known of a table that passes it, and a census as it is counted.
+use Prim.Native.Nat.{ℕ, _+_, _<_, _^_}
+use mathlib.Core.Path.{_≡_}
+use mathlib.Core.Bool.{Bool, true, not, _&&_, _||_}
+use mathlib.Core.List.{List}
+use lib.Dec.{eqb, ltb, leb}
+use lib.ListN.{length, getD}
+use Rattle.paper.specs.Checks.{pick, oneIf}
+use Rattle.seek.specs.Count.{countBelow}
+use Rattle.seek.specs.Every.{allBelow}
+use Rattle.layout.specs.declared.Drive.{Drive}
+use Rattle.layout.specs.Descriptors.{free, atPrimary, elsewhere, unusable, null, wordOf, codeOf, numberOf, isAllocated, names}
+use Rattle.table.specs.declared.Census.{Census}
+use Rattle.table.specs.Places.{tableLength, codeAt}
+use Rattle.table.specs.Counting.{codedAt}
+
+-- the word w may stand at place q: null beyond the spares, and before them free, unusable, or a home block under the code of its place
+abbrev pub mayStand : Drive → ℕ → ℕ → Bool
+mayStand drive q w =
+    pick (leb (drive .spares) q)
+    (eqb w (wordOf null 0))
+    (eqb w (wordOf free 0)
+    || (eqb w (wordOf unusable 0)
+    || (ltb (numberOf w) (drive .blocks) && eqb (codeOf w) (codeAt drive q (numberOf w)))))
+
+-- the block that a place names is named by no place before it
+abbrev pub namedFirst : List ℕ → ℕ → Bool
+namedFirst t q = not (isAllocated (getD t q 0)) || allBelow (λ p. not (names (getD t p 0) (numberOf (getD t q 0)))) q
+
+-- a table breaks no rule
+abbrev pub obeys : Drive → List ℕ → Bool
+obeys drive t =
+    eqb (length t) (tableLength drive)
+    && (allBelow (λ q. mayStand drive q (getD t q 0)) (length t) && allBelow (namedFirst t) (length t))
+
+-- what the test shows of a table
+pub record Obeys (drive : Drive) (t : List ℕ) : Type 0 where
+  pub long : length t ≡ tableLength drive
+  pub stands : (q : ℕ) → q < length t → mayStand drive q (getD t q 0) ≡ true
+  pub once :
+      (p q b : ℕ) → p < length t → q < length t → names (getD t p 0) b ≡ true → names (getD t q 0) b ≡ true → p ≡ q
+
+-- the census of the places below a bound
+abbrev pub censusBelow : List ℕ → ℕ → Census
+censusBelow t n =
+    record {
+      free = countBelow (codedAt t free) n;
+      primary = countBelow (codedAt t atPrimary) n;
+      elsewhere = countBelow (codedAt t elsewhere) n;
+      unusable = countBelow (codedAt t unusable) n;
+      null = countBelow (codedAt t null) n;
+    }
+
+-- one more descriptor with a code
+abbrev pub counted : Census → ℕ → Census
+counted census code =
+    record {
+      free = census .free + oneIf (eqb code free);
+      primary = census .primary + oneIf (eqb code atPrimary);
+      elsewhere = census .elsewhere + oneIf (eqb code elsewhere);
+      unusable = census .unusable + oneIf (eqb code unusable);
+      null = census .null + oneIf (eqb code null);
+    }
+
+-- each count has room for one more
+pub record Countable (census : Census) : Type 0 where
+  pub free : census .free + 1 < 2 ^ 32
+  pub primary : census .primary + 1 < 2 ^ 32
+  pub elsewhere : census .elsewhere + 1 < 2 ^ 32
+  pub unusable : census .unusable + 1 < 2 ^ 32
+  pub null : census .null + 1 < 2 ^ 32
