@@ -46,7 +46,8 @@ use Rattle.format.proofs.Exact.{format-exactly}
 use Rattle.layout.specs.Layouts.{driveOf, sectorsPerTrack}
 use Rattle.layout.specs.Descriptors.{numberOf, isAllocated}
 use Rattle.layout.specs.declared.Drive.{Drive}
-use Rattle.table.specs.Rules.{tableFault, tableLength, TableJudged}
+use Rattle.table.specs.Rules.{tableFault, TableJudged, blockFault as spareBlockFault, BlockJudged}
+use Rattle.table.specs.Places.{tableLength}
 use Rattle.table.specs.Lookup.{isReplaced, liesOn, blockAtHome, blockOnSpare, lyingOn}
 use Rattle.table.proofs.Exact.{table-exactly}
 use Rattle.replacing.specs.Replacing.{spareFor}
@@ -55,7 +56,6 @@ use Rattle.first_table.specs.First.{firstTableFault, FirstTableJudged}
 use Rattle.first_table.specs.Promises.{FirstTable}
 use Rattle.first_table.proofs.Exact.{first-exactly}
 use Rattle.spares.specs.Spares.{shiftOf, blockOnFault, blockAtFault, replaceFault, BlockOnJudged as SpareBlockOnJudged, BlockAtJudged as SpareBlockAtJudged, ReplaceJudged}
-use Rattle.table.specs.Rules.{blockFault as spareBlockFault, BlockJudged}
 use Rattle.spares.specs.Promises.{saidReplaced, SectorOf as SpareSectorOf, AddressOf as SpareAddressOf, ShiftOf, BlockOn as SpareBlockOn, BlockAt as SpareBlockAt, Replacement, CensusOf}
 use Rattle.spares.specs.declared.Shifted.{Shifted}
 use Rattle.spares.specs.declared.Replaced.{Replaced}

@@ -12,7 +12,8 @@ use Rattle.shape.specs.declared.Shape.{Shape}
 use Rattle.layout.specs.Layouts.{driveOf}
 use Rattle.layout.specs.Descriptors.{free}
 use Rattle.layout.specs.declared.Drive.{Drive}
-use Rattle.table.specs.Rules.{tableFault, tableLength}
+use Rattle.table.specs.Rules.{tableFault}
+use Rattle.table.specs.Places.{tableLength}
 use Rattle.table.specs.Counting.{codeCount}
 use Rattle.table.specs.declared.Census.{Census}
 use Rattle.first_table.specs.Marks.{isBadSpare, badSpares, badHomes, goodSpares}

@@ -25,17 +25,17 @@ use Rattle.shape.specs.Shapes.{sizeOf}
 use Rattle.shape.specs.Addresses.{OnDrive, sectorAt, addressAt}
 use Rattle.shape.proofs.Inverse.{there-and-back, address-on-drive}
 use Rattle.shape.proofs.Exact.{tells-on-drive}
-use Rattle.layout.specs.Layouts.{Laid, driveOf, sectorsPerTrack, spareSector, homeCylinder}
+use Rattle.layout.specs.Layouts.{driveOf, sectorsPerTrack, spareSector, homeCylinder}
+use Rattle.layout.specs.Steps.{Laid}
 use Rattle.layout.specs.Descriptors.{unusable, codeOf, Names}
 use Rattle.layout.proofs.Layings.{drive-whole}
 use Rattle.layout.proofs.Sectors.{home-track, spare-track}
 use Rattle.layout.proofs.Words.{tells-names}
-use Rattle.table.specs.Rules.{tableFault}
+use Rattle.table.specs.Rules.{tableFault, blockFault}
 use Rattle.table.specs.Lookup.{Replaced, isReplaced, placeOf, liesOn, lyingOn, Resides, Vacant}
 use Rattle.table.proofs.Lookups.{place-once, lies-shows, lies-only, lies-apart, none-on-unusable, lying-of-lies, vacant-told, lies-below, lies-of-lying, vacant-shows}
 use Rattle.replacing.specs.Replacing.{NoneFree, Altered, spareFor}
 use Rattle.spares.specs.Spares.{shiftOf, blockOnFault, blockAtFault, replaceFault}
-use Rattle.table.specs.Rules.{blockFault}
 use Rattle.spares.specs.Promises.{saidReplaced, SectorOf, AddressOf, ShiftOf, BlockOn, BlockAt, Replacement}
 use Rattle.spares.specs.declared.Shifted.the-variants.{By}
 use Rattle.spares.specs.declared.Replaced.{Replaced as ReplaceAnswer}

@@ -157,7 +157,7 @@ module _ (n : ℕ) (a : List ℕ) where
         (c : Cursor) → Belongs n a c → c .block ≡ n - length a → (result : Job) → Steps n a c result → result ≡ NotReady noSuchBlock c
     step-at-end c belongs end result promise =
         let fault : stepFault n a c ≡ noSuchBlock = rw (cursor-passes c belongs, le-leb (blocks n a) (c .block) (omega (arith, end))) in
-        promise .answers ∙ (answer-refused _ _ _ (λ none. absurd (omega (arith, fault, none))) ∙ ap (λ (k : ℕ). NotReady k c) fault)
+        promise .answers ∙ (answer-refused (stepFault n a c) _ _ (λ none. absurd (omega (arith, fault, none))) ∙ ap (λ (k : ℕ). NotReady k c) fault)
 
 -- by cylinder, head and sector
 module _ (shape : Shape) (a : List ℕ) where

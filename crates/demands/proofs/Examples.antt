@@ -30,7 +30,8 @@ use Rattle.format.proofs.Answering.{format-done}
 use Rattle.format.proofs.Held.{grown-holds, list-holds}
 use Rattle.format.proofs.Named.{scan-grown, scan-list, scan-accepted}
 use Rattle.layout.specs.Layouts.{driveOf, driveFault}
-use Rattle.table.specs.Rules.{tableFault, tableLength}
+use Rattle.table.specs.Rules.{tableFault}
+use Rattle.table.specs.Places.{tableLength}
 use Rattle.table.specs.Lookup.{placeOf, liesOn}
 use Rattle.order.specs.Order.{outward}
 use Rattle.replacing.specs.Replacing.{spareFor}

@@ -23,7 +23,7 @@ use Rattle.seek.specs.Search.{firstOr, rising}
 use Rattle.shape.specs.declared.Shape.{Shape}
 use Rattle.layout.specs.Layouts.{driveOf, homeCylinder, spareCylinder}
 use Rattle.layout.specs.Descriptors.{Names}
-use Rattle.table.specs.Rules.{tableFault}
+use Rattle.table.specs.Rules.{tableFault, blockFault}
 use Rattle.table.specs.Lookup.{placeOf, Replaced, isReplaced}
 use Rattle.table.proofs.Lookups.{tells-replaced, replaced-place}
 use Rattle.order.specs.Order.{outward}
@@ -32,7 +32,6 @@ use Rattle.replacing.specs.Replacing.{spareFor, Altered}
 use Rattle.spares.specs.declared.Replaced as Answers
 use Rattle.spares.specs.declared.Replaced.the-variants.{Place, Refused as NotReplaced}
 use Rattle.spares.specs.Spares.{shiftOf, replaceFault}
-use Rattle.table.specs.Rules.{blockFault}
 use Rattle.spares.specs.Promises.{Replacement}
 use Rattle.spares.proofs.Accepted.{replace-block, after-passes}
 use Rattle.table.proofs.Exact.{block-ready}

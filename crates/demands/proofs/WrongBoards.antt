@@ -10,6 +10,7 @@ use lib.IntN.{pos}
 use lib.ListN.{length, take, drop, getD, replicate, length-replicate}
 use lib.Seq.{length-sets}
 use denote.Ref.{RefT}
+use Rattle.paper.specs.Checks.{answer}
 use Rattle.paper.specs.Limits.{dataSize, headerSize, imageExtra}
 use Rattle.paper.specs.Exactly.{Exactly}
 use Rattle.paper.specs.Answers.{saidPlaced}
@@ -25,8 +26,10 @@ use Rattle.lists.specs.Union.{isIn, into, union}
 use Rattle.skip.specs.Skipping.{Lies, goodsBefore, place}
 use Rattle.skip.specs.Walk.{entriesBelow}
 use Rattle.skip.specs.Translation.{sectorOfFault, SectorOfJudged}
-use Rattle.skip.specs.Cursors.{cursorAt}
-use Rattle.skip.proofs.Cursoring.{stepped}
+use Rattle.skip.specs.Cursors.{cursorAt, stepFault}
+use Rattle.skip.specs.declared.Cursor.{Cursor}
+use Rattle.skip.specs.declared.Job.{Job}
+use Rattle.skip.specs.declared.Job.the-variants.{At as SteppedTo, Refused as NotStepped}
 use Rattle.skip.proofs.Lying.{lies-one-block}
 use Rattle.skip.proofs.Composition.{place-after}
 use Rattle.skip.proofs.Exact.{sector-of-exactly}
@@ -157,6 +160,9 @@ runs-ahead-sectors steps = ap (λ (l : List ℕ). 3 ∷ l) (repeats steps)
     repeats (suc steps) = ap (λ (l : List ℕ). 5 ∷ l) (repeats steps)
 
 -- the steps that are promised answer the blocks one after another
+abbrev stepped : ℕ → List ℕ → Cursor → Job
+stepped n a c = answer (stepFault n a c) (λ fault. NotStepped fault c) (SteppedTo (place (isIn a) n (c .block)) (cursorAt n a (suc (c .block))))
+
 pub promised-sectors : sectorsAfter (stepped 6 few) 3 opened ≡ 3 ∷ 4 ∷ 5 ∷ []
 unfolding sectorsAfter faultBelow place firstBelow goodsBefore countBelow isIn entriesBelow
 promised-sectors = refl

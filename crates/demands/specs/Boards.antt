@@ -37,13 +37,12 @@ use Rattle.format.specs.declared.Formatted.the-variants.{Done, Refused as NotFo
 use Rattle.layout.specs.declared.Drive.{Drive}
 use Rattle.layout.specs.Layouts.{driveOf, homeCylinder, spareCylinder}
 use Rattle.layout.specs.Descriptors.{primary}
-use Rattle.table.specs.Rules.{tableFault}
+use Rattle.table.specs.Rules.{tableFault, blockFault as spareBlockFault}
 use Rattle.table.specs.Lookup.{placeOf, isReplaced}
 use Rattle.order.specs.Order.{placeIn, kept, outward, blockStart, freeAt}
 use Rattle.table.specs.declared.Census.{Census}
 use Rattle.replacing.specs.Replacing.{spareFor, descriptorAt}
 use Rattle.spares.specs.Spares.{replaceFault}
-use Rattle.table.specs.Rules.{blockFault as spareBlockFault}
 use Rattle.spares.specs.declared.Replaced.{Replaced}
 use Rattle.spares.specs.declared.Replaced.the-variants.{Place, Refused as NotReplaced}
 use Rattle.spares.specs.declared.Shifted.{Shifted}

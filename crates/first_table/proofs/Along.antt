@@ -9,7 +9,8 @@ use lib.ListN.{length, getD, drop}
 use Rattle.paper.proofs.Cases.{byBool}
 use Rattle.lists.specs.Proper.{Proper}
 use Rattle.layout.specs.declared.Drive.{Drive}
-use Rattle.layout.specs.Layouts.{Laid, sectorsPerTrack}
+use Rattle.layout.specs.Layouts.{sectorsPerTrack}
+use Rattle.layout.specs.Steps.{Laid}
 use Rattle.layout.specs.Descriptors.{free}
 use Rattle.replacing.specs.Replacing.{replacedIn}
 use Rattle.table.specs.Counting.{codeCount}

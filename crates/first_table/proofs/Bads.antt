@@ -13,7 +13,8 @@ use Rattle.seek.proofs.Counts.{count-le}
 use Rattle.lists.specs.Proper.{Rising, Proper}
 use Rattle.lists.specs.Union.{isIn}
 use Rattle.layout.specs.declared.Drive.{Drive}
-use Rattle.layout.specs.Layouts.{Laid, sectorsPerTrack, homeSector}
+use Rattle.layout.specs.Layouts.{sectorsPerTrack, homeSector}
+use Rattle.layout.specs.Steps.{Laid}
 use Rattle.first_table.specs.declared.marks.Bad.{Bad}
 use Rattle.layout.specs.Sides.{isHome, blockOfHome, placeOfSpare}
 use Rattle.first_table.specs.Marks.{isBadHome, isBadSpare, badHomes, badSpares, countedAlso, CountsBad}

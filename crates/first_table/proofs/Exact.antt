@@ -18,7 +18,7 @@ use Rattle.shape.specs.Shapes.{Shaped, sizeOf}
 use Rattle.layout.specs.Layouts.{Spared, driveOf, driveFault, DriveJudged, sectorsPerTrack}
 use Rattle.layout.proofs.Layings.{laid, drive-whole}
 use Rattle.layout.proofs.Exact.{drive-shows, drive-exactly}
-use Rattle.table.specs.Rules.{tableLength}
+use Rattle.table.specs.Places.{tableLength}
 use Rattle.first_table.specs.Marks.{badHomes, goodSpares}
 use Rattle.first_table.specs.First.{firstTable, firstTableFault, FirstTableJudged, IsFirstTable}
 use Rattle.first_table.proofs.Tables.{first-starts}

@@ -21,10 +21,12 @@ use Rattle.lists.specs.Proper.{Proper}
 use Rattle.lists.specs.Union.{isIn}
 use Rattle.paper.specs.Promise.{written}
 use Rattle.layout.specs.declared.Drive.{Drive}
-use Rattle.layout.specs.Layouts.{Laid, sectorsPerTrack, spareSector}
+use Rattle.layout.specs.Layouts.{sectorsPerTrack, spareSector}
+use Rattle.layout.specs.Steps.{Laid}
 use Rattle.layout.specs.Descriptors.{free, unusable, null, wordOf, codeOf, names}
 use Rattle.layout.proofs.Sectors.{spare-once}
-use Rattle.table.specs.Rules.{tableLength, Obeys}
+use Rattle.table.specs.Places.{tableLength}
+use Rattle.table.specs.Steps.{Obeys}
 use Rattle.table.specs.Lookup.{placeOf, isReplaced}
 use Rattle.table.proofs.Standings.{Standing, is-null, is-free, is-unusable, tells-standing}
 use Rattle.table.proofs.Obeying.{spares-in-table}

@@ -14,9 +14,10 @@ use Rattle.lists.specs.Union.{isIn}
 use Rattle.lists.proofs.Risings.{rising-tail, rising-above, inside-tail}
 use Rattle.lists.proofs.Members.{not-in-nil, in-here, in-there, not-in-above, above-member}
 use Rattle.layout.specs.declared.Drive.{Drive}
-use Rattle.layout.specs.Layouts.{Laid, spareSector}
+use Rattle.layout.specs.Layouts.{spareSector}
+use Rattle.layout.specs.Steps.{Laid}
 use Rattle.layout.specs.Descriptors.{free, unusable, codeOf, numberOf}
-use Rattle.table.specs.Rules.{Obeys}
+use Rattle.table.specs.Steps.{Obeys}
 use Rattle.table.specs.Lookup.{Replaced, liesOn}
 use Rattle.replacing.specs.Replacing.{spareFor, replacedIn, Altered}
 use Rattle.table.specs.Counting.{codedAt, codeCount}

@@ -14,7 +14,7 @@ use Rattle.paper.specs.Promise.{written}
 use Rattle.shape.specs.declared.Shape.{Shape}
 use Rattle.shape.specs.Shapes.{sizeOf}
 use Rattle.layout.specs.Layouts.{driveOf, driveFault}
-use Rattle.table.specs.Rules.{tableLength}
+use Rattle.table.specs.Places.{tableLength}
 use Rattle.first_table.specs.First.{firstTable, spareFault, firstTableFault}
 use Rattle.first_table.specs.Promises.{FirstTable}
 

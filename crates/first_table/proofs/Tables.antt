@@ -14,9 +14,9 @@ use Rattle.lists.specs.Union.{isIn}
 use Rattle.paper.specs.Promise.{written}
 use Rattle.lists.proofs.Members.{members-inside}
 use Rattle.layout.specs.declared.Drive.{Drive}
-use Rattle.layout.specs.Layouts.{Laid}
+use Rattle.layout.specs.Steps.{Laid}
 use Rattle.layout.specs.Descriptors.{unusable, codeOf}
-use Rattle.table.specs.Rules.{tableLength}
+use Rattle.table.specs.Places.{tableLength}
 use Rattle.table.proofs.Lookups.{tells-replaced}
 use Rattle.first_table.specs.Marks.{isBadSpare, isBadHome, badHomes, goodSpares, marked}
 use Rattle.first_table.proofs.Bads.{tells-bad-home, bad-homes-rise}

@@ -16,7 +16,8 @@ use Rattle.shape.specs.Shapes.{sizeOf}
 use Rattle.layout.specs.declared.Drive.{Drive}
 use Rattle.layout.specs.Layouts.{driveOf, driveFault, DriveJudged, homeSector, spareSector}
 use Rattle.layout.specs.Descriptors.{free, unusable, codeOf}
-use Rattle.table.specs.Rules.{tableLength, Obeys}
+use Rattle.table.specs.Places.{tableLength}
+use Rattle.table.specs.Steps.{Obeys}
 use Rattle.table.specs.Lookup.{Replaced, liesOn}
 use Rattle.replacing.specs.Replacing.{replacedIn}
 use Rattle.table.specs.Counting.{codeCount}

@@ -12,7 +12,7 @@ use Rattle.lists.specs.Union.{isIn}
 use Rattle.layout.specs.declared.Drive.{Drive}
 use Rattle.layout.specs.Layouts.{homeSector, spareSector}
 use Rattle.layout.specs.Descriptors.{free, unusable, null, wordOf}
-use Rattle.table.specs.Rules.{tableLength}
+use Rattle.table.specs.Places.{tableLength}
 use Rattle.first_table.specs.declared.marks.Bad.{Bad}
 use Rattle.layout.specs.Sides.{isHome, placeOfSpare}
 

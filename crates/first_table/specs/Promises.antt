@@ -7,7 +7,7 @@ use Rattle.paper.specs.declared.Written.{Written}
 use Rattle.paper.specs.declared.Written.the-variants.{Length}
 use Rattle.shape.specs.declared.Shape.{Shape}
 use Rattle.layout.specs.Layouts.{driveOf}
-use Rattle.table.specs.Rules.{tableLength}
+use Rattle.table.specs.Places.{tableLength}
 use Rattle.first_table.specs.First.{firstTable, firstTableFault}
 
 -- the table's length; the room then holds the table in its first places

@@ -16,7 +16,8 @@ use Rattle.paper.proofs.Rows.{Tells, tells-eq, tells-not, row, rows, rows-passe
 use Rattle.shape.specs.declared.Shape.{Shape}
 use Rattle.layout.specs.declared.Drive.{Drive}
 use Rattle.layout.specs.Layouts.{driveOf}
-use Rattle.table.specs.Rules.{Obeys, blockFault, BlockJudged}
+use Rattle.table.specs.Rules.{blockFault, BlockJudged}
+use Rattle.table.specs.Steps.{Obeys}
 use Rattle.table.proofs.Exact.{Ready, block-ready, block-below, block-exactly}
 use Rattle.image.specs.Image.{contentsFault}
 use Rattle.image.proofs.Exact.{sector-exactly}

@@ -14,10 +14,11 @@ use Rattle.paper.proofs.Cases.{byBool}
 use Rattle.paper.proofs.Rows.{tells-lt, tells-false}
 use Rattle.image.specs.Image.{dataOf}
 use Rattle.layout.specs.declared.Drive.{Drive}
-use Rattle.layout.specs.Layouts.{Laid, sectorsPerTrack}
+use Rattle.layout.specs.Layouts.{sectorsPerTrack}
+use Rattle.layout.specs.Steps.{Laid}
 use Rattle.layout.proofs.Words.{tells-names}
 use Rattle.layout.proofs.Sectors.{home-offset, spare-offset}
-use Rattle.table.specs.Rules.{Obeys}
+use Rattle.table.specs.Steps.{Obeys}
 use Rattle.table.specs.Lookup.{placeOf, isReplaced, liesOn}
 use Rattle.table.proofs.Lookups.{place-names, place-once, tells-replaced}
 use Rattle.reading.specs.Tracks.{Seated, at-home, on-spare, trackOf, sectorIn, bytesIn, imageAt}

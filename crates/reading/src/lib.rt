@@ -5,7 +5,7 @@ ghost use lib.ListN.{length};
 ghost use Rattle.paper.specs.Checks.{pick};
 ghost use Rattle.paper.specs.Limits.{sectorsMost, imageExtra};
 ghost use Rattle.image.specs.Image.{contentsFault};
-ghost use Rattle.layout.specs.Layouts.{Laid};
+ghost use Rattle.layout.specs.Steps.{Laid};
 ghost use Rattle.reading.specs.Tracks.{headerFor, imageAt};
 ghost use Rattle.reading.specs.Steps.{seatOf};
 ghost use Rattle.reading.specs.Faults.{lentFault};

@@ -17,7 +17,9 @@ use Rattle.shape.specs.declared.Shape.{Shape}
 use Rattle.shape.specs.Shapes.{shaped, shapeFault}
 use Rattle.layout.specs.Layouts.{spared, driveOf, driveFault}
 use Rattle.layout.specs.Descriptors.{free, atPrimary, elsewhere, unusable, null}
-use Rattle.table.specs.Rules.{codeAt, obeys, tableFault, tableLength}
+use Rattle.table.specs.Rules.{tableFault, blockFault, BlockJudged}
+use Rattle.table.specs.Places.{codeAt, tableLength}
+use Rattle.table.specs.Steps.{obeys}
 use Rattle.table.specs.Lookup.{Replaced, isReplaced}
 use Rattle.table.proofs.Lookups.{tells-replaced}
 use Rattle.replacing.specs.Replacing.{spareFor, NoneFree, replacedIn, Altered}
@@ -26,7 +28,6 @@ use Rattle.replacing.proofs.Replacements.{tells-none-free, replacement-alters}
 use Rattle.replacing.proofs.Censuses.{free-less, code-more, others-counted}
 use Rattle.table.proofs.Censuses.{five-counts}
 use Rattle.spares.specs.Spares.{replaceFault}
-use Rattle.table.specs.Rules.{blockFault, BlockJudged}
 use Rattle.spares.specs.History.{tableAfter}
 use Rattle.spares.proofs.Exact.{replace-exactly}
 use Rattle.table.proofs.Exact.{Ready, table-ready, table-passes, block-ready, block-below, block-exactly}

@@ -13,7 +13,8 @@ use Rattle.shape.specs.declared.Shape.{Shape}
 use Rattle.shape.specs.Shapes.{Shaped, sizeOf}
 use Rattle.shape.specs.Addresses.{OffDriveJudged}
 use Rattle.shape.proofs.Exact.{place-exactly}
-use Rattle.layout.specs.Layouts.{Spared, Laid, driveOf, sectorsPerTrack, driveFault}
+use Rattle.layout.specs.Layouts.{Spared, driveOf, sectorsPerTrack, driveFault}
+use Rattle.layout.specs.Steps.{Laid}
 use Rattle.layout.proofs.Layings.{drive-whole}
 use Rattle.layout.proofs.Exact.{drive-shows}
 use Rattle.table.specs.Rules.{TableJudged, BlockJudged}

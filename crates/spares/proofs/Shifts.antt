@@ -16,9 +16,10 @@ use Rattle.paper.proofs.Cases.{byBool, byLt}
 use Rattle.paper.proofs.Rows.{tells-lt}
 use Rattle.shape.specs.declared.Shape.{Shape}
 use Rattle.layout.specs.declared.Drive.{Drive}
-use Rattle.layout.specs.Layouts.{Laid, driveOf, homeCylinder, spareCylinder}
+use Rattle.layout.specs.Layouts.{driveOf, homeCylinder, spareCylinder}
+use Rattle.layout.specs.Steps.{Laid}
 use Rattle.layout.proofs.Sectors.{blocks-few, home-cylinder-below, spare-cylinder-below}
-use Rattle.table.specs.Rules.{Obeys}
+use Rattle.table.specs.Steps.{Obeys}
 use Rattle.table.specs.Lookup.{placeOf, Replaced, isReplaced}
 use Rattle.table.proofs.Lookups.{tells-replaced, place-spare}
 use Rattle.order.proofs.Signs.{minus-within, minus-below}

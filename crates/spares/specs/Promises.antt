@@ -13,7 +13,7 @@ use Rattle.shape.specs.declared.Located.the-variants.{At as LocatedAt}
 use Rattle.shape.specs.Addresses.{sectorAt, addressAt}
 use Rattle.shape.specs.Promises.{GivesLocated}
 use Rattle.layout.specs.Layouts.{driveOf}
-use Rattle.table.specs.Rules.{tableFault}
+use Rattle.table.specs.Rules.{tableFault, blockFault}
 use Rattle.table.specs.Lookup.{liesOn, lyingOn}
 use Rattle.replacing.specs.Replacing.{spareFor, replacedIn}
 use Rattle.table.specs.Counting.{censusOf}
@@ -24,7 +24,6 @@ use Rattle.spares.specs.declared.Replaced.the-variants.{Place, Refused a
 use Rattle.spares.specs.declared.Counted.{Counted}
 use Rattle.spares.specs.declared.Counted.the-variants.{Counts, Refused as NotCounted}
 use Rattle.spares.specs.Spares.{shiftOf, blockOnFault, blockAtFault, replaceFault}
-use Rattle.table.specs.Rules.{blockFault}
 
 -- refusal, shift
 abbrev pub saidShifted : Shifted → ℕ × ℤ

@@ -8,7 +8,7 @@ use Rattle.paper.specs.Promise.{written}
 use Rattle.layout.specs.declared.Drive.{Drive}
 use Rattle.layout.specs.Layouts.{driveOf}
 use Rattle.layout.proofs.Layings.{laid}
-use Rattle.table.specs.Rules.{tableLength}
+use Rattle.table.specs.Places.{tableLength}
 use Rattle.table.proofs.Obeying.{table-few}
 use Rattle.first_table.specs.First.{firstTable}
 use Rattle.first_table.proofs.Exact.{laid-proper, first-shows}

@@ -12,7 +12,7 @@ use Rattle.layout.specs.declared.Drive.{Drive}
 use Rattle.layout.specs.Layouts.{driveOf, driveFault}
 use Rattle.layout.proofs.Exact.{drive-shows}
 use Rattle.layout.proofs.Layings.{laid}
-use Rattle.table.specs.Rules.{tableLength}
+use Rattle.table.specs.Places.{tableLength}
 use Rattle.first_table.specs.First.{spareFault}
 use Rattle.first_table.proofs.Exact.{laid-proper}
 use Rattle.first_table.proofs.Says.{drive-refuses, list-refuses, room-refuses, spares-judge}

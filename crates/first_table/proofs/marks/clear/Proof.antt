@@ -6,7 +6,7 @@ use mathlib.Core.List.{[]}
 use native.Mathlib.Omega.{arith}
 use lib.ListN.{length}
 use Rattle.lists.proofs.Filling.{Filled, filled-none, filled-more, filled-all}
-use Rattle.table.specs.Rules.{tableLength}
+use Rattle.table.specs.Places.{tableLength}
 use Rattle.table.proofs.Obeying.{table-few}
 use Rattle.first_table.specs.Marks.{marked}
 use Rattle.first_table.proofs.Marked.{marked-length, markedFrom, from-first, from-next, from-last}
