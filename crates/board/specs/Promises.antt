@@ -28,7 +28,7 @@ use Rattle.table.specs.Rules.{tableFault, tableLength}
 use Rattle.table.specs.Lookup.{liesOn, lyingOn}
 use Rattle.replacing.specs.Replacing.{spareFor, replacedIn}
 use Rattle.table.specs.Counting.{censusOf}
-use Rattle.first_table.specs.First.{firstTable, firstTableFault}
+use Rattle.first_table.specs.Tables.{firstTable, firstTableFault}
 use Rattle.spares.specs.Spares.{shiftOf, blockOnFault, blockAtFault, replaceFault}
 use Rattle.table.specs.Rules.{blockFault as spareBlockFault}
 use Rattle.image.specs.Image.{headerOf, imageIn, headerFault, imageFault, writeFault}

@@ -17,7 +17,8 @@ use Rattle.layout.specs.Sides.{isHome, blockOfHome}
 use Rattle.first_table.specs.Marks.{badHomes}
 use Rattle.first_table.proofs.Entries.{walk-here, walk-next, walk-over}
 use Rattle.first_table.proofs.Bads.{homesAlong, homes-along}
-use Rattle.first_table.specs.First.{replacedAll, replacedAlso, Replaceable}
+use Rattle.first_table.specs.Tables.{replacedAll}
+use Rattle.first_table.specs.Steps.{replacedAlso, Replaceable}
 use Rattle.first_table.proofs.Replacings.{all-none, all-next, ready-next}
 
 -- the table up to a place of the list

@@ -30,7 +30,8 @@ use Rattle.table.proofs.Standings.{Standing, is-null, is-free, is-unusable, tel
 use Rattle.table.proofs.Obeying.{spares-in-table}
 use Rattle.table.proofs.Lookups.{place-none}
 use Rattle.layout.specs.Sides.{isHome, placeOfSpare}
-use Rattle.first_table.specs.Marks.{isBadSpare, badSpares, goodSpares, markedWord, marked, markedAlso}
+use Rattle.first_table.specs.Marks.{isBadSpare, badSpares, goodSpares, markedWord, marked}
+use Rattle.first_table.specs.Steps.{markedAlso}
 use Rattle.first_table.proofs.Passings.{in-last, in-others}
 use Rattle.first_table.proofs.Numbering.{spare-no-home, spare-of, spare-in}
 

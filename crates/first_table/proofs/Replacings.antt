@@ -20,10 +20,11 @@ use Rattle.table.specs.Rules.{Obeys}
 use Rattle.table.specs.Lookup.{Replaced, liesOn}
 use Rattle.replacing.specs.Replacing.{spareFor, replacedIn, Altered}
 use Rattle.table.specs.Counting.{codedAt, codeCount}
-use Rattle.replacing.proofs.Replacements.{tells-none-free, free-spare, spare-free, replacement-alters}
+use Rattle.replacing.proofs.Replacements.{tells-none-free, free-spare, spare-free, stored-obeys, stored-alters}
 use Rattle.replacing.proofs.Censuses.{free-less}
 use Rattle.first_table.proofs.Passings.{in-shows, in-later}
-use Rattle.first_table.specs.First.{replacedAll, Replaceable}
+use Rattle.first_table.specs.Tables.{replacedAll}
+use Rattle.first_table.specs.Steps.{Replaceable}
 
 module _ (drive : Drive) (t : List ℕ) where
   pub all-none : replacedAll drive t [] ≡ t
@@ -71,10 +72,11 @@ module _ {drive : Drive} {before after : List ℕ} {b q : ℕ} (altered : Altere
   free-was p e = byEq p q (λ same. rw same (altered .was-free)) (λ other. rw (altered .others-stand p other) at e)
 
   ready-after :
-      {blocks : List ℕ} → codeCount after free + 1 ≡ codeCount before free → Replaceable drive before (b ∷ blocks) → Replaceable drive after blocks
-  ready-after {blocks} fewer ready =
+      {blocks : List ℕ} → Obeys drive after → codeCount after free + 1 ≡ codeCount before free → Replaceable drive before (b ∷ blocks) →
+      Replaceable drive after blocks
+  ready-after {blocks} obeys fewer ready =
       record {
-        obeys = altered .obeys;
+        obeys = obeys;
         enough = omega (arith, ready .enough);
         homes = inside-tail (drive .blocks) b blocks (ready .homes);
         rise = rising-tail b blocks (ready .rise);
@@ -90,15 +92,19 @@ module _ {drive : Drive} (laid : Laid drive) {t : List ℕ} {b : ℕ} {blocks : 
   pub first-found : spareFor drive t b < length t
   first-found = free-found laid (ready .obeys) first-home (omega (arith, ready .enough))
 
+  first-free : codeOf (getD t (spareFor drive t b) 0) ≡ free
+  first-free = spare-free laid (ready .obeys) first-home first-found
+
   first-alters : Altered drive t b (spareFor drive t b) (replacedIn drive t b)
-  first-alters = replacement-alters laid (ready .obeys) first-home (ready .unnamed b (in-here b blocks)) first-found
+  first-alters = stored-alters laid (ready .obeys) first-home first-found first-free (ready .unnamed b (in-here b blocks))
 
   -- one place fewer is free
   first-fewer : codeCount (replacedIn drive t b) free + 1 ≡ codeCount t free
-  first-fewer = free-less laid t first-home first-found (spare-free laid (ready .obeys) first-home first-found)
+  first-fewer = free-less laid t first-home first-found first-free
 
   pub ready-next : Replaceable drive (replacedIn drive t b) blocks
-  ready-next = ready-after first-alters first-fewer ready
+  ready-next =
+      ready-after first-alters (stored-obeys laid (ready .obeys) first-home first-found first-free (ready .unnamed b (in-here b blocks))) first-fewer ready
 
 -- a block that lies on a spare which was free
 pub record Spared (drive : Drive) (before after : List ℕ) (b : ℕ) : Type 0 where
