@@ -70,8 +70,8 @@ fn cylinders_between(home: u32, spare: u32) -> i32
     spare as i32 - home as i32
 }
 
-// The shift of a block. Only other crates call this.
-pub fn shift_of(drive: Drive, table: &[u32], block: u32) -> i32
+// The shift of a block.
+fn shift_of(drive: Drive, table: &[u32], block: u32) -> i32
     requires { ⌜ Laid drive ⌝ }
     requires { ⌜ Obeys drive (now table) ⌝ }
     requires { ⌜ block < drive .blocks ⌝ }
