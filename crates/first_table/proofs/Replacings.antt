@@ -20,7 +20,7 @@ use Rattle.table.specs.Rules.{Obeys}
 use Rattle.table.specs.Lookup.{Replaced, liesOn}
 use Rattle.replacing.specs.Replacing.{spareFor, replacedIn, Altered}
 use Rattle.table.specs.Counting.{codedAt, codeCount}
-use Rattle.replacing.proofs.Replacements.{tells-none-free, free-spare, spare-free, stored-obeys, stored-alters}
+use Rattle.replacing.proofs.Replacements.{tells-none-free, free-spare, spare-free, stored-obeys, replacement-alters}
 use Rattle.replacing.proofs.Censuses.{free-less}
 use Rattle.first_table.proofs.Passings.{in-shows, in-later}
 use Rattle.first_table.specs.Tables.{replacedAll}
@@ -96,7 +96,7 @@ module _ {drive : Drive} (laid : Laid drive) {t : List ℕ} {b : ℕ} {blocks : 
   first-free = spare-free laid (ready .obeys) first-home first-found
 
   first-alters : Altered drive t b (spareFor drive t b) (replacedIn drive t b)
-  first-alters = stored-alters laid (ready .obeys) first-home first-found first-free (ready .unnamed b (in-here b blocks))
+  first-alters = replacement-alters laid (ready .obeys) first-home (ready .unnamed b (in-here b blocks)) first-found
 
   -- one place fewer is free
   first-fewer : codeCount (replacedIn drive t b) free + 1 ≡ codeCount t free
