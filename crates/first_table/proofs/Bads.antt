@@ -14,8 +14,8 @@ use Rattle.lists.specs.Proper.{Rising, Proper}
 use Rattle.lists.specs.Union.{isIn}
 use Rattle.layout.specs.declared.Drive.{Drive}
 use Rattle.layout.specs.Layouts.{Laid, sectorsPerTrack, homeSector}
-use Rattle.first_table.specs.declared.marks.Bad.{Bad}
 use Rattle.layout.specs.Sides.{isHome, blockOfHome, placeOfSpare}
+use Rattle.first_table.specs.declared.marks.Bad.{Bad}
 use Rattle.first_table.specs.Marks.{isBadHome, isBadSpare, badHomes, badSpares}
 use Rattle.first_table.specs.Steps.{countedAlso, CountsBad}
 use Rattle.first_table.proofs.Passings.{tells-passing, tells-run, passing-rises, passing-counted, run-rises}

@@ -8,10 +8,10 @@ use native.Mathlib.Omega.{arith}
 use lib.ListN.{length, getD, take, drop}
 use lib.Seq.{take-at, drop-at}
 use borrow.Author.Tests.{eqb-true, eq-eqb, not-true}
+use Rattle.paper.specs.Promise.{written}
 use Rattle.paper.proofs.Cases.{byBool, byLt}
 use Rattle.paper.proofs.Rows.{tells-false}
 use Rattle.lists.specs.Union.{isIn}
-use Rattle.paper.specs.Promise.{written}
 use Rattle.lists.proofs.Members.{members-inside}
 use Rattle.layout.specs.declared.Drive.{Drive}
 use Rattle.layout.specs.Layouts.{Laid}
@@ -20,11 +20,11 @@ use Rattle.table.specs.Rules.{tableLength, obeys, Obeys, Breaks}
 use Rattle.table.proofs.Obeying.{tells-obeys, tells-breaks}
 use Rattle.table.proofs.Lookups.{tells-replaced}
 use Rattle.first_table.specs.Marks.{isBadSpare, isBadHome, badHomes, goodSpares, marked}
-use Rattle.first_table.proofs.Bads.{tells-bad-home, bad-homes-rise}
-use Rattle.first_table.proofs.Marked.{marked-length, marked-at, marked-obeys, marked-none-replaced, marked-free, tells-unusable, word-null}
 use Rattle.first_table.specs.Tables.{replacedAll, firstTable, OnGoodSpare, IsFirstTable}
 use Rattle.first_table.specs.Steps.{Replaceable}
-use Rattle.first_table.proofs.Replacings.{Spared, AllReplaced, all-replaced}
+use Rattle.first_table.proofs.Bads.{tells-bad-home, bad-homes-rise}
+use Rattle.first_table.proofs.Marked.{marked-length, marked-at, marked-obeys, marked-none-replaced, marked-free, tells-unusable, word-null}
+use Rattle.first_table.proofs.Replacings.{OnFreeSpare, AllReplaced, all-replaced}
 
 module _ (drive : Drive) (list : List ℕ) (enough : length (badHomes drive list) ≤ goodSpares drive list) where
   pub first-ready : Replaceable drive (marked drive list) (badHomes drive list)
@@ -54,7 +54,7 @@ module _ (drive : Drive) (list : List ℕ) (enough : length (badHomes drive list
     first-length = table-obeys .long
 
     -- a place that was free in the marked table is a good spare's
-    on-good : (b : ℕ) → Spared drive (marked drive list) (firstTable drive list) b → OnGoodSpare drive list (firstTable drive list) b
+    on-good : (b : ℕ) → OnFreeSpare drive (marked drive list) (firstTable drive list) b → OnGoodSpare drive list (firstTable drive list) b
     on-good b spared =
         record {
           place = spared .place;

@@ -17,19 +17,18 @@ use Rattle.shape.specs.declared.Shape.{Shape}
 use Rattle.shape.specs.Shapes.{shaped, shapeFault}
 use Rattle.layout.specs.Layouts.{spared, driveOf, driveFault}
 use Rattle.layout.specs.Descriptors.{free, atPrimary, elsewhere, unusable, null}
-use Rattle.table.specs.Rules.{codeAt, obeys, Obeys, tableFault, tableLength}
+use Rattle.table.specs.Rules.{codeAt, obeys, Obeys, tableFault, tableLength, blockFault, BlockJudged}
 use Rattle.table.specs.Lookup.{Replaced, isReplaced}
-use Rattle.table.proofs.Lookups.{tells-replaced}
-use Rattle.replacing.specs.Replacing.{spareFor, NoneFree, replacedIn, Altered}
 use Rattle.table.specs.Counting.{codeCount}
+use Rattle.table.proofs.Lookups.{tells-replaced}
+use Rattle.table.proofs.Censuses.{five-counts}
+use Rattle.table.proofs.Exact.{Ready, table-ready, table-passes, block-ready, block-below, block-exactly}
+use Rattle.replacing.specs.Replacing.{spareFor, NoneFree, replacedIn, Altered}
 use Rattle.replacing.proofs.Replacements.{tells-none-free, spare-free, stored-obeys, replacement-alters}
 use Rattle.replacing.proofs.Censuses.{free-less, code-more, others-counted}
-use Rattle.table.proofs.Censuses.{five-counts}
 use Rattle.spares.specs.Spares.{replaceFault}
-use Rattle.table.specs.Rules.{blockFault, BlockJudged}
 use Rattle.spares.specs.History.{tableAfter}
 use Rattle.spares.proofs.Exact.{replace-exactly}
-use Rattle.table.proofs.Exact.{Ready, table-ready, table-passes, block-ready, block-below, block-exactly}
 
 -- a chain gives no number above those of its checks
 refuse-few : (test : Bool) (number most : ℕ) → number ≤ most → refuse test number ≤ most

@@ -11,11 +11,11 @@ use Rattle.layout.specs.Layouts.{driveOf, driveFault}
 use Rattle.layout.specs.Descriptors.{free}
 use Rattle.table.specs.Rules.{tableFault}
 use Rattle.table.specs.Counting.{codeCount}
+use Rattle.table.proofs.Exact.{table-passes}
 use Rattle.first_table.specs.Marks.{badSpares, badHomes}
 use Rattle.first_table.specs.Tables.{firstTable, firstTableFault}
 use Rattle.first_table.proofs.Exact.{first-obeys, first-made}
 use Rattle.spares.specs.History.{Call, reads, replaces, afterCall, acceptedBy, afterAll, accepted}
-use Rattle.table.proofs.Exact.{table-passes}
 use Rattle.spares.proofs.Accepted.{after-passes, free-after}
 
 module _ (shape : Shape) (r : ℕ) where

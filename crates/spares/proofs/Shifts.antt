@@ -18,13 +18,12 @@ use Rattle.shape.specs.declared.Shape.{Shape}
 use Rattle.layout.specs.declared.Drive.{Drive}
 use Rattle.layout.specs.Layouts.{Laid, driveOf, homeCylinder, spareCylinder}
 use Rattle.layout.proofs.Sectors.{blocks-few, home-cylinder-below, spare-cylinder-below}
-use Rattle.table.specs.Rules.{Obeys}
+use Rattle.table.specs.Rules.{Obeys, blockFault}
 use Rattle.table.specs.Lookup.{placeOf, Replaced, isReplaced}
 use Rattle.table.proofs.Lookups.{tells-replaced, place-spare}
+use Rattle.table.proofs.Exact.{block-ready, block-below}
 use Rattle.order.proofs.Signs.{minus-within, minus-below}
 use Rattle.spares.specs.Spares.{shiftOf}
-use Rattle.table.specs.Rules.{blockFault}
-use Rattle.table.proofs.Exact.{block-ready, block-below}
 
 -- numbers below a bound differ by less than the bound, to either side
 pub difference-within : (a b bound : ℕ) → a < bound → b < bound → natAbs (pos a -ℤ pos b) < bound

@@ -7,8 +7,8 @@ use Rattle.paper.proofs.Chain.{orElse-some}
 use Rattle.paper.proofs.Kept.{refuses, accepts}
 use Rattle.shape.proofs.Exact.{place-shows}
 use Rattle.shape.proofs.Bounds.{sector-below}
-use Rattle.spares.proofs.Exact.{sector-within}
 use Rattle.table.proofs.Exact.{table-ready}
+use Rattle.spares.proofs.Exact.{sector-within}
 use Rattle.spares.proofs.block_at.Statement.{statement}
 use Rattle.spares.proofs.block_at.Tie as tie
 

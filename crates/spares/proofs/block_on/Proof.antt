@@ -4,13 +4,13 @@ use borrow.Author.Needs.{needs}
 use mathlib.Core.Path.{sym, _∙_, refl}
 use Prim.Native.Nat.{_<_}
 use native.Mathlib.Omega.{arith}
-use Rattle.shape.specs.Shapes.{sizeOf}
 use borrow.Author.Tests.{le-leb, lt-leb}
 use denote.Ref.{now}
 use Rattle.paper.proofs.Chain.{orElse-some}
 use Rattle.paper.proofs.Kept.{refuses, accepts}
-use Rattle.spares.proofs.Exact.{sector-within}
+use Rattle.shape.specs.Shapes.{sizeOf}
 use Rattle.table.proofs.Exact.{table-ready}
+use Rattle.spares.proofs.Exact.{sector-within}
 use Rattle.spares.proofs.block_on.Statement.{statement}
 use Rattle.spares.proofs.block_on.Tie as tie
 

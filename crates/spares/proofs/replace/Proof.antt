@@ -8,12 +8,12 @@ use borrow.Author.Tests.{le-leb, lt-leb, lt-ltb, le-ltb}
 use denote.Ref.{now}
 use Rattle.paper.proofs.Chain.{orElse-some}
 use Rattle.paper.proofs.Kept.{fills-refuses, fills-accepts}
-use Rattle.table.proofs.Obeying.{table-few}
 use Rattle.layout.specs.Layouts.{driveOf}
+use Rattle.table.proofs.Obeying.{table-few}
+use Rattle.table.proofs.Exact.{block-ready, block-below}
 use Rattle.replacing.specs.Replacing.{spareFor, descriptorAt, replacedIn}
 use Rattle.spares.specs.declared.Replaced.the-variants.{Place}
 use Rattle.spares.proofs.Accepted.{replace-twice, replace-fails, replace-passes}
-use Rattle.table.proofs.Exact.{block-ready, block-below}
 use Rattle.spares.proofs.replace.Statement.{statement}
 use Rattle.spares.proofs.replace.Tie as tie
 

@@ -2,13 +2,13 @@
 -- Assumes nothing.
 use borrow.Author.Needs.{needs}
 use mathlib.Core.Path.{_≡_, sym, _∙_, ap, refl}
-use Rattle.order.proofs.Signs.{read-again}
-use Rattle.layout.specs.Layouts.{driveOf}
-use Rattle.spares.specs.declared.Shifted.the-variants.{By}
-use Rattle.spares.specs.Spares.{shiftOf}
 use denote.Ref.{now}
 use Rattle.paper.proofs.Kept.{refuses, accepts}
+use Rattle.layout.specs.Layouts.{driveOf}
 use Rattle.table.proofs.Exact.{block-ready, block-below}
+use Rattle.order.proofs.Signs.{read-again}
+use Rattle.spares.specs.declared.Shifted.the-variants.{By}
+use Rattle.spares.specs.Spares.{shiftOf}
 use Rattle.spares.proofs.shift.Statement.{statement}
 use Rattle.spares.proofs.shift.Tie as tie
 
