@@ -2,7 +2,7 @@
 -- Assumes nothing.
 use borrow.Author.Needs.{needs}
 use mathlib.Core.Path.{sym, _∙_, refl}
-use Prim.Native.Nat.{_<_}
+use Prim.Native.Nat.{_<_, _≤_}
 use native.Mathlib.Omega.{arith}
 use borrow.Author.Tests.{le-leb, lt-leb}
 use denote.Ref.{now}
@@ -28,7 +28,8 @@ size-of-requires c κs =
 
 returns-2 : tie.Need-returns-2
 returns-2 c =
-    refuses (λ k. refl) _ (rw (← c .before .before .before .table-fault .ensures, c .before .before .if1 .left, ← c .before .size-of .ensures, le-leb _ _ (c .if2 .taken))) (omega arith)
+    let past : c .before .size-of .result ≤ c .before .before .before .before .before .args .sector = omega arith in
+    refuses (λ k. refl) _ (rw (← c .before .before .before .table-fault .ensures, c .before .before .if1 .left, ← c .before .size-of .ensures, le-leb _ _ past)) (omega arith)
 
 drive-of-requires : tie.Need-drive-of-requires
 drive-of-requires c κs =
@@ -45,7 +46,8 @@ lying-on-requires c κs =
 
 returns-3 : tie.Need-returns-3
 returns-3 c =
-    accepts (λ k. refl) (rw (← c .before .before .before .before .before .table-fault .ensures, c .before .before .before .before .if1 .left, ← c .before .before .before .size-of .ensures, lt-leb _ _ (c .before .before .if2 .left))) (rw (c .lying-on .ensures, c .before .drive-of .ensures))
+    let below : c .before .before .before .before .before .before .before .args .sector < c .before .before .before .size-of .result = omega arith in
+    accepts (λ k. refl) (rw (← c .before .before .before .before .before .table-fault .ensures, c .before .before .before .before .if1 .left, ← c .before .before .before .size-of .ensures, lt-leb _ _ below)) (rw (c .lying-on .ensures, c .before .drive-of .ensures))
 
 pub block-on-spec : {M : Type 1} → statement M
 block-on-spec =
