@@ -23,7 +23,7 @@ use Rattle.skipped.specs.Faults.{AddressOfJudged as SkippedAddressOfJudged, Blo
 use Rattle.page.specs.Pages.{ReadJudged as PageReadJudged, WriteJudged as PageWriteJudged}
 use Rattle.format.specs.Spaces.{FormatJudged}
 use Rattle.table.specs.Rules.{TableJudged, BlockJudged}
-use Rattle.first_table.specs.First.{FirstTableJudged}
+use Rattle.first_table.specs.Tables.{FirstTableJudged}
 use Rattle.spares.specs.Spares.{BlockOnJudged as SpareBlockOnJudged, BlockAtJudged as SpareBlockAtJudged, ReplaceJudged}
 use Rattle.image.specs.Judged.{HeaderJudged, ImageJudged, WriteJudged as ImageWriteJudged}
 use Rattle.reading.specs.Judged.{BlockReadJudged}

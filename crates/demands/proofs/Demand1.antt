@@ -52,7 +52,7 @@ use Rattle.table.specs.Lookup.{isReplaced, liesOn, blockAtHome, blockOnSpare, l
 use Rattle.table.proofs.Exact.{table-exactly}
 use Rattle.replacing.specs.Replacing.{spareFor}
 use Rattle.table.specs.Counting.{censusOf}
-use Rattle.first_table.specs.First.{firstTableFault, FirstTableJudged}
+use Rattle.first_table.specs.Tables.{firstTableFault, FirstTableJudged}
 use Rattle.first_table.specs.Promises.{FirstTable}
 use Rattle.first_table.proofs.Exact.{first-exactly}
 use Rattle.spares.specs.Spares.{shiftOf, blockOnFault, blockAtFault, replaceFault, BlockOnJudged as SpareBlockOnJudged, BlockAtJudged as SpareBlockAtJudged, ReplaceJudged}

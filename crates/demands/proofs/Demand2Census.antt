@@ -17,7 +17,7 @@ use Rattle.table.specs.Places.{tableLength}
 use Rattle.table.specs.Counting.{codeCount}
 use Rattle.table.specs.declared.Census.{Census}
 use Rattle.first_table.specs.Marks.{isBadSpare, badSpares, badHomes, goodSpares}
-use Rattle.first_table.specs.First.{firstTable, firstTableFault}
+use Rattle.first_table.specs.Tables.{firstTable, firstTableFault}
 use Rattle.first_table.specs.Promises.{FirstTable}
 use Rattle.first_table.proofs.Exact.{first-shows, first-made}
 use Rattle.spares.specs.Promises.{saidCounted, CensusOf}

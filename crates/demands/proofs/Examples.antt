@@ -37,8 +37,8 @@ use Rattle.order.specs.Order.{outward}
 use Rattle.replacing.specs.Replacing.{spareFor}
 use Rattle.table.specs.Counting.{censusOf}
 use Rattle.first_table.specs.Marks.{passing, badSpares, badHomes, marked}
-use Rattle.first_table.specs.First.{replacedAll, firstTable, spareFault, firstTableFault as startFault}
-use Rattle.first_table.proofs.Says.{spares-judge}
+use Rattle.first_table.specs.Tables.{replacedAll, firstTable, spareFault, firstTableFault as startFault}
+use Rattle.first_table.proofs.Exact.{spares-judge}
 use Rattle.spares.specs.Spares as Spares
 use Rattle.spares.specs.History.{tableAfter}
 use Rattle.image.specs.Code.{wordsOf, rotated, codeAfter, codeFrom, dataCode, carried}

@@ -21,9 +21,9 @@ use Rattle.format.specs.Promises.{Formats}
 use Rattle.format.specs.declared.Formatted.the-variants.{Done}
 use Rattle.shape.specs.declared.Shape.{Shape}
 use Rattle.layout.specs.Layouts.{driveOf}
-use Rattle.first_table.specs.First.{firstTable, firstTableFault, IsFirstTable}
+use Rattle.first_table.specs.Tables.{firstTable, firstTableFault, IsFirstTable}
 use Rattle.first_table.specs.Promises.{FirstTable}
-use Rattle.first_table.proofs.Exact.{first-made}
+use Rattle.first_table.proofs.Exact.{first-obeys, first-made}
 use Rattle.image.specs.Image.{imageOf, writeFault as imageWriteFault}
 use Rattle.image.specs.Promises.{Write}
 use Rattle.image.proofs.ThereAndBack.{room-image, room-rest}
@@ -86,7 +86,7 @@ first-table-hands shape r list room long after promise =
     let starts : IsFirstTable (driveOf shape r) list (firstTable (driveOf shape r) list) = first-made shape r list room passes in
     let hands : Handed (firstTable (driveOf shape r) list) room long after =
     handed (firstTable (driveOf shape r) list) room long after
-    (rw (starts .obeys .long) (rw passes at (ap (λ (said : ℕ × ℕ). said .1) (promise .says))))
+    (rw (first-obeys shape r list room passes .long) (rw passes at (ap (λ (said : ℕ × ℕ). said .1) (promise .says))))
     (rw passes at (promise .holds)) in
     (hands, rw (hands .first) starts)
 

@@ -12,13 +12,14 @@ use Rattle.layout.specs.declared.Drive.{Drive}
 use Rattle.layout.specs.Layouts.{sectorsPerTrack}
 use Rattle.layout.specs.Steps.{Laid}
 use Rattle.layout.specs.Descriptors.{free}
-use Rattle.replacing.specs.Replacing.{replacedIn}
-use Rattle.table.specs.Counting.{codeCount}
 use Rattle.layout.specs.Sides.{isHome, blockOfHome}
+use Rattle.table.specs.Counting.{codeCount}
+use Rattle.replacing.specs.Replacing.{replacedIn}
 use Rattle.first_table.specs.Marks.{badHomes}
+use Rattle.first_table.specs.Tables.{replacedAll}
+use Rattle.first_table.specs.Steps.{replacedAlso, Replaceable}
 use Rattle.first_table.proofs.Entries.{walk-here, walk-next, walk-over}
 use Rattle.first_table.proofs.Bads.{homesAlong, homes-along}
-use Rattle.first_table.specs.First.{replacedAll, replacedAlso, Replaceable}
 use Rattle.first_table.proofs.Replacings.{all-none, all-next, ready-next}
 
 -- the table up to a place of the list

@@ -15,9 +15,10 @@ use Rattle.lists.specs.Union.{isIn}
 use Rattle.layout.specs.declared.Drive.{Drive}
 use Rattle.layout.specs.Layouts.{sectorsPerTrack, homeSector}
 use Rattle.layout.specs.Steps.{Laid}
-use Rattle.first_table.specs.declared.marks.Bad.{Bad}
 use Rattle.layout.specs.Sides.{isHome, blockOfHome, placeOfSpare}
-use Rattle.first_table.specs.Marks.{isBadHome, isBadSpare, badHomes, badSpares, countedAlso, CountsBad}
+use Rattle.first_table.specs.declared.marks.Bad.{Bad}
+use Rattle.first_table.specs.Marks.{isBadHome, isBadSpare, badHomes, badSpares}
+use Rattle.first_table.specs.Steps.{countedAlso, CountsBad}
 use Rattle.first_table.proofs.Passings.{tells-passing, tells-run, passing-rises, passing-counted, run-rises}
 use Rattle.first_table.proofs.Entries.{entries, walk-here, walk-next, walk-over, passing-entries}
 use Rattle.first_table.proofs.Numbering.{homes-numbered, spares-numbered}

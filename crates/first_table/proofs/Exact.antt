@@ -6,6 +6,7 @@ use mathlib.Core.List.{List}
 use native.Mathlib.Omega.{arith}
 use lib.Dec.{ltb}
 use lib.ListN.{length}
+use borrow.Author.Tests.{le-ltb}
 use Rattle.paper.specs.Checks.{refuse}
 use Rattle.paper.specs.Refusals.{noRoom, noSpare}
 use Rattle.paper.specs.Exactly.{Exactly, When}
@@ -19,9 +20,10 @@ use Rattle.layout.specs.Layouts.{Spared, driveOf, driveFault, DriveJudged, sect
 use Rattle.layout.proofs.Layings.{laid, drive-whole}
 use Rattle.layout.proofs.Exact.{drive-shows, drive-exactly}
 use Rattle.table.specs.Places.{tableLength}
+use Rattle.table.specs.Steps.{Obeys}
 use Rattle.first_table.specs.Marks.{badHomes, goodSpares}
-use Rattle.first_table.specs.First.{firstTable, firstTableFault, FirstTableJudged, IsFirstTable}
-use Rattle.first_table.proofs.Tables.{first-starts}
+use Rattle.first_table.specs.Tables.{firstTable, spareFault, firstTableFault, FirstTableJudged, IsFirstTable}
+use Rattle.first_table.proofs.Tables.{table-obeys, first-starts}
 
 -- a list over the drive's sectors, counted by the layout
 pub laid-proper : {shape : Shape} {r : ℕ} {list : List ℕ} → Spared shape r → Proper (sizeOf shape) list → Proper (driveOf shape r .tracks * sectorsPerTrack (driveOf shape r)) list
@@ -49,7 +51,18 @@ module _ (shape : Shape) (r : ℕ) (list room : List ℕ) where
         enough = not-over (goodSpares (driveOf shape r) list) (length (badHomes (driveOf shape r) list)) noSpare (omega arith) (orElse-next (refuse (ltb (length room) (tableLength (driveOf shape r))) noRoom) _ last);
       }
 
-  -- a first table that is accepted is what the paper says of it
+  -- past the other checks, the number of spares decides
+  pub spares-judge :
+      driveFault shape r ≡ 0 → listFault (sizeOf shape) list ≡ 0 → tableLength (driveOf shape r) ≤ length room →
+      firstTableFault shape r list room ≡ spareFault (driveOf shape r) list
+  spares-judge drive entries fits = rw (drive, entries, le-ltb (length room) (tableLength (driveOf shape r)) fits)
+
+  -- a first table that is accepted obeys the rules, and is what the paper says of it
+  pub first-obeys : firstTableFault shape r list room ≡ 0 → Obeys (driveOf shape r) (firstTable (driveOf shape r) list)
+  first-obeys none =
+      let buildable : Buildable = first-shows none in
+      table-obeys (driveOf shape r) list (buildable .enough) (laid (buildable .shaped) (buildable .drives))
+
   pub first-made : firstTableFault shape r list room ≡ 0 → IsFirstTable (driveOf shape r) list (firstTable (driveOf shape r) list)
   first-made none =
       let buildable : Buildable = first-shows none in

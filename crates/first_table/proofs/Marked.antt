@@ -11,6 +11,7 @@ use lib.Dec.{eqb}
 use lib.ListN.{length, getD, set, take, drop, length-map, length-set, length-append, length-drop}
 use lib.Seq.{ext-getD, getD-set-same, getD-set-other, set-append-left, drop-at, take-suc, take-all}
 use borrow.Author.Tests.{le-leb, lt-leb, le-ltb}
+use Rattle.paper.specs.Promise.{written}
 use Rattle.paper.proofs.Cases.{byBool, byLt, byEq}
 use Rattle.paper.proofs.Rows.{Tells, tells-eq}
 use Rattle.seek.specs.Count.{countBelow}
@@ -19,11 +20,11 @@ use Rattle.seek.proofs.Counts.{count-same, count-not, count-alike}
 use Rattle.seek.proofs.Searches.{rising-length}
 use Rattle.lists.specs.Proper.{Proper}
 use Rattle.lists.specs.Union.{isIn}
-use Rattle.paper.specs.Promise.{written}
 use Rattle.layout.specs.declared.Drive.{Drive}
 use Rattle.layout.specs.Layouts.{sectorsPerTrack, spareSector}
 use Rattle.layout.specs.Steps.{Laid}
 use Rattle.layout.specs.Descriptors.{free, unusable, null, wordOf, codeOf, names}
+use Rattle.layout.specs.Sides.{isHome, placeOfSpare}
 use Rattle.layout.proofs.Sectors.{spare-once}
 use Rattle.table.specs.Places.{tableLength}
 use Rattle.table.specs.Steps.{Obeys}
@@ -31,8 +32,8 @@ use Rattle.table.specs.Lookup.{placeOf, isReplaced}
 use Rattle.table.proofs.Standings.{Standing, is-null, is-free, is-unusable, tells-standing}
 use Rattle.table.proofs.Obeying.{spares-in-table}
 use Rattle.table.proofs.Lookups.{place-none}
-use Rattle.layout.specs.Sides.{isHome, placeOfSpare}
-use Rattle.first_table.specs.Marks.{isBadSpare, badSpares, goodSpares, markedWord, marked, markedAlso}
+use Rattle.first_table.specs.Marks.{isBadSpare, badSpares, goodSpares, markedWord, marked}
+use Rattle.first_table.specs.Steps.{markedAlso}
 use Rattle.first_table.proofs.Passings.{in-last, in-others}
 use Rattle.first_table.proofs.Numbering.{spare-no-home, spare-of, spare-in}
 

@@ -12,10 +12,10 @@ use Rattle.paper.proofs.Cases.{byLt}
 use Rattle.layout.specs.declared.Drive.{Drive}
 use Rattle.layout.specs.Layouts.{sectorsPerTrack, homeSector, spareSector}
 use Rattle.layout.specs.Steps.{Laid}
+use Rattle.layout.specs.Sides.{isHome, blockOfHome, placeOfSpare}
 use Rattle.layout.proofs.Sectors.{home-offset, home-block, spare-offset, spare-place, block-below, place-below}
 use Rattle.table.specs.Places.{tableLength}
 use Rattle.table.proofs.Obeying.{spares-in-table, table-few}
-use Rattle.layout.specs.Sides.{isHome, blockOfHome, placeOfSpare}
 use Rattle.first_table.proofs.Entries.{Numbered}
 
 -- numbers of so many to a track rise with their tracks, and in a track with their remainders

@@ -19,12 +19,13 @@ use Rattle.layout.specs.Steps.{Laid}
 use Rattle.layout.specs.Descriptors.{free, unusable, codeOf, numberOf}
 use Rattle.table.specs.Steps.{Obeys}
 use Rattle.table.specs.Lookup.{Replaced, liesOn}
-use Rattle.replacing.specs.Replacing.{spareFor, replacedIn, Altered}
 use Rattle.table.specs.Counting.{codedAt, codeCount}
-use Rattle.replacing.proofs.Replacements.{tells-none-free, free-spare, spare-free, replacement-alters}
+use Rattle.replacing.specs.Replacing.{spareFor, replacedIn, Altered}
+use Rattle.replacing.proofs.Replacements.{tells-none-free, free-spare, spare-free, stored-obeys, replacement-alters}
 use Rattle.replacing.proofs.Censuses.{free-less}
+use Rattle.first_table.specs.Tables.{replacedAll}
+use Rattle.first_table.specs.Steps.{Replaceable}
 use Rattle.first_table.proofs.Passings.{in-shows, in-later}
-use Rattle.first_table.specs.First.{replacedAll, Replaceable}
 
 module _ (drive : Drive) (t : List ℕ) where
   pub all-none : replacedAll drive t [] ≡ t
@@ -72,10 +73,11 @@ module _ {drive : Drive} {before after : List ℕ} {b q : ℕ} (altered : Altere
   free-was p e = byEq p q (λ same. rw same (altered .was-free)) (λ other. rw (altered .others-stand p other) at e)
 
   ready-after :
-      {blocks : List ℕ} → codeCount after free + 1 ≡ codeCount before free → Replaceable drive before (b ∷ blocks) → Replaceable drive after blocks
-  ready-after {blocks} fewer ready =
+      {blocks : List ℕ} → Obeys drive after → codeCount after free + 1 ≡ codeCount before free → Replaceable drive before (b ∷ blocks) →
+      Replaceable drive after blocks
+  ready-after {blocks} obeys fewer ready =
       record {
-        obeys = altered .obeys;
+        obeys = obeys;
         enough = omega (arith, ready .enough);
         homes = inside-tail (drive .blocks) b blocks (ready .homes);
         rise = rising-tail b blocks (ready .rise);
@@ -91,18 +93,22 @@ module _ {drive : Drive} (laid : Laid drive) {t : List ℕ} {b : ℕ} {blocks : 
   pub first-found : spareFor drive t b < length t
   first-found = free-found laid (ready .obeys) first-home (omega (arith, ready .enough))
 
+  first-free : codeOf (getD t (spareFor drive t b) 0) ≡ free
+  first-free = spare-free laid (ready .obeys) first-home first-found
+
   first-alters : Altered drive t b (spareFor drive t b) (replacedIn drive t b)
   first-alters = replacement-alters laid (ready .obeys) first-home (ready .unnamed b (in-here b blocks)) first-found
 
   -- one place fewer is free
   first-fewer : codeCount (replacedIn drive t b) free + 1 ≡ codeCount t free
-  first-fewer = free-less laid t first-home first-found (spare-free laid (ready .obeys) first-home first-found)
+  first-fewer = free-less laid t first-home first-found first-free
 
   pub ready-next : Replaceable drive (replacedIn drive t b) blocks
-  ready-next = ready-after first-alters first-fewer ready
+  ready-next =
+      ready-after first-alters (stored-obeys laid (ready .obeys) first-home first-found first-free (ready .unnamed b (in-here b blocks))) first-fewer ready
 
 -- a block that lies on a spare which was free
-pub record Spared (drive : Drive) (before after : List ℕ) (b : ℕ) : Type 0 where
+pub record OnFreeSpare (drive : Drive) (before after : List ℕ) (b : ℕ) : Type 0 where
   pub place : ℕ
   pub is-spare : place < drive .spares
   pub was-free : codeOf (getD before place 0) ≡ free
@@ -111,7 +117,7 @@ pub record Spared (drive : Drive) (before after : List ℕ) (b : ℕ) : Type 0 w
 -- what all replacements together do
 pub record AllReplaced (drive : Drive) (before blocks after : List ℕ) : Type 0 where
   pub obeys : Obeys drive after
-  pub spared : (b : ℕ) → isIn blocks b ≡ true → Spared drive before after b
+  pub spared : (b : ℕ) → isIn blocks b ≡ true → OnFreeSpare drive before after b
   pub others-lie : (a : ℕ) → isIn blocks a ≡ false → liesOn drive after a ≡ liesOn drive before a
   pub unusable-kept : (p : ℕ) → codedAt after unusable p ≡ codedAt before unusable p
   pub fewer-free : codeCount after free + length blocks ≡ codeCount before free
@@ -137,7 +143,7 @@ module _ {drive : Drive} {before between after : List ℕ} {b q : ℕ} {blocks :
         fewer-free = omega (arith, rest .fewer-free);
       }
     where
-      here : Spared drive before after b
+      here : OnFreeSpare drive before after b
       here =
           record {
             place = q;
@@ -146,7 +152,7 @@ module _ {drive : Drive} {before between after : List ℕ} {b q : ℕ} {blocks :
             lies = rest .others-lie b (not-in-above b blocks b (omega arith) (rising-above b blocks (ready .rise))) ∙ altered .lies;
           }
 
-      there : (a : ℕ) → Spared drive between after a → Spared drive before after a
+      there : (a : ℕ) → OnFreeSpare drive between after a → OnFreeSpare drive before after a
       there a spared = record { place = spared .place; is-spare = spared .is-spare; was-free = free-was altered (spared .place) (spared .was-free); lies = spared .lies }
 
       not-here : (a : ℕ) → isIn (b ∷ blocks) a ≡ false → b ≡ a → ⊥

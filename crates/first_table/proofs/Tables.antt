@@ -7,22 +7,26 @@ use mathlib.Core.List.{List, _++_}
 use native.Mathlib.Omega.{arith}
 use lib.ListN.{length, getD, take, drop}
 use lib.Seq.{take-at, drop-at}
-use borrow.Author.Tests.{eqb-true, eq-eqb}
+use borrow.Author.Tests.{eqb-true, eq-eqb, not-true}
+use Rattle.paper.specs.Promise.{written}
 use Rattle.paper.proofs.Cases.{byBool, byLt}
 use Rattle.paper.proofs.Rows.{tells-false}
 use Rattle.lists.specs.Union.{isIn}
-use Rattle.paper.specs.Promise.{written}
 use Rattle.lists.proofs.Members.{members-inside}
 use Rattle.layout.specs.declared.Drive.{Drive}
 use Rattle.layout.specs.Steps.{Laid}
 use Rattle.layout.specs.Descriptors.{unusable, codeOf}
+use Rattle.table.specs.Rules.{Breaks}
 use Rattle.table.specs.Places.{tableLength}
+use Rattle.table.specs.Steps.{obeys, Obeys}
+use Rattle.table.proofs.Obeying.{tells-obeys, tells-breaks}
 use Rattle.table.proofs.Lookups.{tells-replaced}
 use Rattle.first_table.specs.Marks.{isBadSpare, isBadHome, badHomes, goodSpares, marked}
+use Rattle.first_table.specs.Tables.{replacedAll, firstTable, OnGoodSpare, IsFirstTable}
+use Rattle.first_table.specs.Steps.{Replaceable}
 use Rattle.first_table.proofs.Bads.{tells-bad-home, bad-homes-rise}
 use Rattle.first_table.proofs.Marked.{marked-length, marked-at, marked-obeys, marked-none-replaced, marked-free, tells-unusable, word-null}
-use Rattle.first_table.specs.First.{replacedAll, firstTable, Replaceable, OnGoodSpare, IsFirstTable}
-use Rattle.first_table.proofs.Replacings.{Spared, AllReplaced, all-replaced}
+use Rattle.first_table.proofs.Replacings.{OnFreeSpare, AllReplaced, all-replaced}
 
 module _ (drive : Drive) (list : List ℕ) (enough : length (badHomes drive list) ≤ goodSpares drive list) where
   pub first-ready : Replaceable drive (marked drive list) (badHomes drive list)
@@ -39,11 +43,20 @@ module _ (drive : Drive) (list : List ℕ) (enough : length (badHomes drive list
     first-replaced : AllReplaced drive (marked drive list) (badHomes drive list) (firstTable drive list)
     first-replaced = all-replaced laid (marked drive list) (badHomes drive list) first-ready
 
+    pub table-obeys : Obeys drive (firstTable drive list)
+    table-obeys = first-replaced .obeys
+
+    -- and so it breaks none of the rules
+    table-breaks-none : Breaks drive (firstTable drive list) → ⊥
+    table-breaks-none breaks =
+        let passes : obeys drive (firstTable drive list) ≡ true = tells-obeys drive (firstTable drive list) .told table-obeys in
+        true≢false (sym passes ∙ not-true (obeys drive (firstTable drive list)) (tells-breaks drive (firstTable drive list) .told breaks))
+
     pub first-length : length (firstTable drive list) ≡ tableLength drive
-    first-length = first-replaced .obeys .long
+    first-length = table-obeys .long
 
     -- a place that was free in the marked table is a good spare's
-    on-good : (b : ℕ) → Spared drive (marked drive list) (firstTable drive list) b → OnGoodSpare drive list (firstTable drive list) b
+    on-good : (b : ℕ) → OnFreeSpare drive (marked drive list) (firstTable drive list) b → OnGoodSpare drive list (firstTable drive list) b
     on-good b spared =
         record {
           place = spared .place;
@@ -71,7 +84,7 @@ module _ (drive : Drive) (list : List ℕ) (enough : length (badHomes drive list
     pub first-starts : IsFirstTable drive list (firstTable drive list)
     first-starts =
         record {
-          obeys = first-replaced .obeys;
+          breaks-none = table-breaks-none;
           bad-homes-spared = λ b below e. on-good b (first-replaced .spared b (tells-bad-home drive list b .told (below, e)));
           others-at-home = λ b e. first-replaced .others-lie b (not-bad-home b e) ∙ rw (marked-none-replaced drive list b);
           bad-unusable = λ q h e.

@@ -1,3 +1,4 @@
 pub mod Marks
-pub mod First
+pub mod Tables
 pub mod Promises
+pub mod Steps

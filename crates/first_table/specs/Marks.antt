@@ -1,10 +1,8 @@
 -- Document 01, "Descriptors and spares": what a list of bad sectors says of homes and spares, and the table that a first table starts from, before any block is replaced.
-use Prim.Native.Nat.{ℕ, _+_, _-_}
+use Prim.Native.Nat.{ℕ, _-_}
 use mathlib.Core.Bool.{Bool}
 use mathlib.Core.List.{List, [], _∷_, map}
-use mathlib.Core.Path.{_≡_}
 use lib.Dec.{leb}
-use lib.ListN.{length, set}
 use Rattle.paper.specs.Checks.{pick}
 use Rattle.seek.specs.Count.{countBelow}
 use Rattle.seek.specs.Search.{rising}
@@ -13,8 +11,6 @@ use Rattle.layout.specs.declared.Drive.{Drive}
 use Rattle.layout.specs.Layouts.{homeSector, spareSector}
 use Rattle.layout.specs.Descriptors.{free, unusable, null, wordOf}
 use Rattle.table.specs.Places.{tableLength}
-use Rattle.first_table.specs.declared.marks.Bad.{Bad}
-use Rattle.layout.specs.Sides.{isHome, placeOfSpare}
 
 -- the members of a list that pass a test, in the list's order
 unfoldable pub passing : (ℕ → Bool) → List ℕ → List ℕ
@@ -47,19 +43,3 @@ markedWord drive list q = pick (leb (drive .spares) q) (wordOf null 0) (pick (is
 -- the table before any block is replaced
 unfoldable pub marked : Drive → List ℕ → List ℕ
 marked drive list = map (markedWord drive list) (rising 0 (tableLength drive))
-
--- a table with one more bad sector: its spare is marked, and a home sector alters nothing
-abbrev pub markedAlso : Drive → ℕ → List ℕ → List ℕ
-markedAlso drive s t = pick (isHome drive s) t (set t (placeOfSpare drive s) (wordOf unusable 0))
-
--- the counts with one more bad sector
-abbrev pub countedAlso : Drive → ℕ → Bad → Bad
-countedAlso drive s bad =
-    pick (isHome drive s)
-    (record { homes = bad .homes + 1; spares = bad .spares })
-    (record { homes = bad .homes; spares = bad .spares + 1 })
-
--- the counts of a list
-pub record CountsBad (drive : Drive) (list : List ℕ) (bad : Bad) : Type 0 where
-  pub are-homes : bad .homes ≡ length (badHomes drive list)
-  pub are-spares : bad .spares ≡ badSpares drive list

@@ -3,17 +3,18 @@ ghost use mathlib.Core.Path.{_≡_};
 ghost use mathlib.Core.Bool.{true};
 ghost use Prim.Native.Nat.{_*_, _<_, _≤_};
 ghost use lib.ListN.{length};
-ghost use Rattle.lists.specs.Proper.{Proper};
 ghost use Rattle.paper.specs.Promise.{written};
+ghost use Rattle.lists.specs.Proper.{Proper};
 ghost use Rattle.layout.specs.Layouts.{sectorsPerTrack};
 ghost use Rattle.layout.specs.Steps.{Laid};
 ghost use Rattle.layout.specs.Descriptors.{free};
+ghost use Rattle.layout.specs.Sides.{isHome};
 ghost use Rattle.table.specs.Places.{tableLength};
 ghost use Rattle.table.specs.Steps.{Obeys};
 ghost use Rattle.table.specs.Counting.{codeCount};
-ghost use Rattle.layout.specs.Sides.{isHome};
 ghost use Rattle.first_table.specs.Marks.{badHomes, goodSpares};
-ghost use Rattle.first_table.specs.First.{Replaceable, replacedAll, replacedAlso, firstTable, spareFault, firstTableFault};
+ghost use Rattle.first_table.specs.Tables.{replacedAll, firstTable, spareFault, firstTableFault};
+ghost use Rattle.first_table.specs.Steps.{Replaceable, replacedAlso};
 ghost use Rattle.first_table.specs.Promises.{FirstTable};
 
 mod marks;
@@ -52,8 +53,8 @@ fn replace_all(drive: Drive, list: &[u32], table: &mut [u32])
     }
 }
 
-// Writes the first table into the first places of the room, and leaves the rest. Only other crates call this.
-pub fn build(drive: Drive, list: &[u32], room: &mut [u32])
+// Writes the first table into the first places of the room, and leaves the rest.
+fn build(drive: Drive, list: &[u32], room: &mut [u32])
     requires { ⌜ Laid drive ⌝ }
     requires { ⌜ Proper (drive .tracks * sectorsPerTrack drive) (now list) ⌝ }
     requires { ⌜ tableLength drive ≤ length (now room) ⌝ }
@@ -78,8 +79,8 @@ fn spare_fault(drive: Drive, list: &[u32]) -> u32
     0
 }
 
-// The checks of a first table: 1, the list's, 7, 13; 0 for none. Only other crates call this.
-pub fn first_table_fault(shape: Shape, r: u32, list: &[u32], room: &[u32]) -> u32
+// The checks of a first table: 1, the list's, 7, 13; 0 for none.
+fn first_table_fault(shape: Shape, r: u32, list: &[u32], room: &[u32]) -> u32
     ensures { λ result. ⌜ result ≡ firstTableFault shape r (now (list .entry)) (now (room .entry)) ⌝ }
 {
     let fault = layout::drive_fault(shape, r);

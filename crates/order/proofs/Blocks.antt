@@ -11,8 +11,12 @@ use lib.Seq.{getD-take, getD-drop}
 use Rattle.paper.specs.Limits.{tableBlock}
 use Rattle.seek.specs.Search.{firstOr, rising}
 use Rattle.seek.proofs.Searches.{firstOr-alike, firstOr-default, firstOr-map, firstOr-map-none, firstOr-past, firstOr-early, firstOr-late, rising-map, rising-append, rising-inside}
-use Rattle.order.specs.Order.{stopsAt, blockOrder}
+use Rattle.order.specs.Order.{blockOrder}
 use Rattle.order.proofs.Once.{block-inside, block-rises}
+
+-- the descriptor at a place of a table, or of a block of it, passes a test
+abbrev pub stopsAt : (ℕ → Bool) → List ℕ → ℕ → Bool
+stopsAt stops t q = stops (getD t q 0)
 
 -- the places of the table block that starts at a place, outward from offset o
 abbrev blockAt : ℕ → ℕ → List ℕ

@@ -5,7 +5,8 @@ use mathlib.Core.List.{[], _∷_}
 use lib.IntN.{pos, negsuc, _+ℤ_}
 use lib.ListN.{take, drop}
 use Rattle.seek.specs.Search.{rising}
-use Rattle.order.specs.Order.{offsetOf, placeIn, outward, blockOrder, order}
+use Rattle.order.specs.Order.{inBlock, outward, blockOrder, order}
+use Rattle.order.specs.Steps.{offsetOf}
 
 -- the first turns and the last two: 0, +1, −1, and +127, −127
 pub offsets :
@@ -14,10 +15,10 @@ offsets = (refl, refl, refl, refl, refl)
 
 -- one step beyond either end lies outside, and the longest steps lead from end to end
 pub ends :
-    (placeIn (pos 0 +ℤ negsuc 0) ≡ 128)
-    × (placeIn (pos 127 +ℤ pos 1) ≡ 128)
-    × (placeIn (pos 0 +ℤ pos 127) ≡ 127)
-    × (placeIn (pos 127 +ℤ negsuc 126) ≡ 0)
+    (inBlock (pos 0 +ℤ negsuc 0) ≡ [])
+    × (inBlock (pos 127 +ℤ pos 1) ≡ [])
+    × (inBlock (pos 0 +ℤ pos 127) ≡ 127 ∷ [])
+    × (inBlock (pos 127 +ℤ negsuc 126) ≡ 0 ∷ [])
 ends = (refl, refl, refl, refl)
 
 pub from-first : take 3 (blockOrder 0) ≡ 0 ∷ 1 ∷ 2 ∷ []

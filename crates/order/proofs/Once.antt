@@ -6,65 +6,51 @@ use mathlib.Core.List.{[], _∷_, _++_, map, List·Memᴰ}
 use native.Mathlib.Omega.{arith}
 use native.Mathlib.Numerals.{add-one}
 use native.Mathlib.Nat.{add-zero, zero-add}
-use lib.IntN.{pos, negsuc, _+ℤ_}
+use lib.IntN.{ℤ, pos, negsuc, _+ℤ_}
 use borrow.Author.Tests.{lt-ltb, le-ltb}
 use Rattle.paper.specs.Limits.{tableBlock}
 use Rattle.paper.proofs.Cases.{byLt, byEq}
+use Rattle.seek.specs.Count.{times}
 use Rattle.seek.specs.Search.{rising}
 use Rattle.seek.proofs.Searches.{rising-append}
-use Rattle.order.specs.Order.{placeIn, kept, around, outward, blockOrder, blockStart, order, countIn}
+use Rattle.order.specs.Order.{inBlock, around, outward, blockOrder, blockStart, order}
 use Rattle.order.proofs.Signs.{minus-within, minus-below}
-use Rattle.order.proofs.Times.{same, below, same-yes, same-no, same-alike, below-yes, below-no, below-more, countIn-append, member-counts, counts-member, rising-once, moved-once, moved-none}
+use Rattle.order.proofs.Times.{same, below, same-yes, same-no, same-alike, below-yes, below-no, below-more, times-append, times-none, member-counts, counts-member, rising-once, moved-once, moved-none}
 
--- a place that is kept lies in the block
-kept-none : (q place : ℕ) → tableBlock ≤ q → countIn q (kept place) ≡ 0
-unfolding countIn
-kept-none q place h =
-    byLt place tableBlock
-    (λ inside. rw (lt-ltb place tableBlock inside, same-no q place (λ e. omega arith)))
-    (λ outside. rw (le-ltb place tableBlock outside))
-
-kept-once : (q place : ℕ) → q < tableBlock → countIn q (kept place) ≡ same q place
-unfolding countIn
-kept-once q place h =
-    byLt place tableBlock
-    (λ inside. rw (lt-ltb place tableBlock inside) (add-zero (same q place)))
-    (λ outside. rw (le-ltb place tableBlock outside) (sym (same-no q place (λ e. omega arith))))
-
--- a place of the block is tried where the offset leads to it
-place-once : (q i : ℕ) → q < tableBlock → same q (placeIn (pos i)) ≡ same q i
-place-once q i h =
+-- an offset gives places of the block alone, and a place of the block where it leads to it
+in-block-none : (q : ℕ) (offset : ℤ) → tableBlock ≤ q → times q (inBlock offset) ≡ 0
+unfolding times
+in-block-none q (negsuc i) h = refl
+in-block-none q (pos i) h =
     byLt i tableBlock
-    (λ inside. rw (lt-ltb i tableBlock inside))
-    (λ outside.
-    rw (le-ltb i tableBlock outside) (same-alike q tableBlock q i (λ e. absurd (omega arith)) (λ e. absurd (omega arith))))
+    (λ inside. rw (lt-ltb i tableBlock inside, same-no q i (λ e. omega arith)))
+    (λ outside. rw (le-ltb i tableBlock outside))
+
+in-block-once : (q i : ℕ) → q < tableBlock → times q (inBlock (pos i)) ≡ same q i
+unfolding times
+in-block-once q i h =
+    byLt i tableBlock
+    (λ inside. rw (lt-ltb i tableBlock inside) (add-zero (same q i)))
+    (λ outside. rw (le-ltb i tableBlock outside) (sym (same-no q i (λ e. omega arith))))
 
 -- how far a place lies from another
 abbrev apart : ℕ → ℕ → ℕ
 apart o q = (o - q) + (q - o)
 
-around-once : (o q k : ℕ) → o < tableBlock → q < tableBlock → countIn q (around o k) ≡ same (apart o q) k
-around-once o q zero inside h =
-    kept-once q (placeIn (pos o)) h
-    ∙ place-once q o h
-    ∙ same-alike q o (apart o q) 0 (λ e. omega arith) (λ e. omega arith)
+around-once : (o q k : ℕ) → o < tableBlock → q < tableBlock → times q (around o k) ≡ same (apart o q) k
+around-once o q zero inside h = in-block-once q o h ∙ same-alike q o (apart o q) 0 (λ e. omega arith) (λ e. omega arith)
 around-once o q (suc k) inside h =
-    rw (
-      countIn-append q (kept (placeIn (pos o +ℤ pos (suc k)))) (kept (placeIn (pos o +ℤ negsuc k))),
-      kept-once q (placeIn (pos o +ℤ pos (suc k))) h,
-      kept-once q (placeIn (pos o +ℤ negsuc k)) h,
-      place-once q (o + suc k) h,
-    )
+    rw (times-append q (inBlock (pos (o + suc k))) (inBlock (pos o +ℤ negsuc k)), in-block-once q (o + suc k) h)
     (byLt o (suc k)
     (λ far.
     rw (minus-below o (suc k) far)
     (omega (
       arith,
-      same-no q tableBlock (λ e. omega arith),
+      times-none q,
       same-alike q (o + suc k) (apart o q) (suc k) (λ e. omega arith) (λ e. omega arith),
     )))
     (λ near.
-    rw (minus-within o (suc k) near, place-once q (o - suc k) h)
+    rw (minus-within o (suc k) near, in-block-once q (o - suc k) h)
     (byEq q (o + suc k)
     (λ e. omega (arith, same-yes q (o + suc k) e, same-no q (o - suc k) (λ f. omega arith), same-yes (apart o q) (suc k) (omega arith)))
     (λ e.
@@ -74,28 +60,28 @@ around-once o q (suc k) inside h =
       same-alike q (o - suc k) (apart o q) (suc k) (λ f. omega arith) (λ f. omega arith),
     )))))
 
-outward-once : (o q distance : ℕ) → o < tableBlock → q < tableBlock → countIn q (outward o distance) ≡ below (apart o q) distance
-unfolding outward countIn
+outward-once : (o q distance : ℕ) → o < tableBlock → q < tableBlock → times q (outward o distance) ≡ below (apart o q) distance
+unfolding outward times
 outward-once o q zero inside h = sym (below-no (apart o q) 0 (omega arith))
 outward-once o q (suc distance) inside h =
-    countIn-append q (outward o distance) (around o distance)
+    times-append q (outward o distance) (around o distance)
     ∙ omega (arith, outward-once o q distance inside h, around-once o q distance inside h, below-more (apart o q) distance)
 
-around-none : (o q k : ℕ) → tableBlock ≤ q → countIn q (around o k) ≡ 0
-around-none o q zero h = kept-none q (placeIn (pos o)) h
+around-none : (o q k : ℕ) → tableBlock ≤ q → times q (around o k) ≡ 0
+around-none o q zero h = in-block-none q (pos o) h
 around-none o q (suc k) h =
-    countIn-append q (kept (placeIn (pos o +ℤ pos (suc k)))) (kept (placeIn (pos o +ℤ negsuc k)))
-    ∙ omega (arith, kept-none q (placeIn (pos o +ℤ pos (suc k))) h, kept-none q (placeIn (pos o +ℤ negsuc k)) h)
+    times-append q (inBlock (pos o +ℤ pos (suc k))) (inBlock (pos o +ℤ negsuc k))
+    ∙ omega (arith, in-block-none q (pos o +ℤ pos (suc k)) h, in-block-none q (pos o +ℤ negsuc k) h)
 
-outward-none : (o q distance : ℕ) → tableBlock ≤ q → countIn q (outward o distance) ≡ 0
-unfolding outward countIn
+outward-none : (o q distance : ℕ) → tableBlock ≤ q → times q (outward o distance) ≡ 0
+unfolding outward times
 outward-none o q zero h = refl
 outward-none o q (suc distance) h =
-    countIn-append q (outward o distance) (around o distance)
+    times-append q (outward o distance) (around o distance)
     ∙ omega (arith, outward-none o q distance h, around-none o q distance h)
 
 -- a block's outward order has each place of the block once and no other
-pub block-once : (o q : ℕ) → o < tableBlock → countIn q (blockOrder o) ≡ below q tableBlock
+pub block-once : (o q : ℕ) → o < tableBlock → times q (blockOrder o) ≡ below q tableBlock
 block-once o q inside =
     byLt q tableBlock
     (λ h. omega (arith, outward-once o q tableBlock inside h, below-yes (apart o q) tableBlock (omega arith), below-yes q tableBlock h))
@@ -107,7 +93,7 @@ block-inside o q m = byLt q tableBlock (λ h. h) (λ h. absurd (omega (arith, me
 -- so has the order moved to where the block starts
 moved-block :
     (base o q : ℕ) → o < tableBlock →
-    countIn q (map (λ (k : ℕ). base + k) (blockOrder o)) + below q base ≡ below q (base + tableBlock)
+    times q (map (λ (k : ℕ). base + k) (blockOrder o)) + below q base ≡ below q (base + tableBlock)
 moved-block base o q inside =
     byLt q base
     (λ h.
@@ -118,14 +104,14 @@ moved-block base o q inside =
       below-yes q (base + tableBlock) (omega arith),
     ))
     (λ h.
-    let here : countIn q (map (λ (k : ℕ). base + k) (blockOrder o)) ≡ below (q - base) tableBlock = moved-once q base (blockOrder o) h ∙ block-once o (q - base) inside in
+    let here : times q (map (λ (k : ℕ). base + k) (blockOrder o)) ≡ below (q - base) tableBlock = moved-once q base (blockOrder o) h ∙ block-once o (q - base) inside in
     byLt q (base + tableBlock)
     (λ l. omega (arith, below-no q base h, below-yes (q - base) tableBlock (omega arith), below-yes q (base + tableBlock) l))
     (λ l. omega (arith, below-no q base h, below-no (q - base) tableBlock (omega arith), below-no q (base + tableBlock) l)))
 
 around-first : (k : ℕ) → k < tableBlock → around 0 k ≡ k ∷ []
 around-first zero h = refl
-around-first (suc k) h = rw (minus-below 0 (suc k) (omega arith), zero-add (suc k), lt-ltb (suc k) tableBlock h, lt-ltb (suc k) tableBlock h)
+around-first (suc k) h = rw (minus-below 0 (suc k) (omega arith), zero-add (suc k), lt-ltb (suc k) tableBlock h)
 
 outward-rises : (distance : ℕ) → distance ≤ tableBlock → outward 0 distance ≡ rising 0 distance
 unfolding outward rising
@@ -140,14 +126,14 @@ pub block-rises : blockOrder 0 ≡ rising 0 tableBlock
 block-rises = outward-rises tableBlock (omega arith)
 
 module _ (places p : ℕ) (whole : places % tableBlock ≡ 0) (inside : p < places) where
-  order-counts : (q : ℕ) → countIn q (order places p) ≡ below q places
+  order-counts : (q : ℕ) → times q (order places p) ≡ below q places
   order-counts q =
       let start : ℕ = blockStart p in
       let next : ℕ = blockStart p + tableBlock in
       let all : next + (places - next) ≡ places = omega arith in
       rw (
-        countIn-append q (map (λ offset. start + offset) (blockOrder (p % tableBlock))) (rising next (places - next) ++ rising 0 start),
-        countIn-append q (rising next (places - next)) (rising 0 start),
+        times-append q (map (λ offset. start + offset) (blockOrder (p % tableBlock))) (rising next (places - next) ++ rising 0 start),
+        times-append q (rising next (places - next)) (rising 0 start),
       )
       (omega (
         arith,
@@ -158,7 +144,7 @@ module _ (places p : ℕ) (whole : places % tableBlock ≡ 0) (inside : p < plac
       ))
 
   -- every place stands in the search order once
-  pub order-once : (q : ℕ) → q < places → countIn q (order places p) ≡ 1
+  pub order-once : (q : ℕ) → q < places → times q (order places p) ≡ 1
   order-once q h = order-counts q ∙ below-yes q places h
 
   pub order-every : (q : ℕ) → q < places → List·Memᴰ q (order places p)

@@ -10,8 +10,9 @@ use lib.ListN.{length}
 use Rattle.paper.specs.Limits.{tableBlock}
 use Rattle.seek.specs.Search.{firstOr, rising}
 use Rattle.seek.proofs.Searches.{firstOr-early, firstOr-late}
-use Rattle.order.specs.Order.{stopsAt, blockOrder, blockStart, order}
+use Rattle.order.specs.Order.{blockOrder, blockStart, order}
 use Rattle.order.proofs.Once.{order-inside}
+use Rattle.order.proofs.Blocks.{stopsAt}
 
 module _ (stops : ℕ → Bool) (t : List ℕ) (p : ℕ) (whole : length t % tableBlock ≡ 0) (inside : p < length t) where
   -- the parts: the primary's block, the blocks after it, the blocks before it

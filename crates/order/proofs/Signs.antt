@@ -11,9 +11,9 @@ use mir.Syntax.{w32}
 use mir.Val.{SFits, toZ, ofZ}
 use mir.Facts.{toZ-pos, toZ-ofZ}
 use borrow.Author.Tests.{lt-ltb, le-ltb, leb-true, leb-false}
-use Rattle.paper.proofs.Cases.{byLt}
 use Rattle.paper.specs.Limits.{tableBlock}
-use Rattle.order.specs.Order.{placeIn}
+use Rattle.paper.proofs.Cases.{byLt}
+use Rattle.order.specs.Steps.{placeIn}
 
 -- a − b is not negative where b is at most a, and negative where it is more
 pub minus-within : (a b : ℕ) → b ≤ a → subℕ a b ≡ pos (a - b)

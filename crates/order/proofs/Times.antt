@@ -8,23 +8,23 @@ use native.Mathlib.Omega.{arith}
 use native.Mathlib.Nat.{add-zero, zero-add, add-suc, suc-add, add-assoc}
 use lib.Dec.{ltb, eqb}
 use borrow.Author.Tests.{lt-ltb, le-ltb, eq-eqb, ne-eqb}
-use Rattle.paper.specs.Checks.{pick}
+use Rattle.paper.specs.Checks.{oneIf}
 use Rattle.paper.proofs.Cases.{byLt, byEq}
+use Rattle.seek.specs.Count.{times}
 use Rattle.seek.specs.Search.{rising}
-use Rattle.order.specs.Order.{countIn}
 
 -- 1 where two numbers are the same, and 1 where the first is below the second
 abbrev pub same : ℕ → ℕ → ℕ
-same q x = pick (eqb q x) 1 0
+same q x = oneIf (eqb x q)
 
 abbrev pub below : ℕ → ℕ → ℕ
-below q n = pick (ltb q n) 1 0
+below q n = oneIf (ltb q n)
 
 pub same-yes : (q x : ℕ) → q ≡ x → same q x ≡ 1
-same-yes q x e = rw (eq-eqb q x e)
+same-yes q x e = rw (eq-eqb x q (sym e))
 
 pub same-no : (q x : ℕ) → (q ≡ x → ⊥) → same q x ≡ 0
-same-no q x e = rw (ne-eqb q x e)
+same-no q x e = rw (ne-eqb x q (λ f. e (sym f)))
 
 pub below-yes : (q n : ℕ) → q < n → below q n ≡ 1
 below-yes q n h = rw (lt-ltb q n h)
@@ -48,20 +48,24 @@ below-more q n =
     (λ h. omega (arith, same-no q n e, below-yes q n h, below-yes q (suc n) (omega arith)))
     (λ h. omega (arith, same-no q n e, below-no q n h, below-no q (suc n) (omega arith))))
 
-pub countIn-append : (q : ℕ) (xs ys : List ℕ) → countIn q (xs ++ ys) ≡ countIn q xs + countIn q ys
-unfolding countIn
-countIn-append q [] ys = sym (zero-add (countIn q ys))
-countIn-append q (x ∷ xs) ys = rw (countIn-append q xs ys) (sym (add-assoc (same q x) (countIn q xs) (countIn q ys)))
+pub times-none : (q : ℕ) → times q [] ≡ 0
+unfolding times
+times-none q = refl
+
+pub times-append : (q : ℕ) (xs ys : List ℕ) → times q (xs ++ ys) ≡ times q xs + times q ys
+unfolding times
+times-append q [] ys = sym (zero-add (times q ys))
+times-append q (x ∷ xs) ys = rw (times-append q xs ys) (sym (add-assoc (same q x) (times q xs) (times q ys)))
 
 -- a number that stands somewhere is counted, and one that is counted stands somewhere
-pub member-counts : (q : ℕ) (xs : List ℕ) → List·Memᴰ q xs → 0 < countIn q xs
-unfolding countIn
+pub member-counts : (q : ℕ) (xs : List ℕ) → List·Memᴰ q xs → 0 < times q xs
+unfolding times
 member-counts q [] m = absurd (List·Memᴰ·not-nil m)
 member-counts q (x ∷ xs) m =
     ⊎-elim (λ e. omega (arith, same-yes q x e)) (λ later. omega (arith, member-counts q xs later)) (List·Memᴰ·cases-cons m)
 
-pub counts-member : (q : ℕ) (xs : List ℕ) → 0 < countIn q xs → List·Memᴰ q xs
-unfolding countIn
+pub counts-member : (q : ℕ) (xs : List ℕ) → 0 < times q xs → List·Memᴰ q xs
+unfolding times
 counts-member q [] some = absurd (omega arith)
 counts-member q (x ∷ xs) some =
     byEq q x
@@ -69,21 +73,21 @@ counts-member q (x ∷ xs) some =
     (λ e. List·Memᴰ·tail (counts-member q xs (omega (arith, same-no q x e))))
 
 -- a rising run has each number from its first to its last once
-pub rising-once : (q first count : ℕ) → countIn q (rising first count) + below q first ≡ below q (first + count)
-unfolding countIn rising
+pub rising-once : (q first count : ℕ) → times q (rising first count) + below q first ≡ below q (first + count)
+unfolding times rising
 rising-once q first zero = rw (add-zero first) (zero-add (below q first))
 rising-once q first (suc count) =
     rw (add-suc first count, ← suc-add first count)
     (omega (arith, rising-once q (suc first) count, below-more q first))
 
 -- a list moved by a base has what it had, moved
-pub moved-once : (q base : ℕ) (xs : List ℕ) → base ≤ q → countIn q (map (λ (k : ℕ). base + k) xs) ≡ countIn (q - base) xs
-unfolding countIn
+pub moved-once : (q base : ℕ) (xs : List ℕ) → base ≤ q → times q (map (λ (k : ℕ). base + k) xs) ≡ times (q - base) xs
+unfolding times
 moved-once q base [] h = refl
 moved-once q base (x ∷ xs) h =
     rw (moved-once q base xs h, same-alike q (base + x) (q - base) x (λ e. omega arith) (λ e. omega arith))
 
-pub moved-none : (q base : ℕ) (xs : List ℕ) → q < base → countIn q (map (λ (k : ℕ). base + k) xs) ≡ 0
-unfolding countIn
+pub moved-none : (q base : ℕ) (xs : List ℕ) → q < base → times q (map (λ (k : ℕ). base + k) xs) ≡ 0
+unfolding times
 moved-none q base [] h = refl
 moved-none q base (x ∷ xs) h = rw (moved-none q base xs h, same-no q (base + x) (λ e. omega arith))

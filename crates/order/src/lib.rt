@@ -6,13 +6,13 @@ ghost use lib.IntN.{pos, natAbs, _+ℤ_};
 ghost use lib.ListN.{take, drop};
 ghost use Rattle.paper.specs.Limits.{tableBlock};
 ghost use Rattle.seek.specs.Search.{firstOr, rising};
-ghost use Rattle.order.specs.Order.{turns, offsetOf, placeIn, isFree, freeAt, blockOrder, firstFree};
+ghost use Rattle.order.specs.Order.{isFree, freeAt, blockOrder, firstFree};
+ghost use Rattle.order.specs.Steps.{turns, offsetOf, placeIn};
+use layout::CODE_UNIT;
+use layout::FREE;
+use layout::NULL;
 use paper::TABLE_BLOCK;
 
-// A free descriptor: code 0 with number 0.
-const FREE: u32 = 0;
-// A null descriptor: code 8 with number 0.
-const NULL: u32 = 0x8000_0000;
 // How many offsets an outward search tries: 0, and each distance below the block's length to both sides.
 const TURNS: u32 = 2 * TABLE_BLOCK as u32 - 1;
 
@@ -25,7 +25,7 @@ fn turns_agree()
 fn is_free(word: u32) -> bool
     ensures { λ result. ⌜ result ≡ isFree word ⌝ }
 {
-    word == FREE
+    word == FREE * CODE_UNIT
 }
 
 // The signed offset that a turn of the outward search tries: 0, +1, −1, +2, −2 and so on.
@@ -61,7 +61,7 @@ fn hold(table: &[u32], start: usize) -> [u32; TABLE_BLOCK]
     requires { do ⌜ start + tableBlock ≤ (← ⟦table.len()⟧) ⌝ }
     ensures { λ result. ⌜ result ≡ take tableBlock (drop start (now (table .entry))) ⌝ }
 {
-    let mut held = [NULL; TABLE_BLOCK];
+    let mut held = [NULL * CODE_UNIT; TABLE_BLOCK];
     let mut i = 0;
     while i < TABLE_BLOCK {
         held[i] = table[start + i];

@@ -19,18 +19,18 @@ use Rattle.layout.specs.Layouts.{spared, driveOf, driveFault}
 use Rattle.layout.specs.Descriptors.{free, atPrimary, elsewhere, unusable, null}
 use Rattle.table.specs.Rules.{tableFault, blockFault, BlockJudged}
 use Rattle.table.specs.Places.{codeAt, tableLength}
-use Rattle.table.specs.Steps.{obeys}
+use Rattle.table.specs.Steps.{obeys, Obeys}
 use Rattle.table.specs.Lookup.{Replaced, isReplaced}
-use Rattle.table.proofs.Lookups.{tells-replaced}
-use Rattle.replacing.specs.Replacing.{spareFor, NoneFree, replacedIn, Altered}
 use Rattle.table.specs.Counting.{codeCount}
-use Rattle.replacing.proofs.Replacements.{tells-none-free, replacement-alters}
-use Rattle.replacing.proofs.Censuses.{free-less, code-more, others-counted}
+use Rattle.table.proofs.Lookups.{tells-replaced}
 use Rattle.table.proofs.Censuses.{five-counts}
+use Rattle.table.proofs.Exact.{Ready, table-ready, table-passes, block-ready, block-below, block-exactly}
+use Rattle.replacing.specs.Replacing.{spareFor, NoneFree, replacedIn, Altered}
+use Rattle.replacing.proofs.Replacements.{tells-none-free, spare-free, stored-obeys, replacement-alters}
+use Rattle.replacing.proofs.Censuses.{free-less, code-more, others-counted}
 use Rattle.spares.specs.Spares.{replaceFault}
 use Rattle.spares.specs.History.{tableAfter}
 use Rattle.spares.proofs.Exact.{replace-exactly}
-use Rattle.table.proofs.Exact.{Ready, table-ready, table-passes, block-ready, block-below, block-exactly}
 
 -- a chain gives no number above those of its checks
 refuse-few : (test : Bool) (number most : ℕ) → number ≤ most → refuse test number ≤ most
@@ -117,6 +117,15 @@ module _ (shape : Shape) (r : ℕ) (t : List ℕ) where
     pub refusal-leaves : (replaceFault shape r t b ≡ 0 → ⊥) → tableAfter shape r t b ≡ t
     refusal-leaves some = answer-refused (replaceFault shape r t b) (λ k. t) (replacedIn (driveOf shape r) t b) some
 
+    -- it obeys the rules
+    pub replace-obeys : replaceFault shape r t b ≡ 0 → Obeys (driveOf shape r) (tableAfter shape r t b)
+    replace-obeys none =
+        let block = replace-block none in
+        let ready = block-ready shape r t b block in
+        let below = block-below shape r t b block in
+        let found = replace-spare none in
+        rw (replace-leaves none) (stored-obeys (ready .laid) (ready .obeys) below found (spare-free (ready .laid) (ready .obeys) below found) (replace-at-home none))
+
     -- one descriptor is altered, which was free, and every other block lies where it lay
     pub replace-alters : replaceFault shape r t b ≡ 0 → Altered (driveOf shape r) t b (spareFor (driveOf shape r) t b) (tableAfter shape r t b)
     replace-alters none =
@@ -129,7 +138,7 @@ module _ (shape : Shape) (r : ℕ) (t : List ℕ) where
     after-passes none =
         byFault (replaceFault shape r t b)
         (λ accepted.
-        table-passes shape r (tableAfter shape r t b) (orElse-first (driveFault shape r) _ none) (replace-alters accepted .obeys))
+        table-passes shape r (tableAfter shape r t b) (orElse-first (driveFault shape r) _ none) (replace-obeys accepted))
         (λ refused. rw (refusal-leaves refused) none)
 
     -- an accepted call takes one free place, and the code of the place has one more

@@ -1,25 +1,18 @@
--- Each chain of checks of `spares` gives exactly the numbers of its rows, and a chain that gives 0 shows what it checks.
+-- Each chain of checks of `spares` gives exactly the numbers of its rows.
 -- Assumes nothing.
 use Prim.Native.Nat.{ℕ, _*_, _<_, _≤_}
-use mathlib.Core.Path.{_≡_}
 use mathlib.Core.List.{List}
-use native.Mathlib.Omega.{arith}
-use Rattle.paper.specs.Refusals.{noSuchBlock, noSuchSector, alreadyReplaced, noSpare}
+use Rattle.paper.specs.Refusals.{noSuchSector, alreadyReplaced, noSpare}
 use Rattle.paper.specs.Exactly.{Exactly, When, _andThen_}
-use Rattle.paper.proofs.Cases.{byLt}
-use Rattle.paper.proofs.Chain.{orElse-first, orElse-next}
-use Rattle.paper.proofs.Rows.{tells-le, passed-not, row, rows, rows-passed}
+use Rattle.paper.proofs.Rows.{tells-le, row, rows, rows-passed}
 use Rattle.shape.specs.declared.Shape.{Shape}
-use Rattle.shape.specs.Shapes.{Shaped, sizeOf}
+use Rattle.shape.specs.Shapes.{sizeOf}
 use Rattle.shape.specs.Addresses.{OffDriveJudged}
 use Rattle.shape.proofs.Exact.{place-exactly}
-use Rattle.layout.specs.Layouts.{Spared, driveOf, sectorsPerTrack, driveFault}
-use Rattle.layout.specs.Steps.{Laid}
+use Rattle.layout.specs.Layouts.{Spared, driveOf, sectorsPerTrack}
 use Rattle.layout.proofs.Layings.{drive-whole}
-use Rattle.layout.proofs.Exact.{drive-shows}
 use Rattle.table.specs.Rules.{TableJudged, BlockJudged}
 use Rattle.table.specs.Lookup.{Replaced}
-use Rattle.table.proofs.Obeying.{obeys-told}
 use Rattle.table.proofs.Exact.{table-exactly, block-ready, block-below, block-exactly}
 use Rattle.table.proofs.Lookups.{tells-replaced}
 use Rattle.replacing.specs.Replacing.{NoneFree}
@@ -31,16 +24,15 @@ pub sector-within : {shape : Shape} {r s : ℕ} → Spared shape r → s < sizeO
 sector-within drives below = rw (drive-whole drives) below
 
 module _ (shape : Shape) (r : ℕ) (t : List ℕ) where
-  module _ (b : ℕ) where
-    pub replace-exactly : Exactly (ReplaceJudged shape r t b) (replaceFault shape r t b)
-    replace-exactly =
-        rows-passed (BlockJudged shape r t b) (When alreadyReplaced (Replaced t b) andThen When noSpare (NoneFree t))
-        (block-exactly shape r t b)
-        (λ none.
-        let ready = block-ready shape r t b none in
-        rows (When alreadyReplaced (Replaced t b)) (When noSpare (NoneFree t))
-        (row (tells-replaced t b) alreadyReplaced)
-        (row (tells-none-free (ready .laid) (ready .obeys) (block-below shape r t b none)) noSpare))
+  pub replace-exactly : (b : ℕ) → Exactly (ReplaceJudged shape r t b) (replaceFault shape r t b)
+  replace-exactly b =
+      rows-passed (BlockJudged shape r t b) (When alreadyReplaced (Replaced t b) andThen When noSpare (NoneFree t))
+      (block-exactly shape r t b)
+      (λ none.
+      let ready = block-ready shape r t b none in
+      rows (When alreadyReplaced (Replaced t b)) (When noSpare (NoneFree t))
+      (row (tells-replaced t b) alreadyReplaced)
+      (row (tells-none-free (ready .laid) (ready .obeys) (block-below shape r t b none)) noSpare))
 
   pub block-on-exactly : (s : ℕ) → Exactly (BlockOnJudged shape r t s) (blockOnFault shape r t s)
   block-on-exactly s =

@@ -11,10 +11,10 @@ use Rattle.seek.specs.Every.{allBelow}
 use Rattle.shape.specs.declared.Shape.{Shape}
 use Rattle.layout.specs.Layouts.{driveOf}
 use Rattle.table.specs.Lookup.{placeOf}
+use Rattle.table.specs.Rules.{blockFault}
 use Rattle.spares.specs.declared.Shifted.{Shifted}
 use Rattle.spares.specs.declared.Shifted.the-variants.{By, Refused}
 use Rattle.spares.specs.Spares.{shiftOf}
-use Rattle.table.specs.Rules.{blockFault}
 
 -- what `spares::shift` answers
 abbrev shifted : Shape → ℕ → List ℕ → ℕ → Shifted

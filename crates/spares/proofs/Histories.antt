@@ -11,11 +11,11 @@ use Rattle.layout.specs.Layouts.{driveOf, driveFault}
 use Rattle.layout.specs.Descriptors.{free}
 use Rattle.table.specs.Rules.{tableFault}
 use Rattle.table.specs.Counting.{codeCount}
-use Rattle.first_table.specs.Marks.{badSpares, badHomes}
-use Rattle.first_table.specs.First.{firstTable, firstTableFault}
-use Rattle.first_table.proofs.Exact.{first-made}
-use Rattle.spares.specs.History.{Call, reads, replaces, afterCall, acceptedBy, afterAll, accepted}
 use Rattle.table.proofs.Exact.{table-passes}
+use Rattle.first_table.specs.Marks.{badSpares, badHomes}
+use Rattle.first_table.specs.Tables.{firstTable, firstTableFault}
+use Rattle.first_table.proofs.Exact.{first-obeys, first-made}
+use Rattle.spares.specs.History.{Call, reads, replaces, afterCall, acceptedBy, afterAll, accepted}
 use Rattle.spares.proofs.Accepted.{after-passes, free-after}
 
 module _ (shape : Shape) (r : ℕ) where
@@ -42,7 +42,7 @@ module _ (shape : Shape) (r : ℕ) where
   module _ (list room : List ℕ) (none : firstTableFault shape r list room ≡ 0) where
     -- a first table passes
     pub first-passes : tableFault shape r (firstTable (driveOf shape r) list) ≡ 0
-    first-passes = table-passes shape r (firstTable (driveOf shape r) list) (orElse-first (driveFault shape r) _ none) (first-made shape r list room none .obeys)
+    first-passes = table-passes shape r (firstTable (driveOf shape r) list) (orElse-first (driveFault shape r) _ none) (first-obeys shape r list room none)
 
     -- of the spares, the bad ones, those that the bad homes took and those that accepted calls took are free no more
     pub census-law :

@@ -15,8 +15,8 @@ use Rattle.shape.specs.Promises.{GivesLocated}
 use Rattle.layout.specs.Layouts.{driveOf}
 use Rattle.table.specs.Rules.{tableFault, blockFault}
 use Rattle.table.specs.Lookup.{liesOn, lyingOn}
-use Rattle.replacing.specs.Replacing.{spareFor, replacedIn}
 use Rattle.table.specs.Counting.{censusOf}
+use Rattle.replacing.specs.Replacing.{spareFor, replacedIn}
 use Rattle.spares.specs.declared.Shifted.{Shifted}
 use Rattle.spares.specs.declared.Shifted.the-variants.{By, Refused as NotShifted}
 use Rattle.spares.specs.declared.Replaced.{Replaced}
@@ -49,18 +49,23 @@ saidCounted (NotCounted fault) = (fault, 0, 0, 0, 0, 0)
 abbrev pub GivesCounted : ℕ → Counted → Counted → Type 0
 GivesCounted = Gives saidCounted (λ fault. (fault, 0, 0, 0, 0, 0)) NotCounted
 
+-- the sector that a block lies on
 abbrev pub SectorOf : Shape → ℕ → List ℕ → ℕ → Placed → Type 0
 SectorOf shape r t b = GivesPlaced (blockFault shape r t b) (At (liesOn (driveOf shape r) t b))
 
+-- the cylinder, head and sector that a block lies on
 abbrev pub AddressOf : Shape → ℕ → List ℕ → ℕ → Located → Type 0
 AddressOf shape r t b = GivesLocated (blockFault shape r t b) (LocatedAt (addressAt shape (liesOn (driveOf shape r) t b)))
 
+-- how many cylinders a block is shifted
 abbrev pub ShiftOf : Shape → ℕ → List ℕ → ℕ → Shifted → Type 0
 ShiftOf shape r t b = GivesShifted (blockFault shape r t b) (By (shiftOf (driveOf shape r) t b))
 
+-- the block that lies on a sector, or none
 abbrev pub BlockOn : Shape → ℕ → List ℕ → ℕ → Named → Type 0
 BlockOn shape r t s = GivesNamed (blockOnFault shape r t s) (lyingOn (driveOf shape r) t s)
 
+-- the block that lies on the sector with a cylinder, a head and a sector of a track, or none
 abbrev pub BlockAt : Shape → ℕ → List ℕ → ℕ → ℕ → ℕ → Named → Type 0
 BlockAt shape r t cylinder head sector =
     GivesNamed (blockAtFault shape r t cylinder head sector) (lyingOn (driveOf shape r) t (sectorAt shape cylinder head sector))
@@ -69,5 +74,6 @@ BlockAt shape r t cylinder head sector =
 abbrev pub Replacement : Shape → ℕ → List ℕ → ℕ → Replaced → List ℕ → Type 0
 Replacement shape r t b = FillsReplaced (replaceFault shape r t b) (Place (spareFor (driveOf shape r) t b)) t (replacedIn (driveOf shape r) t b)
 
+-- how many places of the table have each code
 abbrev pub CensusOf : Shape → ℕ → List ℕ → Counted → Type 0
 CensusOf shape r t = GivesCounted (tableFault shape r t) (Counts (censusOf t))

@@ -5,8 +5,8 @@ ghost use lib.IntN.{pos, _-ℤ_};
 ghost use Rattle.paper.specs.Limits.{unitsMost};
 ghost use Rattle.layout.specs.Steps.{Laid};
 ghost use Rattle.table.specs.Steps.{Obeys};
-ghost use Rattle.spares.specs.Spares.{shiftOf};
 ghost use Rattle.first_table.specs.Promises.{FirstTable};
+ghost use Rattle.spares.specs.Spares.{shiftOf};
 ghost use Rattle.spares.specs.Promises.{SectorOf, AddressOf, ShiftOf, BlockOn, BlockAt, Replacement, CensusOf};
 use layout::Drive;
 use paper::ALREADY_REPLACED;
@@ -70,8 +70,8 @@ fn cylinders_between(home: u32, spare: u32) -> i32
     spare as i32 - home as i32
 }
 
-// The shift of a block. Only other crates call this.
-pub fn shift_of(drive: Drive, table: &[u32], block: u32) -> i32
+// The shift of a block.
+fn shift_of(drive: Drive, table: &[u32], block: u32) -> i32
     requires { ⌜ Laid drive ⌝ }
     requires { ⌜ Obeys drive (now table) ⌝ }
     requires { ⌜ block < drive .blocks ⌝ }

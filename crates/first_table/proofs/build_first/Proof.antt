@@ -1,18 +1,18 @@
 -- `first_table::build_first` meets its contract: where a check refuses nothing is written, and where none does the checks show what the table needs.
 -- Assumes nothing.
 use borrow.Author.Needs.{needs}
-use mathlib.Core.Path.{_≡_, sym, _∙_, ap}
+use mathlib.Core.Path.{_≡_, refl, sym, _∙_, ap}
 use native.Mathlib.Omega.{arith}
 use denote.Ref.{now}
 use Rattle.paper.specs.Promise.{written}
+use Rattle.paper.proofs.Kept.{fills-refuses, fills-accepts}
 use Rattle.layout.specs.declared.Drive.{Drive}
 use Rattle.layout.specs.Layouts.{driveOf}
 use Rattle.layout.proofs.Layings.{laid}
 use Rattle.table.specs.Places.{tableLength}
 use Rattle.table.proofs.Obeying.{table-few}
-use Rattle.first_table.specs.First.{firstTable}
+use Rattle.first_table.specs.Tables.{firstTable}
 use Rattle.first_table.proofs.Exact.{laid-proper, first-shows}
-use Rattle.first_table.proofs.Says.{first-refused, first-accepted}
 use Rattle.first_table.proofs.build_first.Statement.{statement}
 use Rattle.first_table.proofs.build_first.Tie as tie
 
@@ -23,9 +23,7 @@ same-length : tie.Need-same-length
 same-length c = search needs
 
 returns : tie.Need-returns
-returns c =
-    let a = c .before .before .before .before .before .args in
-    first-refused (a .shape) (a .r) (now (a .list)) (now (a .room)) (c .before .first-table-fault .result) (sym (c .before .first-table-fault .ensures)) (c .if1 .taken)
+returns c = fills-refuses (λ k. refl) _ (sym (c .before .first-table-fault .ensures)) (c .if1 .taken)
 
 drive-of-requires : tie.Need-drive-of-requires
 drive-of-requires c κs =
@@ -59,7 +57,8 @@ returns-2 : tie.Need-returns-2
 returns-2 c =
     let a = c .before .before .before .before .before .before .before .before .before .before .before .args in
     let long : c .table-length .result ≡ tableLength (driveOf (a .shape) (a .r)) = c .table-length .ensures ∙ ap tableLength (c .before .before .before .before .before .drive-of .ensures) in
-    first-accepted (a .shape) (a .r) (now (a .list)) (now (a .room)) (c .table-length .result) _ (sym (c .before .before .before .before .before .before .before .first-table-fault .ensures) ∙ c .before .before .before .before .before .before .if1 .left) long (c .before .before .before .build .ensures ∙ ap (λ (drive : Drive). written (firstTable drive (now (a .list))) (now (a .room))) (c .before .before .before .before .before .drive-of .ensures))
+    fills-accepts (λ k. refl) (sym (c .before .before .before .before .before .before .before .first-table-fault .ensures) ∙ c .before .before .before .before .before .before .if1 .left) (rw long)
+    (c .before .before .before .build .ensures ∙ ap (λ (drive : Drive). written (firstTable drive (now (a .list))) (now (a .room))) (c .before .before .before .before .before .drive-of .ensures))
 
 pub build-first-spec : {M : Type 1} → statement M
 build-first-spec =

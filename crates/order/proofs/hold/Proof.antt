@@ -26,20 +26,23 @@ filled table held start i here there so-far =
     let left : i < length (drop start table) = rw length-drop (omega arith) in
     rw (add-one i, take-suc-set held i (getD table (start + i) 0) here, take-suc (drop start table) i 0 left, getD-drop, so-far)
 
+mul-held : tie.Need-mul-held Inv-loop μ-loop
+mul-held c = omega arith
+
 loop-holds : tie.Need-loop-holds Inv-loop μ-loop
 loop-holds c = (omega arith, refl, refl)
 
 add-held : tie.Need-add-held Inv-loop μ-loop
 add-held c = omega arith
 
-mul-held : tie.Need-mul-held Inv-loop μ-loop
-mul-held c = omega arith
+mul-held-2 : tie.Need-mul-held-2 Inv-loop μ-loop
+mul-held-2 c = omega arith
 
 shared-slice-read-held : tie.Need-shared-slice-read-held Inv-loop μ-loop
 shared-slice-read-held c = omega arith
 
-mul-held-2 : tie.Need-mul-held-2 Inv-loop μ-loop
-mul-held-2 c = omega arith
+mul-held-3 : tie.Need-mul-held-3 Inv-loop μ-loop
+mul-held-3 c = omega arith
 
 array-write-held : tie.Need-array-write-held Inv-loop μ-loop
 array-write-held c = omega arith
@@ -74,11 +77,12 @@ hold-spec =
     (tie.spec
     Inv-loop
     μ-loop
+    mul-held
     loop-holds
     add-held
-    mul-held
-    shared-slice-read-held
     mul-held-2
+    shared-slice-read-held
+    mul-held-3
     array-write-held
     add-i
     loop-less

@@ -7,9 +7,10 @@ use borrow.Author.Needs.{needs}
 use lib.IntN.{ℤ, pos, _+ℤ_}
 use Rattle.paper.specs.Limits.{tableBlock}
 use Rattle.seek.specs.Search.{firstOr}
-use Rattle.order.specs.Order.{turns, placeIn, blockOrder, freeAt}
+use Rattle.order.specs.Order.{blockOrder, freeAt}
+use Rattle.order.specs.Steps.{turns, placeIn}
 use Rattle.order.proofs.Signs.{read-again}
-use Rattle.order.proofs.Turns.{offset-short, placeAt, tried, tried-all, turn-passed, turn-fails, turn-stops, turns-over}
+use Rattle.order.proofs.Turns.{offset-short, triedAt, tried, tried-all, turn-passed, turn-fails, turn-stops, turns-over}
 use Rattle.order.proofs.search_block.Statement.{statement}
 use Rattle.order.proofs.search_block.Tie as tie
 
@@ -35,7 +36,7 @@ place-in-requires c κs = (
 -- the place that the turn tries
 placed :
     (c : tie.After-place-in Inv-loop μ-loop) →
-    c .place-in .result ≡ placeAt (c .before .before .before .before .args .o) (c .before .before .before .loop .turn)
+    c .place-in .result ≡ placeIn (triedAt (c .before .before .before .before .args .o) (c .before .before .before .loop .turn))
 placed c =
     let offset = c .before .offset-of in
     c .place-in .ensures

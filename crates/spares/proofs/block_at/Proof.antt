@@ -3,14 +3,12 @@
 use borrow.Author.Needs.{needs}
 use mathlib.Core.Path.{sym, _∙_, refl}
 use denote.Ref.{now}
-use Rattle.paper.proofs.Chain.{orElse-some, answer-refused}
-use Rattle.paper.proofs.Kept.{gives}
+use Rattle.paper.proofs.Chain.{orElse-some}
+use Rattle.paper.proofs.Kept.{refuses, accepts}
 use Rattle.shape.proofs.Exact.{place-shows}
 use Rattle.shape.proofs.Bounds.{sector-below}
-use Rattle.layout.specs.Layouts.{driveOf}
-use Rattle.shape.specs.Addresses.{sectorAt}
-use Rattle.spares.proofs.Exact.{sector-within}
 use Rattle.table.proofs.Exact.{table-ready}
+use Rattle.spares.proofs.Exact.{sector-within}
 use Rattle.spares.proofs.block_at.Statement.{statement}
 use Rattle.spares.proofs.block_at.Tie as tie
 
@@ -18,17 +16,13 @@ table-fault-requires : tie.Need-table-fault-requires
 table-fault-requires c κs = search needs
 
 returns : tie.Need-returns
-returns c =
-    let a = c .before .before .before .args in
-    gives (λ k. refl) (rw (← c .before .table-fault .ensures, orElse-some _ _ (c .if1 .taken)) (sym (answer-refused _ _ _ (c .if1 .taken))))
+returns c = refuses (λ k. refl) _ (rw (← c .before .table-fault .ensures) (orElse-some _ _ (c .if1 .taken))) (c .if1 .taken)
 
 off-drive-fault-requires : tie.Need-off-drive-fault-requires
 off-drive-fault-requires c κs = search needs
 
 returns-2 : tie.Need-returns-2
-returns-2 c =
-    let a = c .before .before .before .before .before .args in
-    gives (λ k. refl) (rw (← c .before .before .before .table-fault .ensures, c .before .before .if1 .left, ← c .before .off-drive-fault .ensures) (sym (answer-refused _ _ _ (c .if2 .taken))))
+returns-2 c = refuses (λ k. refl) _ (rw (← c .before .before .before .table-fault .ensures, c .before .before .if1 .left) (sym (c .before .off-drive-fault .ensures))) (c .if2 .taken)
 
 sector-at-requires : tie.Need-sector-at-requires
 sector-at-requires c κs =
@@ -51,8 +45,9 @@ lying-on-requires c κs =
 
 returns-3 : tie.Need-returns-3
 returns-3 c =
-    let a = c .before .before .before .before .before .before .before .before .args in
-    gives (λ k. refl) (rw (← c .before .before .before .before .before .before .table-fault .ensures, c .before .before .before .before .before .if1 .left, ← c .before .before .before .before .off-drive-fault .ensures, c .before .before .before .if2 .left, c .lying-on .ensures, c .before .drive-of .ensures, c .before .before .sector-at .ensures))
+    accepts (λ k. refl)
+    (rw (← c .before .before .before .before .before .before .table-fault .ensures, c .before .before .before .before .before .if1 .left) (sym (c .before .before .before .before .off-drive-fault .ensures) ∙ c .before .before .before .if2 .left))
+    (rw (c .lying-on .ensures, c .before .drive-of .ensures, c .before .before .sector-at .ensures))
 
 pub block-at-spec : {M : Type 1} → statement M
 block-at-spec =

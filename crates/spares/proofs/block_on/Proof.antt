@@ -4,14 +4,13 @@ use borrow.Author.Needs.{needs}
 use mathlib.Core.Path.{sym, _∙_, refl}
 use Prim.Native.Nat.{_<_, _≤_}
 use native.Mathlib.Omega.{arith}
-use Rattle.shape.specs.Shapes.{sizeOf}
 use borrow.Author.Tests.{le-leb, lt-leb}
 use denote.Ref.{now}
-use Rattle.paper.proofs.Chain.{orElse-some, answer-refused}
-use Rattle.paper.proofs.Kept.{gives}
-use Rattle.layout.specs.Layouts.{driveOf}
-use Rattle.spares.proofs.Exact.{sector-within}
+use Rattle.paper.proofs.Chain.{orElse-some}
+use Rattle.paper.proofs.Kept.{refuses, accepts}
+use Rattle.shape.specs.Shapes.{sizeOf}
 use Rattle.table.proofs.Exact.{table-ready}
+use Rattle.spares.proofs.Exact.{sector-within}
 use Rattle.spares.proofs.block_on.Statement.{statement}
 use Rattle.spares.proofs.block_on.Tie as tie
 
@@ -19,9 +18,7 @@ table-fault-requires : tie.Need-table-fault-requires
 table-fault-requires c κs = search needs
 
 returns : tie.Need-returns
-returns c =
-    let a = c .before .before .before .args in
-    gives (λ k. refl) (rw (← c .before .table-fault .ensures, orElse-some _ _ (c .if1 .taken)) (sym (answer-refused _ _ _ (c .if1 .taken))))
+returns c = refuses (λ k. refl) _ (rw (← c .before .table-fault .ensures) (orElse-some _ _ (c .if1 .taken))) (c .if1 .taken)
 
 size-of-requires : tie.Need-size-of-requires
 size-of-requires c κs =
@@ -31,9 +28,8 @@ size-of-requires c κs =
 
 returns-2 : tie.Need-returns-2
 returns-2 c =
-    let a = c .before .before .before .before .before .args in
-    let past : c .before .size-of .result ≤ a .sector = omega arith in
-    gives (λ k. refl) (rw (← c .before .before .before .table-fault .ensures, c .before .before .if1 .left, ← c .before .size-of .ensures, le-leb _ _ past))
+    let past : c .before .size-of .result ≤ c .before .before .before .before .before .args .sector = omega arith in
+    refuses (λ k. refl) _ (rw (← c .before .before .before .table-fault .ensures, c .before .before .if1 .left, ← c .before .size-of .ensures, le-leb _ _ past)) (omega arith)
 
 drive-of-requires : tie.Need-drive-of-requires
 drive-of-requires c κs =
@@ -50,9 +46,8 @@ lying-on-requires c κs =
 
 returns-3 : tie.Need-returns-3
 returns-3 c =
-    let a = c .before .before .before .before .before .before .before .args in
-    let below : a .sector < c .before .before .before .size-of .result = omega arith in
-    gives (λ k. refl) (rw (← c .before .before .before .before .before .table-fault .ensures, c .before .before .before .before .if1 .left, ← c .before .before .before .size-of .ensures, lt-leb _ _ below, c .lying-on .ensures, c .before .drive-of .ensures))
+    let below : c .before .before .before .before .before .before .before .args .sector < c .before .before .before .size-of .result = omega arith in
+    accepts (λ k. refl) (rw (← c .before .before .before .before .before .table-fault .ensures, c .before .before .before .before .if1 .left, ← c .before .before .before .size-of .ensures, lt-leb _ _ below)) (rw (c .lying-on .ensures, c .before .drive-of .ensures))
 
 pub block-on-spec : {M : Type 1} → statement M
 block-on-spec =

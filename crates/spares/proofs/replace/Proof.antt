@@ -6,14 +6,14 @@ use lib.ListN.{set}
 use native.Mathlib.Omega.{arith}
 use borrow.Author.Tests.{le-leb, lt-leb, lt-ltb, le-ltb}
 use denote.Ref.{now}
-use Rattle.paper.proofs.Chain.{orElse-some, answer-refused}
-use Rattle.paper.proofs.Kept.{fills}
-use Rattle.table.proofs.Obeying.{table-few}
+use Rattle.paper.proofs.Chain.{orElse-some}
+use Rattle.paper.proofs.Kept.{fills-refuses, fills-accepts}
 use Rattle.layout.specs.Layouts.{driveOf}
+use Rattle.table.proofs.Obeying.{table-few}
+use Rattle.table.proofs.Exact.{block-ready, block-below}
 use Rattle.replacing.specs.Replacing.{spareFor, descriptorAt, replacedIn}
 use Rattle.spares.specs.declared.Replaced.the-variants.{Place}
 use Rattle.spares.proofs.Accepted.{replace-twice, replace-fails, replace-passes}
-use Rattle.table.proofs.Exact.{block-ready, block-below}
 use Rattle.spares.proofs.replace.Statement.{statement}
 use Rattle.spares.proofs.replace.Tie as tie
 
@@ -24,7 +24,7 @@ same-length : tie.Need-same-length
 same-length c = search needs
 
 returns : tie.Need-returns
-returns c = fills (λ k. refl) (rw (← c .before .block-fault .ensures, orElse-some _ _ (c .if1 .taken)) (sym (answer-refused _ _ _ (c .if1 .taken)))) (rw (← c .before .block-fault .ensures, orElse-some _ _ (c .if1 .taken)) (sym (answer-refused _ _ _ (c .if1 .taken))))
+returns c = fills-refuses (λ k. refl) _ (rw (← c .before .block-fault .ensures) (orElse-some _ _ (c .if1 .taken))) (c .if1 .taken)
 
 place-of-requires : tie.Need-place-of-requires
 place-of-requires c κs = search needs
@@ -37,7 +37,7 @@ returns-2 c =
     let a = c .before .before .before .before .before .before .before .args in
     let none = sym (c .before .before .before .before .block-fault .ensures) ∙ c .before .before .before .if1 .left in
     let fault = replace-twice (a .shape) (a .r) (now (a .table)) (a .block) none (rw (← c .before .place-of .ensures) (lt-ltb _ _ (c .if2 .taken))) in
-    fills (λ k. refl) (rw fault) (rw fault)
+    fills-refuses (λ k. refl) _ fault (omega arith)
 
 drive-of-requires : tie.Need-drive-of-requires
 drive-of-requires c κs =
@@ -62,7 +62,7 @@ returns-3 c =
     let none = sym (c .before .before .before .before .before .before .before .before .block-fault .ensures) ∙ c .before .before .before .before .before .before .before .if1 .left in
     let found : c .before .spare-for .result ≡ spareFor (driveOf (a .shape) (a .r)) (now (a .table)) (a .block) = rw (c .before .before .before .drive-of .ensures) at (c .before .spare-for .ensures) in
     let fault = replace-fails (a .shape) (a .r) (now (a .table)) (a .block) none (rw (← c .before .before .before .before .before .place-of .ensures) (le-ltb _ _ (c .before .before .before .before .if2 .left))) (rw (← found) (le-leb _ _ (c .if3 .taken))) in
-    fills (λ k. refl) (rw fault) (rw fault)
+    fills-refuses (λ k. refl) _ fault (omega arith)
 
 store-requires : tie.Need-store-requires
 store-requires c κs =
@@ -88,7 +88,7 @@ returns-4 c =
     let found : c .before .before .before .before .before .spare-for .result ≡ spareFor (driveOf (a .shape) (a .r)) (now (a .table)) (a .block) = rw (c .before .before .before .before .before .before .before .drive-of .ensures) at (c .before .before .before .before .before .spare-for .ensures) in
     let fault = replace-passes (a .shape) (a .r) (now (a .table)) (a .block) none (rw (← c .before .before .before .before .before .before .before .before .before .place-of .ensures) (le-ltb _ _ (c .before .before .before .before .before .before .before .before .if2 .left))) (rw (← found) (lt-leb _ _ (c .before .before .before .before .if3 .left))) in
     let written : set (now (a .table)) (c .before .before .before .before .before .spare-for .result) (descriptorAt (c .before .before .before .before .before .before .before .drive-of .result) (c .before .before .before .before .before .spare-for .result) (a .block)) ≡ replacedIn (driveOf (a .shape) (a .r)) (now (a .table)) (a .block) = rw (found, c .before .before .before .before .before .before .before .drive-of .ensures) in
-    fills (λ k. refl) (rw fault (ap Place found)) (rw fault (c .before .before .store .ensures ∙ written))
+    fills-accepts (λ k. refl) fault (ap Place found) (c .before .before .store .ensures ∙ written)
 
 pub replace-spec : {M : Type 1} → statement M
 replace-spec =

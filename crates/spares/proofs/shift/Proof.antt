@@ -2,14 +2,13 @@
 -- Assumes nothing.
 use borrow.Author.Needs.{needs}
 use mathlib.Core.Path.{_≡_, sym, _∙_, ap, refl}
-use Rattle.order.proofs.Signs.{read-again}
+use denote.Ref.{now}
+use Rattle.paper.proofs.Kept.{refuses, accepts}
 use Rattle.layout.specs.Layouts.{driveOf}
+use Rattle.table.proofs.Exact.{block-ready, block-below}
+use Rattle.order.proofs.Signs.{read-again}
 use Rattle.spares.specs.declared.Shifted.the-variants.{By}
 use Rattle.spares.specs.Spares.{shiftOf}
-use denote.Ref.{now}
-use Rattle.paper.proofs.Chain.{answer-refused}
-use Rattle.paper.proofs.Kept.{gives}
-use Rattle.table.proofs.Exact.{block-ready, block-below}
 use Rattle.spares.proofs.shift.Statement.{statement}
 use Rattle.spares.proofs.shift.Tie as tie
 
@@ -17,7 +16,7 @@ block-fault-requires : tie.Need-block-fault-requires
 block-fault-requires c κs = search needs
 
 returns : tie.Need-returns
-returns c = gives (λ k. refl) (rw (← c .before .block-fault .ensures) (sym (answer-refused _ _ _ (c .if1 .taken))))
+returns c = refuses (λ k. refl) _ (sym (c .before .block-fault .ensures)) (c .if1 .taken)
 
 drive-of-requires : tie.Need-drive-of-requires
 drive-of-requires c κs =
@@ -37,7 +36,7 @@ returns-2 : tie.Need-returns-2
 returns-2 c =
     let a = c .before .before .before .before .before .args in
     let value : c .shift-of .result ≡ shiftOf (driveOf (a .shape) (a .r)) (now (a .table)) (a .block) = rw (c .before .drive-of .ensures) at (c .shift-of .ensures) in
-    gives (λ k. refl) (rw (← c .before .before .before .block-fault .ensures, c .before .before .if1 .left) (ap By (read-again _ (c .shift-of .ok) ∙ value)))
+    accepts (λ k. refl) (sym (c .before .before .before .block-fault .ensures) ∙ c .before .before .if1 .left) (ap By (read-again _ (c .shift-of .ok) ∙ value))
 
 pub shift-spec : {M : Type 1} → statement M
 shift-spec =

@@ -7,12 +7,12 @@ use native.Mathlib.Omega.{arith}
 use lib.ListN.{length}
 use borrow.Author.Tests.{lt-ltb, le-ltb}
 use lib.IntN.{pos, _-ℤ_}
-use Rattle.order.proofs.Signs.{read-again}
-use Rattle.spares.specs.Spares.{shiftOf}
 use denote.Ref.{now}
 use Rattle.paper.specs.Limits.{unitsMost}
 use Rattle.table.specs.Lookup.{placeOf}
 use Rattle.table.proofs.Lookups.{place-spare}
+use Rattle.order.proofs.Signs.{read-again}
+use Rattle.spares.specs.Spares.{shiftOf}
 use Rattle.spares.proofs.Shifts.{home-cylinder-few, spare-cylinder-few}
 use Rattle.spares.proofs.shift_of.Statement.{statement}
 use Rattle.spares.proofs.shift_of.Tie as tie

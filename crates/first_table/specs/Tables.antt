@@ -1,27 +1,25 @@
 -- Document 01, "Descriptors and spares": the first table of a list of bad sectors, its checks, and what holds of it.
-use Prim.Native.Nat.{ℕ, _-_, _<_, _≤_}
+use Prim.Native.Nat.{ℕ, _-_, _<_}
 use mathlib.Core.Path.{_≡_}
 use mathlib.Core.Bool.{true, false}
 use mathlib.Core.List.{List, [], _∷_}
 use lib.Dec.{ltb}
 use lib.ListN.{length, getD}
-use Rattle.paper.specs.Checks.{pick, refuse, _orElse_}
+use Rattle.paper.specs.Checks.{refuse, _orElse_}
 use Rattle.paper.specs.Refusals.{noRoom, noSpare}
 use Rattle.paper.specs.Exactly.{When, _andThen_}
 use Rattle.paper.specs.Conditions.{NoRoom}
-use Rattle.lists.specs.Proper.{Rising, Inside, listFault, ListJudged}
-use Rattle.lists.specs.Union.{isIn}
+use Rattle.lists.specs.Proper.{listFault, ListJudged}
 use Rattle.shape.specs.declared.Shape.{Shape}
 use Rattle.shape.specs.Shapes.{sizeOf}
 use Rattle.layout.specs.declared.Drive.{Drive}
 use Rattle.layout.specs.Layouts.{driveOf, driveFault, DriveJudged, homeSector, spareSector}
 use Rattle.layout.specs.Descriptors.{free, unusable, codeOf}
+use Rattle.table.specs.Rules.{Breaks}
 use Rattle.table.specs.Places.{tableLength}
-use Rattle.table.specs.Steps.{Obeys}
-use Rattle.table.specs.Lookup.{Replaced, liesOn}
-use Rattle.replacing.specs.Replacing.{replacedIn}
+use Rattle.table.specs.Lookup.{liesOn}
 use Rattle.table.specs.Counting.{codeCount}
-use Rattle.layout.specs.Sides.{isHome, blockOfHome}
+use Rattle.replacing.specs.Replacing.{replacedIn}
 use Rattle.first_table.specs.Marks.{isBadSpare, isBadHome, badHomes, goodSpares, marked}
 
 -- blocks replaced one after another, in the order given
@@ -32,18 +30,6 @@ replacedAll drive t (b ∷ blocks) = replacedAll drive (replacedIn drive t b) bl
 -- the first table: once the bad spares are marked, each bad home is given a spare, the lowest block first
 abbrev pub firstTable : Drive → List ℕ → List ℕ
 firstTable drive list = replacedAll drive (marked drive list) (badHomes drive list)
-
--- blocks that can be replaced one after another in a table: it obeys the rules and has a free place for each, and they are different home blocks, none of them replaced
-pub record Replaceable (drive : Drive) (t blocks : List ℕ) : Type 0 where
-  pub obeys : Obeys drive t
-  pub enough : length blocks ≤ codeCount t free
-  pub homes : Inside (drive .blocks) blocks
-  pub rise : Rising blocks
-  pub unnamed : (b : ℕ) → isIn blocks b ≡ true → Replaced t b → ⊥
-
--- a table with one more bad sector seen to: its home block is replaced, and a spare alters nothing
-abbrev pub replacedAlso : Drive → ℕ → List ℕ → List ℕ
-replacedAlso drive s t = pick (isHome drive s) (replacedIn drive t (blockOfHome drive s)) t
 
 -- more bad home blocks than good spares, and not as many, are refused
 abbrev pub spareFault : Drive → List ℕ → ℕ
@@ -72,9 +58,9 @@ pub record OnGoodSpare (drive : Drive) (list t : List ℕ) (b : ℕ) : Type 0 wh
   pub good : isBadSpare drive list place ≡ false
   pub lies : liesOn drive t b ≡ spareSector drive place
 
--- what a first table is: it obeys the rules, every bad home block lies on a good spare and every other block at home, exactly the bad spares are unusable, and so many spares are left free
+-- what a first table is: it breaks no rule, every bad home block lies on a good spare and every other block at home, exactly the bad spares are unusable, and so many spares are left free
 pub record IsFirstTable (drive : Drive) (list t : List ℕ) : Type 0 where
-  pub obeys : Obeys drive t
+  pub breaks-none : Breaks drive t → ⊥
   pub bad-homes-spared : (b : ℕ) → b < drive .blocks → isBadHome drive list b ≡ true → OnGoodSpare drive list t b
   pub others-at-home : (b : ℕ) → isBadHome drive list b ≡ false → liesOn drive t b ≡ homeSector drive b
   pub bad-unusable : (q : ℕ) → q < drive .spares → isBadSpare drive list q ≡ true → codeOf (getD t q 0) ≡ unusable
