@@ -31,6 +31,7 @@ newGrown n p g space option d =
     (pick (eqb (grownBy option) add) (union g (sectorsOfBlocks n (listOf space p g) d))
     (pick (eqb (grownBy option) clear) [] d))
 
+-- the new space
 abbrev pub newSpace : ℕ → ℕ → ℕ
 newSpace space option = pick (eqb (spaceBy option) asBefore) space (spaceBy option)
 
@@ -38,14 +39,15 @@ newSpace space option = pick (eqb (spaceBy option) asBefore) space (spaceBy opti
 abbrev pub newList : ℕ → List ℕ → List ℕ → ℕ → ℕ → List ℕ → List ℕ
 newList n p g space option d = listOf (newSpace space option) p (newGrown n p g space option d)
 
--- what row 10 does not refuse: option and space are numbers of theirs, and with DFCT 0, the lowest bit of the option number, the list is empty
-abbrev pub optionTaken : ℕ → ℕ → List ℕ → Bool
-optionTaken space option d = leb option optionMost && (leb space spaceMost && (eqb (length d) 0 || not (eqb (option % 2) 0)))
-
+-- what row 10 lets pass: the option and the space are not above the highest, and where DFCT, the lowest bit of the option number, is 0, the list is empty
 pub record OptionTaken (space option : ℕ) (d : List ℕ) : Type 0 where
   pub option-within : option ≤ optionMost
   pub space-within : space ≤ spaceMost
   pub list-taken : (option % 2 ≡ 0) → length d ≡ 0
+
+-- its test, and its check
+abbrev pub optionTaken : ℕ → ℕ → List ℕ → Bool
+optionTaken space option d = leb option optionMost && (leb space spaceMost && (eqb (length d) 0 || not (eqb (option % 2) 0)))
 
 abbrev pub optionFault : ℕ → ℕ → List ℕ → ℕ
 optionFault space option d = refuse (not (optionTaken space option d)) badOption
