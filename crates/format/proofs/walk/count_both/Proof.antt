@@ -25,16 +25,16 @@ loop-holds : tie.Need-loop-holds Inv-loop μ-loop
 loop-holds c = (begins (c .before .before .before .args .over) (now (c .before .before .before .args .p)) (now (c .before .before .before .args .g)) (now (c .before .before .before .args .d)), omega arith, omega arith, omega arith, omega arith)
 
 add-if1 : tie.Need-add-if1 Inv-loop μ-loop
-add-if1 c = omega (arith, c .before .loop .inv .0 .within-p, c .before .loop .inv .0 .within-g, c .before .loop .inv .0 .within-d, c .before .before .before .before .before .pre .short-p, c .before .before .before .before .before .pre .short-g, c .before .before .before .before .before .pre .short-d)
+add-if1 c = omega (arith, c .before .loop .inv .0 .within-p, c .before .loop .inv .0 .within-g, c .before .before .before .before .before .pre .short-p, c .before .before .before .before .before .pre .short-g)
 
 add-if1-2 : tie.Need-add-if1-2 Inv-loop μ-loop
 add-if1-2 c = omega (arith, c .before .before .loop .inv .0 .within-p, c .before .before .loop .inv .0 .within-g, c .before .before .loop .inv .0 .within-d, c .before .before .before .before .before .before .pre .short-p, c .before .before .before .before .before .before .pre .short-g, c .before .before .before .before .before .before .pre .short-d)
 
 add-if1-3 : tie.Need-add-if1-3 Inv-loop μ-loop
-add-if1-3 c = omega (arith, c .before .before .loop .inv .0 .within-p, c .before .before .loop .inv .0 .within-g, c .before .before .loop .inv .0 .within-d, c .before .before .before .before .before .before .pre .short-p, c .before .before .before .before .before .before .pre .short-g, c .before .before .before .before .before .before .pre .short-d)
+add-if1-3 c = omega (arith, c .before .before .before .before .before .before .pre .short-p, c .before .before .before .before .before .before .pre .short-g)
 
 add-if1-4 : tie.Need-add-if1-4 Inv-loop μ-loop
-add-if1-4 c = omega (arith, c .before .before .loop .inv .0 .within-p, c .before .before .loop .inv .0 .within-g, c .before .before .loop .inv .0 .within-d, c .before .before .before .before .before .before .pre .short-p, c .before .before .before .before .before .before .pre .short-g, c .before .before .before .before .before .before .pre .short-d)
+add-if1-4 c = omega (arith, c .before .before .before .before .before .before .pre .short-p, c .before .before .before .before .before .before .pre .short-g, c .before .before .before .before .before .before .pre .short-d)
 
 step-requires : tie.Need-step-requires Inv-loop μ-loop
 step-requires c κs = (c .before .before .before .before .before .before .before .pre, (c .before .before .before .loop .inv .0, c .if1 .taken))
