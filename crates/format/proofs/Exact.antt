@@ -8,29 +8,21 @@ use Rattle.paper.specs.Limits.{listMost}
 use Rattle.paper.specs.Exactly.{Exactly}
 use Rattle.paper.proofs.Rows.{tells-lt, tells-not, row, rows, size-exactly}
 use Rattle.lists.proofs.Exact.{list-exactly}
-use Rattle.format.specs.Spaces.{listOf, sizeOfD, newGrown, newList, suppliedFault, planFault, formatFault, SuppliedJudged, PlanJudged, FormatJudged}
+use Rattle.format.specs.Spaces.{listOf, sizeOfD, newGrown, newList, formatFault, FormatJudged}
 use Rattle.format.proofs.Planning.{tells-taken}
 
-module _ (n : ℕ) (p g : List ℕ) (space option : ℕ) (d : List ℕ) where
-  pub supplied-exactly : Exactly (SuppliedJudged n p g space option d) (suppliedFault n p g space option d)
-  supplied-exactly =
-      rows _ _ (size-exactly n)
-      (rows _ _ (list-exactly n p)
-      (rows _ _ (list-exactly n g)
-      (rows _ _ (row (tells-not (tells-taken space option d)) badOption)
-      (rows _ _ (row (tells-lt listMost (length (listOf space p g))) tooLong)
-      (list-exactly (sizeOfD n p g space option) d)))))
-
-  pub plan-exactly : Exactly (PlanJudged n p g space option d) (planFault n p g space option d)
-  plan-exactly =
-      rows _ _ supplied-exactly
-      (rows _ _
-      (row (tells-lt listMost (length (newGrown n p g space option d))) tooLong)
-      (row (tells-lt listMost (length (newList n p g space option d))) tooLong))
-
-  pub format-exactly : (grown list : List ℕ) → Exactly (FormatJudged n p g space option d grown list) (formatFault n p g space option d grown list)
-  format-exactly grown list =
-      rows _ _ plan-exactly
-      (rows _ _
-      (row (tells-lt (length grown) (length (newGrown n p g space option d))) noRoom)
-      (row (tells-lt (length list) (length (newList n p g space option d))) noRoom))
+pub format-exactly :
+    (n : ℕ) (p g : List ℕ) (space option : ℕ) (d grown list : List ℕ) →
+    Exactly (FormatJudged n p g space option d grown list) (formatFault n p g space option d grown list)
+format-exactly n p g space option d grown list =
+    rows _ _ (size-exactly n)
+    (rows _ _ (list-exactly n p)
+    (rows _ _ (list-exactly n g)
+    (rows _ _ (row (tells-not (tells-taken space option d)) badOption)
+    (rows _ _ (row (tells-lt listMost (length (listOf space p g))) tooLong)
+    (rows _ _ (list-exactly (sizeOfD n p g space option) d)
+    (rows _ _ (row (tells-lt listMost (length (newGrown n p g space option d))) tooLong)
+    (rows _ _ (row (tells-lt listMost (length (newList n p g space option d))) tooLong)
+    (rows _ _
+    (row (tells-lt (length grown) (length (newGrown n p g space option d))) noRoom)
+    (row (tells-lt (length list) (length (newList n p g space option d))) noRoom)))))))))

@@ -1,10 +1,14 @@
--- What each of the two rooms holds after a call that fills both.
+-- What a kept promise of Format shows: what each of the two rooms holds, and that the chain of a call that is done passes.
 -- Assumes nothing.
 use Prim.Native.Nat.{ℕ, zero, suc}
-use mathlib.Core.Path.{_≡_, refl, _∙_, ap}
+use mathlib.Core.Path.{_≡_, refl, sym}
 use mathlib.Core.List.{List}
 use Rattle.paper.specs.Checks.{answer}
 use Rattle.paper.specs.Promise.{Fills}
+use Rattle.paper.proofs.Kept.{fills-gives, gives-number}
+use Rattle.format.specs.Spaces.{formatFault}
+use Rattle.format.specs.Promises.{Formats}
+use Rattle.format.specs.declared.Formatted.the-variants.{Done}
 
 -- the two halves of a pair that a chain decides on
 halves :
@@ -28,3 +32,8 @@ module _
 
     pub list-holds : listAfter ≡ answer fault (λ number. list) listNew
     list-holds = halves fault grown list grownNew listNew (promise .holds) .1
+
+pub done-passes :
+    (n : ℕ) (p g : List ℕ) (space option : ℕ) (d grown list : List ℕ) {grownLong listLong spaceAfter : ℕ} {grownAfter listAfter : List ℕ} →
+    Formats n p g space option d grown list (Done grownLong listLong spaceAfter) grownAfter listAfter → formatFault n p g space option d grown list ≡ 0
+done-passes n p g space option d grown list promise = sym (gives-number (fills-gives promise) (λ said. said .0) (λ k. refl) refl)

@@ -1,10 +1,9 @@
-pub mod Walked
 pub mod Stepping
 pub mod Passes
+pub mod Bits
 pub mod Planning
 pub mod Answering
+pub mod Held
 pub mod Exact
 pub mod Scans
 pub mod Named
-pub mod Bits
-pub mod Held

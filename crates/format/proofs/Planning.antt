@@ -1,6 +1,6 @@
 -- What the walk makes for an option and a space is the new grown list and the new list, once all that is supplied passes its checks.
 -- Assumes nothing.
-use Prim.Native.Nat.{ℕ, suc, _<_, _≤_}
+use Prim.Native.Nat.{ℕ, suc, _%_, _<_, _≤_}
 use mathlib.Core.Path.{_≡_, refl, sym, _∙_, ap}
 use mathlib.Core.Bool.{not, _||_, true≢false}
 use mathlib.Core.List.{List, [], _∷_, map}
@@ -8,26 +8,26 @@ use native.Mathlib.Omega.{arith}
 use native.Mathlib.Nat.{add-zero}
 use lib.Dec.{eqb, ltb}
 use lib.ListN.{length, getD}
-use borrow.Author.Tests.{eq-eqb, ne-eqb}
-use Rattle.paper.specs.Checks.{pick, refuse}
+use borrow.Author.Tests.{eq-eqb, ne-eqb, le-ltb}
+use Rattle.paper.specs.Checks.{refuse}
 use Rattle.paper.specs.Refusals.{tooLong, badOption}
-use Rattle.paper.specs.Limits.{unitsMost, listMost, Within, sizeFault}
+use Rattle.paper.specs.Limits.{unitsMost, listMost, optionMost, spaceMost, Within, sizeFault}
 use Rattle.paper.proofs.Cases.{byBool, byEq, byLt}
 use Rattle.paper.proofs.Chain.{orElse-first, orElse-next}
-use Rattle.paper.proofs.Rows.{Tells, tells-le, tells-both, passed-shows, not-over, size-shows}
+use Rattle.paper.proofs.Rows.{Tells, tells-le, tells-both, passed-shows, not-over, size-shows, size-passes}
 use Rattle.lists.specs.Proper.{Rising, Inside, Proper, listFault}
 use Rattle.lists.specs.Union.{isIn, union}
-use Rattle.lists.proofs.Exact.{list-shows}
+use Rattle.lists.proofs.Exact.{list-shows, list-passes}
 use Rattle.lists.proofs.Risings.{rising-nil}
 use Rattle.lists.proofs.Unions.{union-none, union-nothing, rising-union, inside-union}
 use Rattle.skip.specs.Skipping.{place, sectorsOfBlocks}
 use Rattle.skip.specs.Walk.{walked}
 use Rattle.skip.specs.Translation.{blocks}
 use Rattle.skip.proofs.Walks.{walk-is-place, passes-nil}
-use Rattle.format.specs.Options.{none, inBlocks, inSectors, keep, add, clear, replace, optionMost, spaceMost, meaning, grownBy}
-use Rattle.format.specs.Spaces.{listOf, sizeOfD, newGrown, newList, newSpace, optionTaken, OptionTaken, optionFault, suppliedFault, planFault}
-use Rattle.format.specs.Walking.{mappedOver, Walkable}
-use Rattle.format.specs.Plans.{sidesOf, takesOf, keepsGrown, keptOf, plannedGrown, plannedList}
+use Rattle.format.specs.Options.{none, inBlocks, inSectors, keep, add, clear, replace, meaning, grownBy}
+use Rattle.format.specs.Spaces.{listOf, sizeOfD, newGrown, newList, newSpace, optionTaken, OptionTaken, optionFault}
+use Rattle.format.specs.Steps.{suppliedFault, sidesOf, overOf, keptOf, sided, grownOf, listedOf, Walkable}
+use Rattle.format.proofs.Bits.{none-even}
 
 -- numbers up to a small bound, one by one
 module _ {G : Type 0} where
@@ -67,7 +67,7 @@ module _ {G : Type 0} where
       (λ e. replaces (rw e) (rw e))
 
 -- the list of a space is the union of its sides
-pub sides-list : (space : ℕ) → space ≤ spaceMost → (p g : List ℕ) → mappedOver (sidesOf space) p g ≡ listOf space p g
+pub sides-list : (space : ℕ) → space ≤ spaceMost → (p g : List ℕ) → sided (sidesOf space) p g ≡ listOf space p g
 sides-list space h p g =
     bySpace space h
     (λ e. rw e (union-none []))
@@ -106,20 +106,20 @@ tells-taken space option d =
       told = λ t. parts .told (t .option-within, (t .space-within, t .list-taken));
     }
   where
-    list-part : Tells (eqb (length d) 0 || not (eqb (meaning option) none)) (meaning option ≡ none → length d ≡ 0)
+    list-part : Tells (eqb (length d) 0 || not (eqb (option % 2) 0)) (option % 2 ≡ 0 → length d ≡ 0)
     list-part =
         record {
-          holds = λ e is-none.
+          holds = λ e even.
               byEq (length d) 0
               (λ empty. empty)
-              (λ some. absurd (true≢false (sym (rw (ne-eqb (length d) 0 some, eq-eqb (meaning option) none is-none) at e))));
+              (λ some. absurd (true≢false (sym (rw (ne-eqb (length d) 0 some, eq-eqb (option % 2) 0 even) at e))));
           told = λ h.
               byEq (length d) 0
               (λ empty. rw (eq-eqb (length d) 0 empty))
-              (λ some. rw (ne-eqb (length d) 0 some, ne-eqb (meaning option) none (λ is-none. some (h is-none))));
+              (λ some. rw (ne-eqb (length d) 0 some, ne-eqb (option % 2) 0 (λ even. some (h even))));
         }
 
-    parts : Tells (optionTaken space option d) ((option ≤ optionMost) × ((space ≤ spaceMost) × (meaning option ≡ none → length d ≡ 0)))
+    parts : Tells (optionTaken space option d) ((option ≤ optionMost) × ((space ≤ spaceMost) × (option % 2 ≡ 0 → length d ≡ 0)))
     parts = tells-both (tells-le option optionMost) (tells-both (tells-le space spaceMost) list-part)
 
 module _ (n : ℕ) (p g : List ℕ) (space option : ℕ) (d : List ℕ) where
@@ -139,19 +139,16 @@ module _ (n : ℕ) (p g : List ℕ) (space option : ℕ) (d : List ℕ) where
         proper-d = list-shows (sizeOfD n p g space option) d none₆;
       }
 
-  -- what a chain that passes up to the new list's length shows
-  pub plan-shows : planFault n p g space option d ≡ 0 → Supplied n p g space option d
-  plan-shows none = supplied-shows (orElse-first (suppliedFault n p g space option d) _ none)
-
-  pub plan-grown : planFault n p g space option d ≡ 0 → length (newGrown n p g space option d) ≤ listMost
-  plan-grown none =
-      not-over listMost (length (newGrown n p g space option d)) tooLong (omega arith)
-      (orElse-first (refuse (ltb listMost (length (newGrown n p g space option d))) tooLong) _ (orElse-next (suppliedFault n p g space option d) _ none))
-
-  pub plan-list : planFault n p g space option d ≡ 0 → length (newList n p g space option d) ≤ listMost
-  plan-list none =
-      not-over listMost (length (newList n p g space option d)) tooLong (omega arith)
-      (orElse-next (refuse (ltb listMost (length (newGrown n p g space option d))) tooLong) _ (orElse-next (suppliedFault n p g space option d) _ none))
+  pub supplied-passes : Supplied n p g space option d → suppliedFault n p g space option d ≡ 0
+  supplied-passes supplied =
+      rw (
+        size-passes n (supplied .size),
+        list-passes n p (supplied .proper-p),
+        list-passes n g (supplied .proper-g),
+        tells-taken space option d .told (supplied .taken),
+        le-ltb listMost (length (listOf space p g)) (supplied .used),
+      )
+      (list-passes (sizeOfD n p g space option) d (supplied .proper-d))
 
   -- the list in use of proper lists rises and lies inside
   module _ (rising-p : Rising p) (rising-g : Rising g) (inside-p : Inside n p) (inside-g : Inside n g) (h : space ≤ spaceMost) where
@@ -191,7 +188,7 @@ length-zero (x ∷ l) e = absurd (omega arith)
 
 module _ (n : ℕ) (p g : List ℕ) (space option : ℕ) (d : List ℕ) (supplied : Supplied n p g space option d) where
   no-list : meaning option ≡ none → d ≡ []
-  no-list is-none = length-zero d (supplied .taken .list-taken is-none)
+  no-list is-none = length-zero d (supplied .taken .list-taken (none-even option (supplied .taken .option-within) is-none))
 
   -- the sectors of D's blocks by the walk
   walked-sectors : meaning option ≡ inBlocks → map (walked (listOf space p g)) d ≡ sectorsOfBlocks n (listOf space p g) d
@@ -206,7 +203,7 @@ module _ (n : ℕ) (p g : List ℕ) (space option : ℕ) (d : List ℕ) (supplie
       inside))
 
   -- what the walk makes is the new grown list
-  pub planned-grown : plannedGrown p g space option d ≡ newGrown n p g space option d
+  pub planned-grown : grownOf (overOf space option) p (keptOf option g) d ≡ newGrown n p g space option d
   planned-grown =
       byKind option (supplied .taken .option-within)
       (λ is-none keeps.
@@ -220,9 +217,9 @@ module _ (n : ℕ) (p g : List ℕ) (space option : ℕ) (d : List ℕ) (supplie
       (union-none (map (walked (union [] [])) d)
       ∙ map-same (walked (union [] [])) d (λ i less. rw (union-none [], passes-nil (getD d i 0)) (add-zero (getD d i 0)))))
 
-  pub planned-list : plannedList p g space option d ≡ newList n p g space option d
+  pub planned-list : listedOf (overOf space option) (sidesOf (newSpace space option)) p (keptOf option g) d ≡ newList n p g space option d
   planned-list =
-      ap (λ (l : List ℕ). union (pick (takesOf space option .p) p []) (pick (takesOf space option .g) l [])) planned-grown
+      ap (sided (sidesOf (newSpace space option)) p) planned-grown
       ∙ sides-list (newSpace space option) (new-space-most space option (supplied .taken .space-within) (supplied .taken .option-within)) p (newGrown n p g space option d)
 
   -- the walk may go along what is supplied
@@ -244,7 +241,7 @@ module _ (n : ℕ) (p g : List ℕ) (space option : ℕ) (d : List ℕ) (supplie
 -- what is kept of G may be walked along too
 pub kept-ready : (option : ℕ) (p g d : List ℕ) → Walkable p g d → Walkable p (keptOf option g) d
 kept-ready option p g d ready =
-    byBool (keepsGrown option)
+    byBool (eqb (grownBy option) keep || eqb (grownBy option) add)
     (λ e. rw e ready)
     (λ e.
     rw e

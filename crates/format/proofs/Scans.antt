@@ -5,20 +5,19 @@ use mathlib.Core.Path.{_≡_, refl, sym, _∙_, ap}
 use mathlib.Core.List.{List}
 use native.Mathlib.Omega.{arith}
 use lib.ListN.{length}
-use borrow.Author.Tests.{eq-eqb, le-ltb}
-use Rattle.paper.specs.Limits.{listMost}
-use Rattle.paper.proofs.Rows.{size-passes}
+use borrow.Author.Tests.{eq-eqb}
 use Rattle.lists.specs.Proper.{Rising, Inside}
 use Rattle.lists.specs.Union.{isIn, union}
-use Rattle.lists.proofs.Exact.{list-passes}
 use Rattle.lists.proofs.Unions.{union-assoc, union-holds}
 use Rattle.skip.specs.Skipping.{place, sectorsOfBlocks}
 use Rattle.skip.specs.Translation.{blocks}
 use Rattle.skip.proofs.Nights.{sectors-length, rising-sectors, night-place, joined-rising, joined-inside, joined-sectors}
 use Rattle.format.specs.Nights.{joined}
 use Rattle.format.specs.Options.{inBlocks, add, meaning, grownBy}
-use Rattle.format.specs.Spaces.{listOf, sizeOfD, newGrown, newList, newSpace, suppliedFault, planFault}
-use Rattle.format.proofs.Planning.{Supplied, tells-taken, bySpace, used-rising, used-inside, plan-shows, plan-grown, plan-list}
+use Rattle.format.specs.Spaces.{listOf, sizeOfD, newGrown, newList, newSpace}
+use Rattle.format.proofs.Bits.{even-none}
+use Rattle.format.proofs.Planning.{Supplied, bySpace, used-rising, used-inside}
+use Rattle.format.proofs.Answering.{Fitting}
 
 -- an option that adds a list of blocks to the grown list and keeps the space, where the space has a grown list
 pub record Scans (space option : ℕ) : Type 0 where
@@ -38,34 +37,12 @@ pub grown-is : (n : ℕ) (p g : List ℕ) (space option : ℕ) (d : List ℕ) �
 grown-is n p g space option d scans = rw (scans .adds)
 
 module _ (n : ℕ) (p g : List ℕ) (space option : ℕ) (d : List ℕ) where
-  -- what is supplied passes
-  pub supplied-passes : Supplied n p g space option d → suppliedFault n p g space option d ≡ 0
-  supplied-passes supplied =
-      rw (
-        size-passes n (supplied .size),
-        list-passes n p (supplied .proper-p),
-        list-passes n g (supplied .proper-g),
-        tells-taken space option d .told (supplied .taken),
-        le-ltb listMost (length (listOf space p g)) (supplied .used),
-      )
-      (list-passes (sizeOfD n p g space option) d (supplied .proper-d))
-
-  pub plan-passes :
-      Supplied n p g space option d → length (newGrown n p g space option d) ≤ listMost → length (newList n p g space option d) ≤ listMost →
-      planFault n p g space option d ≡ 0
-  plan-passes supplied grown list =
-      rw (
-        supplied-passes supplied,
-        le-ltb listMost (length (newGrown n p g space option d)) grown,
-        le-ltb listMost (length (newList n p g space option d)) list,
-      )
-
-  module _ (scans : Scans space option) (passes : planFault n p g space option d ≡ 0) where
+  module _ (scans : Scans space option) (fitting : Fitting n p g space option d) where
     abbrev A : List ℕ
     A = listOf space p g
 
     supplied : Supplied n p g space option d
-    supplied = plan-shows n p g space option d passes
+    supplied = fitting .supplied
 
     pub A-rising : Rising A
     A-rising = used-rising n p g space option d (supplied .proper-p .rising) (supplied .proper-g .rising) (supplied .proper-p .inside) (supplied .proper-g .inside) (supplied .taken .space-within)
@@ -108,8 +85,8 @@ module _
     (space option : ℕ)
     (d e : List ℕ)
     (scans : Scans space option)
-    (first : planFault n p g space option d ≡ 0)
-    (second : planFault n p (newGrown n p g space option d) space option e ≡ 0)
+    (first : Fitting n p g space option d)
+    (second : Fitting n p (newGrown n p g space option d) space option e)
   where
     -- the list that joins the first night's to the second's, written in the first night's numbers
     abbrev both : List ℕ
@@ -142,7 +119,7 @@ module _
         grown-is n p (newGrown n p g space option d) space option e scans
         ∙ (ap (λ (l : List ℕ). union l (sectorsOfBlocks n (listOf space p (newGrown n p g space option d)) e)) (grown-is n p g space option d scans)
         ∙ (union-assoc g (sectorsOfBlocks n (listOf space p g) d) (sectorsOfBlocks n (listOf space p (newGrown n p g space option d)) e)
-        (plan-shows n p g space option d first .proper-g .rising) M-rising then-rising
+        (first .supplied .proper-g .rising) M-rising then-rising
         ∙ (ap (λ (l : List ℕ). union g (union (sectorsOfBlocks n (listOf space p g) d) (sectorsOfBlocks n l e))) used-then
         ∙ (ap (union g) (sym (joined-sectors n (listOf space p g)
         (A-rising n p g space option d scans first)
@@ -158,9 +135,9 @@ module _
     nights-list = ap (listOf (newSpace space option) p) nights-grown
 
     -- and the joined night is accepted, given room
-    pub joined-supplied : Supplied n p g space option both
+    joined-supplied : Supplied n p g space option both
     joined-supplied =
-        let was : Supplied n p g space option d = plan-shows n p g space option d first in
+        let was : Supplied n p g space option d = first .supplied in
         let rises : Rising (union d (sectorsOfBlocks (blocks n (listOf space p g)) d e)) =
         joined-rising n (listOf space p g) (A-rising n p g space option d scans first) (A-inside n p g space option d scans first) d (d-rising n p g space option d scans first) (d-inside n p g space option d scans first) e e-rising e-inside in
         let inside : Inside (blocks n (listOf space p g)) (union d (sectorsOfBlocks (blocks n (listOf space p g)) d e)) =
@@ -177,19 +154,21 @@ module _
               record {
                 option-within = was .taken .option-within;
                 space-within = was .taken .space-within;
-                list-taken = λ is-none. absurd (omega (arith, is-none, scans .in-blocks));
+                list-taken = λ even. absurd (omega (arith, even-none option (was .taken .option-within) even, scans .in-blocks));
               };
           used = was .used;
           proper-d =
               record {
-                short = omega (arith, plan-grown n p (newGrown n p g space option d) space option e second, grown, sectors, union-holds g (sectorsOfBlocks n (listOf space p g) (union d (sectorsOfBlocks (blocks n (listOf space p g)) d e))));
+                short = omega (arith, second .grown-short, grown, sectors, union-holds g (sectorsOfBlocks n (listOf space p g) (union d (sectorsOfBlocks (blocks n (listOf space p g)) d e))));
                 rising = rises;
                 inside = rw (d-size n p g space option d scans first) inside;
               };
         }
 
-    pub joined-passes : planFault n p g space option both ≡ 0
-    joined-passes =
-        plan-passes n p g space option both joined-supplied
-        (rw nights-grown at (plan-grown n p (newGrown n p g space option d) space option e second))
-        (rw nights-list at (plan-list n p (newGrown n p g space option d) space option e second))
+    pub joined-fits : Fitting n p g space option both
+    joined-fits =
+        record {
+          supplied = joined-supplied;
+          grown-short = rw nights-grown at (second .grown-short);
+          list-short = rw nights-list at (second .list-short);
+        }

@@ -1,4 +1,4 @@
--- Document 01, "Format": the eight optionRows as one table, read by option number.
+-- Document 01, "Format": the eight rows as one table, read by option number.
 use Prim.Native.Nat.{ℕ, _+_}
 use mathlib.Core.Bool.{Bool}
 use mathlib.Core.List.{List, [], _∷_}
@@ -31,13 +31,6 @@ replace = 3
 -- the new space, where it is not a space's number
 abbrev pub asBefore : ℕ
 asBefore = 4
-
--- the highest option and the highest space
-abbrev pub optionMost : ℕ
-optionMost = 7
-
-abbrev pub spaceMost : ℕ
-spaceMost = 3
 
 -- the option number of its three bits: CMPLST counts 4, DPRY 2 and DFCT 1
 abbrev pub optionOf : Bool → Bool → Bool → ℕ

@@ -2,11 +2,8 @@
 use Prim.Native.Nat.{ℕ}
 use mathlib.Core.List.{List}
 use lib.ListN.{length}
-use Rattle.paper.specs.Checks.{answer}
 use Rattle.paper.specs.Promise.{Fills, written}
-use Rattle.format.specs.Spaces.{planFault, formatFault, newGrown, newList, newSpace}
-use Rattle.format.specs.declared.Planned.{Planned}
-use Rattle.format.specs.declared.Planned.the-variants.{Fits, Refused as NotPlanned}
+use Rattle.format.specs.Spaces.{formatFault, newGrown, newList, newSpace}
 use Rattle.format.specs.declared.Formatted.{Formatted}
 use Rattle.format.specs.declared.Formatted.the-variants.{Done, Refused}
 
@@ -17,12 +14,6 @@ saidFormatted (Refused fault) = (fault, 0, 0, 0)
 
 abbrev pub FillsFormatted : ℕ → Formatted → List ℕ × List ℕ → List ℕ × List ℕ → Formatted → List ℕ × List ℕ → Type 0
 FillsFormatted = Fills saidFormatted (λ fault. (fault, 0, 0, 0)) Refused
-
--- the chain without the rooms: its fault, or both lengths
-abbrev pub planned : ℕ → List ℕ → List ℕ → ℕ → ℕ → List ℕ → Planned
-planned n p g space option d =
-    answer (planFault n p g space option d) NotPlanned
-    (Fits (length (newGrown n p g space option d)) (length (newList n p g space option d)))
 
 -- the lengths of the new grown list and of the new list, and the new space; the rooms then hold both lists in their first places
 abbrev pub Formats : ℕ → List ℕ → List ℕ → ℕ → ℕ → List ℕ → List ℕ → List ℕ → Formatted → List ℕ → List ℕ → Type 0

@@ -2,8 +2,9 @@
 -- Assumes nothing.
 use borrow.Author.Needs.{needs}
 use mathlib.Core.Path.{_≡_, sym, _∙_}
-use mathlib.Core.Bool.{true, false}
-use Rattle.format.specs.Plans.{keepsGrown}
+use mathlib.Core.Bool.{true, false, _||_}
+use lib.Dec.{eqb}
+use Rattle.format.specs.Options.{keep, add, grownBy}
 use Rattle.format.proofs.kept_of.Statement.{statement}
 use Rattle.format.proofs.kept_of.Tie as tie
 
@@ -11,10 +12,10 @@ cell-of-requires : tie.Need-cell-of-requires
 cell-of-requires c κs = search needs
 
 either-requires : tie.Need-either-requires
-either-requires c κs = search needs
+either-requires c κs = tt
 
 returns : tie.Need-returns
-returns c = let e : keepsGrown (c .before .before .before .before .args .option) ≡ true = rw (c .before .before .cell-of .ensures) at (sym (c .before .either .ensures) ∙ c .if1 .taken) in rw e
+returns c = let e : (eqb (grownBy (c .before .before .before .before .args .option)) keep || eqb (grownBy (c .before .before .before .before .args .option)) add) ≡ true = rw (c .before .before .cell-of .ensures) at (sym (c .before .either .ensures) ∙ c .if1 .taken) in rw e
 
 sub-result : tie.Need-sub-result
 sub-result c = search needs
@@ -26,7 +27,7 @@ part-result-end : tie.Need-part-result-end
 part-result-end c = search needs
 
 returns-2 : tie.Need-returns-2
-returns-2 c = let e : keepsGrown (c .before .before .before .before .before .args .option) ≡ false = rw (c .before .before .before .cell-of .ensures) at (sym (c .before .before .either .ensures) ∙ c .before .if1 .left) in rw e
+returns-2 c = let e : (eqb (grownBy (c .before .before .before .before .before .args .option)) keep || eqb (grownBy (c .before .before .before .before .before .args .option)) add) ≡ false = rw (c .before .before .before .cell-of .ensures) at (sym (c .before .before .either .ensures) ∙ c .before .if1 .left) in rw e
 
 pub kept-of-spec : {M : Type 1} → statement M
 kept-of-spec =

@@ -1,11 +1,11 @@
--- `format::put` meets its contract: an entry that is taken is stored at the count, and else nothing is.
+-- `format::walk::put` meets its contract: an entry that is taken is stored at the count, and else nothing is.
 -- Assumes nothing.
 use borrow.Author.Needs.{needs}
 use native.Mathlib.Omega.{arith}
 use native.Mathlib.Nat.{add-zero}
 use mathlib.Core.Path.{refl}
-use Rattle.format.proofs.put.Statement.{statement}
-use Rattle.format.proofs.put.Tie as tie
+use Rattle.format.proofs.walk.put.Statement.{statement}
+use Rattle.format.proofs.walk.put.Tie as tie
 
 mul-room : tie.Need-mul-room
 mul-room c = omega (arith, c .before .pre (c .if1 .taken))
