@@ -1,7 +1,6 @@
 -- Demand 3: a night's scan names blocks of the map in use, and Format accepts it without a change of the kinds of list that the map is over. Then the new map is the old one with the named blocks left out: to find a new block, count past the named ones among the old blocks, and go where the old map has the block that you come to. And two nights in a row are one night, whose list is the first one's and the second one's together, all in the numbers of the first.
 -- It is said over demand 2's map (`Lies`, `place`), since the identity map would obey the law too.
 -- Assumes nothing.
-use Rattle.paper.proofs.Kept.{gives-number, fills-gives}
 use Prim.Native.Nat.{ℕ, zero, suc, _≤_}
 use mathlib.Core.Path.{_≡_, refl, sym, _∙_, ap}
 use mathlib.Core.Logic.{inl, inr}
@@ -17,13 +16,16 @@ use Rattle.skip.specs.Translation.{blocks}
 use Rattle.skip.proofs.Lying.{lies-place, lies-below, place-lies}
 use Rattle.skip.proofs.Walks.{goods-are-blocks}
 use Rattle.skip.proofs.Nights.{rising-night, inside-night, night-blocks}
-use Rattle.format.specs.Spaces.{listOf, newGrown, newList, newSpace, planFault, formatFault}
-use Rattle.format.specs.Options.{inBlocks, optionMost, meaning}
+use Rattle.paper.specs.Limits.{optionMost}
+use Rattle.format.specs.Spaces.{listOf, newGrown, newList, newSpace, formatFault}
+use Rattle.format.specs.Options.{inBlocks, meaning}
+use Rattle.format.proofs.Held.{done-passes}
+use Rattle.format.proofs.Answering.{Fitting, format-shows, format-passes}
 use Rattle.format.specs.Nights.{ScanNight, joined}
 use Rattle.format.specs.Promises.{Formats}
 use Rattle.format.specs.declared.Formatted.{Formatted}
 use Rattle.format.specs.declared.Formatted.the-variants.{Done, Refused as NotFormatted}
-use Rattle.format.proofs.Scans.{Scans, option-1-in-space-3, option-3-in-space-2, scan-places, list-is, A-rising, A-inside, d-rising, d-inside, nights-grown, nights-list, joined-passes}
+use Rattle.format.proofs.Scans.{Scans, option-1-in-space-3, option-3-in-space-2, scan-places, list-is, A-rising, A-inside, d-rising, d-inside, nights-grown, nights-list, joined-fits}
 use Rattle.demands.specs.Mission.{Handed, Arrives}
 use Rattle.demands.proofs.Rooms.{format-hands}
 
@@ -43,8 +45,8 @@ module _ (n : ℕ) (p g : List ℕ) (space option : ℕ) (night : ScanNight spac
       (grownAfter listAfter : List ℕ)
       (accepted : Formats n p g space option d grown list (Done grownLong listLong spaceAfter) grownAfter listAfter)
     where
-      plan-none : planFault n p g space option d ≡ 0
-      plan-none = orElse-first (planFault n p g space option d) _ (sym (gives-number (fills-gives accepted) (λ said. said .0) (λ k. refl) refl))
+      plan-none : Fitting n p g space option d
+      plan-none = format-shows n p g space option d grown list (done-passes n p g space option d grown list accepted)
 
       new-is : take listLong listAfter ≡ newList n p g space option d
       new-is = format-hands n p g space option d grown list grownLong listLong spaceAfter grownAfter listAfter accepted .1 .0 .first
@@ -104,17 +106,17 @@ module _ (n : ℕ) (p g : List ℕ) (space option : ℕ) (night : ScanNight spac
           grown-is : take grownLong grownAfter ≡ newGrown n p g space option d
           grown-is = format-hands n p g space option d grown list grownLong listLong spaceAfter grownAfter listAfter accepted .0 .first
 
-          plan-second : planFault n p (newGrown n p g space option d) space option e ≡ 0
+          plan-second : Fitting n p (newGrown n p g space option d) space option e
           plan-second =
               rw (grown-is, same-space)
-              at (orElse-first (planFault n p (take grownLong grownAfter) spaceAfter option e) _ (sym (gives-number (fills-gives accepted2) (λ said. said .0) (λ k. refl) refl)))
+              at (format-shows n p (take grownLong grownAfter) spaceAfter option e grown2 list2 (done-passes n p (take grownLong grownAfter) spaceAfter option e grown2 list2 accepted2))
 
           -- the joined list, named in the numbers that the first list is written in
           abbrev one-list : List ℕ
           one-list = joined (blocks n used) d e
 
-          joined-none : planFault n p g space option one-list ≡ 0
-          joined-none = joined-passes n p g space option d e (scans space option night) plan-none plan-second
+          joined-none : Fitting n p g space option one-list
+          joined-none = joined-fits n p g space option d e (scans space option night) plan-none plan-second
 
           one-grown : newGrown n p (newGrown n p g space option d) space option e ≡ newGrown n p g space option one-list
           one-grown = nights-grown n p g space option d e (scans space option night) plan-none plan-second
@@ -133,11 +135,9 @@ module _ (n : ℕ) (p g : List ℕ) (space option : ℕ) (night : ScanNight spac
           module _ (grown1 list1 : List ℕ) (result : Formatted) (grownAfter1 listAfter1 : List ℕ) (joined-night : Formats n p g space option one-list grown1 list1 result grownAfter1 listAfter1) where
             joined-fault : grownLong2 ≤ length grown1 → listLong2 ≤ length list1 → formatFault n p g space option one-list grown1 list1 ≡ 0
             joined-fault room-grown room-list =
-                rw (
-                  joined-none,
-                  le-ltb (length grown1) (length (newGrown n p g space option one-list)) (omega (arith, room-grown, second-hands .0 .long-as, ap length one-grown)),
-                  le-ltb (length list1) (length (newList n p g space option one-list)) (omega (arith, room-list, second-hands .1 .0 .long-as, ap length one-new)),
-                )
+                format-passes n p g space option one-list grown1 list1 joined-none
+                (omega (arith, room-grown, second-hands .0 .long-as, ap length one-grown))
+                (omega (arith, room-list, second-hands .1 .0 .long-as, ap length one-new))
 
             pub two-nights-answer : grownLong2 ≤ length grown1 → listLong2 ≤ length list1 → result ≡ Done grownLong2 listLong2 spaceAfter2
             two-nights-answer room-grown room-list =

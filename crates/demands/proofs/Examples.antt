@@ -1,6 +1,6 @@
 -- The paper's "Numbers to try": every row of the table holds. Where a block lies is told by the walk, which is the definition; the rest is computed.
 -- Assumes nothing.
-use Prim.Native.Nat.{ℕ, suc, _+_}
+use Prim.Native.Nat.{ℕ, suc, _+_, _≤_}
 use mathlib.Core.Path.{_≡_, refl, _∙_}
 use mathlib.Core.Bool.{Bool, true, false}
 use mathlib.Core.List.{List, [], _∷_}
@@ -25,8 +25,8 @@ use Rattle.skip.specs.Walk.{passes, walked}
 use Rattle.skip.specs.Translation.{sectorOfFault, blockOnFault}
 use Rattle.skip.proofs.Shown.{block-walk}
 use Rattle.format.specs.declared.Formatted.the-variants.{Done}
-use Rattle.format.specs.Spaces.{newGrown, newList, newSpace, planFault, formatFault}
-use Rattle.format.proofs.Answering.{format-done}
+use Rattle.format.specs.Spaces.{newGrown, newList, newSpace, formatFault}
+use Rattle.format.proofs.Answering.{format-accepts}
 use Rattle.format.proofs.Held.{grown-holds, list-holds}
 use Rattle.format.proofs.Named.{scan-grown, scan-list, scan-accepted}
 use Rattle.layout.specs.Layouts.{driveOf, driveFault}
@@ -86,18 +86,17 @@ sector-listed n list sector none listed = allows (λ k. refl) (rw (none, listed)
 -- a Format that passes its checks, in rooms that are long enough
 plan-formatted :
     (n : ℕ) (p g : List ℕ) (space option : ℕ) (d : List ℕ) {grown list : List ℕ} →
-    planFault n p g space option d ≡ 0 → newGrown n p g space option d ≡ grown → newList n p g space option d ≡ list →
-    Holds (format n p g space option d grown list (newSpace space option))
-plan-formatted n p g space option d {grown} {list} passed grows lists first second fits room =
-    let none : formatFault n p g space option d first second ≡ 0 =
-    rw (passed, lists, grows, le-ltb (length first) (length grown) fits, le-ltb (length second) (length list) room) in
+    ((first second : List ℕ) → length grown ≤ length first → length list ≤ length second → formatFault n p g space option d first second ≡ 0) →
+    newGrown n p g space option d ≡ grown → newList n p g space option d ≡ list → Holds (format n p g space option d grown list (newSpace space option))
+plan-formatted n p g space option d {grown} {list} passes grows lists first second fits room =
+    let none : formatFault n p g space option d first second ≡ 0 = passes first second fits room in
     record {
       some = (
         Done (length (newGrown n p g space option d)) (length (newList n p g space option d)) (newSpace space option),
         written (newGrown n p g space option d) first,
         written (newList n p g space option d) second,
       );
-      allowed = format-done n p g space option d first second passed (rw grows fits) (rw lists room) _ _ refl refl;
+      allowed = format-accepts n p g space option d first second none refl refl;
       every = λ answer given. (given .says ∙ rw (none, lists, grows), grown-holds given ∙ rw (none, grows), list-holds given ∙ rw (none, lists));
     }
 

@@ -6,15 +6,15 @@ use mathlib.Core.List.{List, [], _∷_}
 use native.Mathlib.Omega.{arith}
 use lib.ListN.{length, getD}
 use borrow.Author.Tests.{le-leb, lt-leb}
-use Rattle.paper.specs.Limits.{listMost}
+use Rattle.paper.specs.Limits.{listMost, optionMost}
 use Rattle.paper.specs.Refusals.{notRising, outside}
 use Rattle.seek.specs.Lowest.{faultBelow}
 use Rattle.lists.specs.Proper.{listFault}
 use Rattle.lists.proofs.Unions.{union-holds}
 use Rattle.skip.specs.Translation.{blocks}
 use Rattle.skip.specs.Cursors.{noCursor, Belongs}
-use Rattle.format.specs.Options.{optionMost}
-use Rattle.format.specs.Spaces.{newGrown, newList, suppliedFault}
+use Rattle.format.specs.Spaces.{newGrown, newList}
+use Rattle.format.specs.Steps.{suppliedFault}
 use Rattle.format.proofs.Planning.{Supplied, supplied-shows}
 
 -- where an entry is at fault both ways, the entry before it is outside already: 3 before 4 at one place has no effect

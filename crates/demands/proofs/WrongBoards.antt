@@ -16,7 +16,7 @@ use Rattle.paper.specs.Exactly.{Exactly}
 use Rattle.paper.specs.Answers.{saidPlaced}
 use Rattle.paper.specs.Refusals.{outside, noSpare, forcedError, badCode}
 use Rattle.paper.specs.declared.Placed.the-variants.{At}
-use Rattle.seek.specs.Count.{countBelow, times}
+use Rattle.seek.specs.Count.{countBelow, times, times}
 use Rattle.seek.specs.Every.{allBelow}
 use Rattle.seek.specs.Lowest.{firstBelow, faultBelow}
 use Rattle.seek.specs.Search.{firstOr, rising}
@@ -43,7 +43,7 @@ use Rattle.table.specs.Rules.{tableFault}
 use Rattle.table.specs.Lookup as Table
 use Rattle.table.specs.Lookup.{placeOf}
 use Rattle.table.proofs.Lookups.{lies-only, lies-apart}
-use Rattle.order.specs.Order.{outward, order, countIn}
+use Rattle.order.specs.Order.{outward, order}
 use Rattle.replacing.specs.Replacing.{Altered}
 use Rattle.table.specs.declared.Census.{Census}
 use Rattle.spares.specs.Spares.{ReplaceJudged}
@@ -258,8 +258,8 @@ unfolding allBelow placeOf firstBelow
 wrapped-shift-not-within = (refl, λ shift. omega (arith, shift .within))
 
 -- the ± search that stops: at offset 0 it does not have place 2, which the search order has
-pub stopped-order-misses : (countIn 2 (stoppedOrder 128 0) ≡ 0) × (countIn 2 (order 128 0) ≡ 1)
-unfolding countIn outward rising
+pub stopped-order-misses : (times 2 (stoppedOrder 128 0) ≡ 0) × (times 2 (order 128 0) ≡ 1)
+unfolding times outward rising
 stopped-order-misses = (refl, refl)
 
 -- so it refuses block 2 after blocks 0 and 1, place 2 is free, and no row gives 13

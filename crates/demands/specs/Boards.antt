@@ -39,7 +39,7 @@ use Rattle.layout.specs.Layouts.{driveOf, homeCylinder, spareCylinder}
 use Rattle.layout.specs.Descriptors.{primary}
 use Rattle.table.specs.Rules.{tableFault, blockFault as spareBlockFault}
 use Rattle.table.specs.Lookup.{placeOf, isReplaced}
-use Rattle.order.specs.Order.{placeIn, kept, outward, blockStart, freeAt}
+use Rattle.order.specs.Order.{inBlock, outward, blockStart, freeAt}
 use Rattle.table.specs.declared.Census.{Census}
 use Rattle.replacing.specs.Replacing.{spareFor, descriptorAt}
 use Rattle.spares.specs.Spares.{replaceFault}
@@ -193,7 +193,7 @@ nearerEnd o = pick (ltb o (tableBlock - 1 - o)) o (tableBlock - 1 - o)
 abbrev pub stoppedOrder : ℕ → ℕ → List ℕ
 stoppedOrder places p =
     map (λ offset. blockStart p + offset)
-    (outward (p % tableBlock) (suc (nearerEnd (p % tableBlock))) ++ kept (placeIn (pos (p % tableBlock) +ℤ pos (suc (nearerEnd (p % tableBlock))))))
+    (outward (p % tableBlock) (suc (nearerEnd (p % tableBlock))) ++ inBlock (pos (p % tableBlock) +ℤ pos (suc (nearerEnd (p % tableBlock)))))
     ++ (rising (blockStart p + tableBlock) (places - (blockStart p + tableBlock)) ++ rising 0 (blockStart p))
 
 -- the spare that it finds

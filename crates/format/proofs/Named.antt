@@ -6,7 +6,7 @@ use mathlib.Core.List.{List, [], _∷_}
 use lib.ListN.{length}
 use borrow.Author.Tests.{le-ltb}
 use Rattle.seek.specs.Count.{countBelow}
-use Rattle.seek.specs.First.{firstBelow, faultBelow}
+use Rattle.seek.specs.Lowest.{firstBelow, faultBelow}
 use Rattle.lists.specs.Union.{isIn, into, union}
 use Rattle.skip.specs.Skipping.{goodsBefore, place}
 use Rattle.skip.specs.Translation.{blocks}
