@@ -2,9 +2,10 @@
  *
  * A call takes any numbers. It ends, it calls nothing back, it keeps nothing between calls, and it answers a small
  * struct by value. `refusal` is the first field: TB_ACCEPTED (0), or the number of the first check that fails.
- * Refused, every other number of the result is 0, and every byte that was lent is as it was; the one exception is
- * tb_job_step, which hands back in `next` the cursor it was given. The checks of a call are named in its comment, in
- * their order. "list" there means TB_TOO_LONG, then the lowest entry at fault, TB_NOT_RISING or TB_OUTSIDE.
+ * Where a call refuses, every other number of the result is 0, and every byte that was lent is as it was. The one
+ * exception is tb_job_step, which hands back in `next` the cursor that it was given. The comment of a call names its
+ * checks in their order. The word "list" there stands for three of them: TB_TOO_LONG, and then, at the lowest entry
+ * at fault, TB_NOT_RISING before TB_OUTSIDE.
  *
  * What is lent:
  * - A pointer and the number of its elements stand together, the pointer first. The pointer may be NULL where the
@@ -12,8 +13,14 @@
  * - A pointer to uint32_t is aligned as uint32_t is.
  * - A pointer to const is read and never written. One that is not const is a room: it may be read and written.
  * - A room overlaps nothing else that is lent to the same call. What is only read may overlap.
- * - An accepted result fills the first elements of its room and leaves the rest.
+ * - An accepted call fills the first elements of its room and leaves the rest as it was.
  * - `forced` is the language's own bool: a byte that is 0 or 1.
+ *
+ * What libboard.a asks of its place: an x86-64 processor with SSE2, the System V calling convention, the red zone
+ * (during a call no interrupt may come in on the same stack), and memcpy. docs/FIRMWARE.md says more.
+ *
+ * Two calls of the library are not here, since they hand back a part of what they were lent: image::data and
+ * reading::data. The comments of tb_image_judge and tb_read_data say where the data lies.
  */
 #ifndef TAUTBERRY_H
 #define TAUTBERRY_H
@@ -75,7 +82,7 @@ enum tb_refusal {
 #define TB_SPACE_MOST 3u          /* spaces: 0 none, 1 P, 2 G, 3 P and G */
 #define TB_LISTING_MOST 16398u    /* bytes that the listing program takes; no call here has this limit */
 
-/* Bytes of a page with so many entries, of the image of a track with so many sectors; descriptors of a table for so many spares. */
+/* Bytes of a page with so many entries; bytes of the image of a track with so many sectors; descriptors of a table for so many spares. */
 #define TB_PAGE_LENGTH(entries) (TB_PAGE_FRAME + TB_ENTRY_SIZE * (entries))
 #define TB_TRACK_LENGTH(sectors) (TB_IMAGE_SIZE * (sectors))
 #define TB_TABLE_LENGTH(spares) (TB_TABLE_BLOCK * (((spares) + TB_TABLE_BLOCK - 1u) / TB_TABLE_BLOCK))
@@ -250,7 +257,7 @@ tb_formatted tb_format(
 
 /* ---- A revectored drive: the last r sectors of each track are spares, and a table says what they hold ---- */
 
-/* The table has TB_TABLE_LENGTH(cylinders x heads x r) descriptors. Its rules are checked in every call. */
+/* The table has TB_TABLE_LENGTH(cylinders x heads x r) descriptors. Every call that is lent a table checks its rules. */
 
 /* The sector that a block lies on: its spare, or its home where it is not replaced.
  * Checks: TB_OUT_OF_RANGE (shape, r), TB_BAD_TABLE, TB_NO_SUCH_BLOCK. Answers sector. Writes nothing. */
@@ -282,13 +289,14 @@ tb_replaced tb_spare_replace(tb_shape shape, uint32_t r, uint32_t *table, size_t
  * Checks: TB_OUT_OF_RANGE (shape, r), TB_BAD_TABLE. Answers free, primary, elsewhere, unusable and null. Writes nothing. */
 tb_counted tb_spare_census(tb_shape shape, uint32_t r, const uint32_t *table, size_t table_length);
 
-/* The first table of a drive, from the list of its bad sectors: the spares among them are marked, then the homes are given spares, the lowest block first.
+/* The first table of a drive, from the list of its bad sectors: the spares among them are marked as unusable, then each home among them is
+ * given a spare, the lowest block first.
  * Checks: TB_OUT_OF_RANGE (shape, r), list, TB_NO_ROOM, TB_NO_SPARE. Answers length. Writes the table into the first places of room. */
 tb_written tb_spare_first(tb_shape shape, uint32_t r, const uint32_t *list, size_t list_length, uint32_t *room, size_t room_length);
 
 /* ---- Sector images ---- */
 
-/* Writes the image of a block's data: a good one, or, where forced, one that tells every reader that the data was bad already.
+/* Writes the image of a block's data: a good one, or, where forced is true, one that tells every reader that the data was bad already.
  * Checks: TB_WRONG_LENGTH (data), TB_NO_ROOM. Answers length, TB_IMAGE_SIZE. Writes the image into the first bytes of room. */
 tb_written tb_image_write(uint32_t block, const uint8_t *data, size_t data_length, bool forced, uint8_t *room, size_t room_length);
 
@@ -302,8 +310,8 @@ tb_judged tb_image_judge(const uint8_t *image, size_t image_length, uint32_t blo
 
 /* ---- A read of a block of a revectored drive, from two track images ---- */
 
-/* home is the image of the block's home track and spare that of its spare's track; for a block at home spare may be any track's.
- * Both are TB_TRACK_LENGTH(sectors) bytes long. No byte of the one that does not have the block is looked at. */
+/* home is the image of the block's home track, and spare the image of its spare's track. For a block at home, spare may be the image of
+ * any track. Both are TB_TRACK_LENGTH(sectors) bytes long. A block lies in one of them, and no byte of the other is looked at. */
 
 /* The verdict on a block.
  * Checks: TB_OUT_OF_RANGE (shape, r), TB_BAD_TABLE, TB_NO_SUCH_BLOCK, TB_WRONG_LENGTH (either image), TB_NO_ADDRESS, TB_OTHER_BLOCK,
@@ -312,7 +320,7 @@ tb_judged tb_read_judge(
     tb_shape shape, uint32_t r, const uint32_t *table, size_t table_length, uint32_t block,
     const uint8_t *home, size_t home_length, const uint8_t *spare, size_t spare_length);
 
-/* Where the data of a good block lies.
+/* Where the data of a good block lies: TB_DATA_SIZE bytes, from offset on, of home where image is 0 and of spare where it is 1.
  * Checks: those of tb_read_judge, with the same number. Answers image and offset. Writes nothing. */
 tb_spotted tb_read_data(
     tb_shape shape, uint32_t r, const uint32_t *table, size_t table_length, uint32_t block,

@@ -1,118 +1,188 @@
-/* Measures how much stack each call of the C face takes: a thread makes the call on painted memory, and the lowest byte that is not as it was
- * painted tells how deep the call went. Each call is made at full lists, full tables and whole track images, on its longest path, and must be
- * accepted or refused as stated. It prints one line for each call and returns 1 if a call answers anything else. */
+/* Measures how much stack each call of the C face takes. A thread makes the call on painted memory, and the lowest byte that is not as it was
+ * painted tells how deep the call went. Each call is made in each of the situations below, so that it is accepted at least once, and refused at
+ * least once by each number that the header names for it. Lists, tables, pages and track images are full, and most faults lie in their last place.
+ * It prints the most that each call took, accepted and refused, and returns 1 if a call gave other numbers than the header names. */
 #define _POSIX_C_SOURCE 200809L
 
 #include <inttypes.h>
 #include <pthread.h>
 #include <stdio.h>
+#include <stdlib.h>
 #include <string.h>
 
 #include "tautberry.h"
 
-enum { STACK = 1 << 18, PAD = 1 << 14 };
+/* A drive with as many spares as there may be, one to a track, and as many sectors to a track as there may be. */
+enum { TRACKS = TB_SPARES_MOST, SECTORS = TB_SECTORS_MOST, HOMES = SECTORS - 1 };
 
-static uint8_t stack[STACK] __attribute__((aligned(64)));
+/* A block on the last spare. Each spare but one has a block of its own track. */
+enum { ON_SPARE = HOMES * (TRACKS - 1) + 1 };
 
-/* A drive with as many spares as there may be, and one with as many sectors as a track may have. */
-static const tb_shape shape = {TB_SPARES_MOST, 1, TB_SECTORS_MOST};
-static const uint32_t r = 1;
+/* A block at home, whose search begins in the second table block and ends at the last place of the first, where the free spare is. */
+enum { AT_HOME = HOMES * TB_TABLE_BLOCK, FREE_PLACE = TB_TABLE_BLOCK - 1 };
 
-static uint32_t list[TB_LIST_MOST];
-static uint32_t grown[TB_LIST_MOST];
-static uint32_t other[TB_LIST_MOST];
-static uint32_t full[TB_SPARES_MOST];
+/* What is lent. */
+static uint32_t list[TB_LIST_MOST + 1], bad[TB_LIST_MOST + 1], p[TB_LIST_MOST + 1], g[TB_LIST_MOST + 1], d[TB_LIST_MOST + 1];
 static uint32_t table[TB_SPARES_MOST];
-static uint8_t page[TB_PAGE_MOST];
-static uint8_t home[TB_TRACK_LENGTH(TB_SECTORS_MOST)];
-static uint8_t spare[TB_TRACK_LENGTH(TB_SECTORS_MOST)];
-static uint8_t data[TB_DATA_SIZE];
+static uint8_t page[TB_PAGE_MOST], data[TB_DATA_SIZE], home[TB_TRACK_LENGTH(SECTORS)], spare[TB_TRACK_LENGTH(SECTORS)];
+static size_t list_length, bad_length, p_length, g_length, d_length, table_length, page_length, data_length, home_length, spare_length;
 
-/* The home blocks of a track. */
-enum { HOMES = TB_SECTORS_MOST - 1 };
+/* The image of the block on the last spare, in its track. */
+static uint8_t *const image = spare + HOMES * TB_IMAGE_SIZE;
+static size_t image_length;
+
+/* The rooms. */
+static uint32_t entries[TB_LIST_MOST], grown[TB_LIST_MOST], merged[TB_LIST_MOST], first[TB_SPARES_MOST];
+static uint8_t page_written[TB_PAGE_MOST], image_written[TB_IMAGE_SIZE];
+static size_t entries_room, grown_room, merged_room, first_room, page_room, image_room;
+
+/* The numbers that go with it. `unit` and `unit_block` are asked for on a drive of n sectors. */
+static uint32_t n, unit, unit_block, skipped_block, r, block, replaced, cylinder, head, in_track, sector, kind, space, option;
+static tb_shape shape;
+static tb_cursor cursor;
+static bool forced;
+
+/* Lays the situation with a number, and says whether there is one. */
+static bool lay(unsigned situation)
+{
+    n = TB_UNITS_MOST, unit = n - 1, unit_block = n - TB_LIST_MOST - 1;
+    shape.cylinders = TRACKS, shape.heads = 1, shape.sectors = SECTORS, r = 1;
+    cylinder = TRACKS - 1, head = 0, in_track = 0, sector = SECTORS * cylinder, skipped_block = TRACKS * SECTORS - TB_LIST_MOST - 1;
+    block = ON_SPARE, replaced = AT_HOME, kind = 1, space = 3, option = 1, forced = false;
+    cursor.block = unit_block, cursor.skipped = TB_LIST_MOST;
+    for (uint32_t i = 0; i <= TB_LIST_MOST; i++) {
+        list[i] = bad[i] = 2 * i, p[i] = 4 * i, g[i] = 4 * i + 1, d[i] = i;
+    }
+    list_length = TB_LIST_MOST, bad_length = TB_SPARES_MOST;
+    p_length = g_length = TB_LIST_MOST / 4, d_length = TB_LIST_MOST / 2;
+    for (uint32_t place = 0; place < TB_SPARES_MOST; place++) {
+        table[place] = place == FREE_PLACE ? 0 : 0x20000000u + HOMES * place + 1;
+    }
+    table_length = TB_SPARES_MOST, page_length = sizeof page, data_length = sizeof data;
+    image_length = TB_IMAGE_SIZE, home_length = sizeof home, spare_length = sizeof spare;
+    entries_room = grown_room = merged_room = TB_LIST_MOST, first_room = TB_SPARES_MOST, page_room = sizeof page_written, image_room = TB_IMAGE_SIZE;
+    tb_page_write(n, kind, list, list_length, page, sizeof page);
+    tb_image_write(AT_HOME, data, sizeof data, false, home, TB_IMAGE_SIZE);
+    tb_image_write(ON_SPARE, data, sizeof data, false, image, TB_IMAGE_SIZE);
+    uint8_t *const last_entry = page + TB_PAGE_MOST - 2 * TB_ENTRY_SIZE;
+    switch (situation) {
+    case 0: return true; /* all is well */
+    case 1: block = AT_HOME, sector += HOMES, in_track = HOMES, forced = true, kind = 0, option = 6, d_length = 0; return true; /* and otherwise */
+    case 2: n = 0, shape.sectors = TB_SECTORS_LEAST - 1; return true;
+    case 3: n = TB_UNITS_MOST + 1, shape.cylinders = TB_SPARES_MOST + 1; return true; /* a drive with one spare too many */
+    case 4: r = SECTORS; return true;
+    case 5: list_length = bad_length = p_length = TB_LIST_MOST + 1; return true;
+    case 6: p_length = g_length = TB_LIST_MOST / 2 + 1; return true;      /* the list in use is too long */
+    case 7: d_length = TB_LIST_MOST + 1; return true;
+    case 8: g_length = TB_LIST_MOST / 2 + 1; return true;                 /* the new grown list is too long */
+    case 9: p_length++; return true;                                      /* the new list is too long */
+    case 10: list[list_length - 1] = list[list_length - 2], bad[bad_length - 1] = bad[bad_length - 2], p[p_length - 1] = p[p_length - 2]; return true;
+    case 11: g[g_length - 1] = g[g_length - 2], memcpy(last_entry, last_entry - TB_ENTRY_SIZE, TB_ENTRY_SIZE); return true;
+    case 12: d[d_length - 1] = d[d_length - 2]; return true;
+    case 13: list[list_length - 1] = bad[bad_length - 1] = p[p_length - 1] = n; return true;
+    case 14: g[g_length - 1] = n, memset(last_entry, 0xFF, TB_ENTRY_SIZE); return true;
+    case 15: d[d_length - 1] = n; return true;
+    case 16: unit++, unit_block++, skipped_block++, cylinder++, sector = TRACKS * SECTORS, block = replaced = TRACKS * HOMES; return true;
+    case 17: head++; return true;
+    case 18: in_track = SECTORS; return true;
+    case 19: cursor.block++; return true; /* the end of the job */
+    case 20: cursor.block += 2; return true;
+    case 21: cursor.skipped++; return true;
+    case 22: cursor.skipped--; return true;
+    case 23: kind = TB_KIND_MOST + 1, page[5] = (uint8_t)kind; return true;
+    case 24: memset(page + 6, 0, 4); return true; /* the page's n */
+    case 25: page[page_length - 1] = 0; return true;
+    case 26: page_length--; return true;
+    case 27: option = TB_OPTION_MOST + 1; return true;
+    case 28: space = TB_SPACE_MOST + 1; return true;
+    case 29: option = 0; return true; /* and a list comes with it */
+    case 30: entries_room--, page_room--, first_room--, image_room--, grown_room = g_length + d_length - 1; return true;
+    case 31: merged_room--; return true;
+    case 32: table_length--; return true;
+    case 33: table[table_length - 1] = 0x30000000u + HOMES * (TRACKS - 2) + 1; return true; /* a block that occurs twice */
+    case 34: replaced = ON_SPARE; return true;
+    case 35: table[FREE_PLACE] = 0x20000000u + HOMES * FREE_PLACE + 1, bad_length++; return true; /* no spare is left */
+    case 36: data_length--, image_length--, home_length--; return true;
+    case 37: spare_length--; return true;
+    case 38: image[TB_HEADER_SIZE - 1]++, image[TB_HEADER_SIZE - 5]++; return true; /* two copies against two */
+    case 39: tb_image_write(AT_HOME, data, sizeof data, false, image, TB_IMAGE_SIZE); return true;
+    case 40: tb_image_write(ON_SPARE, data, sizeof data, true, image, TB_IMAGE_SIZE); return true;
+    case 41: image[TB_IMAGE_SIZE - 1]++; return true;
+    default: return false;
+    }
+}
 
 static uint32_t refusal;
 
-static void nothing(void) { refusal = 0; }
-static void skip_sector(void) { refusal = tb_skip_sector(TB_UNITS_MOST, list, TB_LIST_MOST, TB_UNITS_MOST - TB_LIST_MOST - 1).refusal; }
-static void skip_block(void) { refusal = tb_skip_block(TB_UNITS_MOST, list, TB_LIST_MOST, TB_UNITS_MOST - 1).refusal; }
-static void job_start(void) { refusal = tb_job_start(TB_UNITS_MOST, list, TB_LIST_MOST, TB_UNITS_MOST - TB_LIST_MOST - 1).refusal; }
-static void job_check(void)
-{
-    tb_cursor cursor = {TB_UNITS_MOST - TB_LIST_MOST, TB_LIST_MOST};
-    refusal = tb_job_check(cursor, TB_UNITS_MOST, list, TB_LIST_MOST).refusal;
-}
-static void job_step(void)
-{
-    tb_cursor cursor = {TB_UNITS_MOST - TB_LIST_MOST - 1, TB_LIST_MOST};
-    refusal = tb_job_step(cursor, TB_UNITS_MOST, list, TB_LIST_MOST).refusal;
-}
-static void shape_sector(void) { refusal = tb_shape_sector(shape, TB_SPARES_MOST - 1, 0, TB_SECTORS_MOST - 1).refusal; }
-static void shape_address(void) { refusal = tb_shape_address(shape, TB_SPARES_MOST * TB_SECTORS_MOST - 1).refusal; }
-static void skipped_address(void) { refusal = tb_skipped_address(shape, list, TB_LIST_MOST, TB_SPARES_MOST * TB_SECTORS_MOST - TB_LIST_MOST - 1).refusal; }
-static void skipped_block(void) { refusal = tb_skipped_block(shape, list, TB_LIST_MOST, TB_SPARES_MOST - 1, 0, TB_SECTORS_MOST - 1).refusal; }
-static void page_write(void) { refusal = tb_page_write(TB_UNITS_MOST, 1, list, TB_LIST_MOST, page, sizeof page).refusal; }
-static void page_read(void) { refusal = tb_page_read(page, sizeof page, grown, TB_LIST_MOST).refusal; }
-static void format(void)
-{
-    refusal = tb_format(TB_UNITS_MOST, list, TB_LIST_MOST / 2, list + TB_LIST_MOST / 4, TB_LIST_MOST / 2, 3, 1, list, TB_LIST_MOST / 4, grown, TB_LIST_MOST, other, TB_LIST_MOST).refusal;
-}
-static void spare_first(void) { refusal = tb_spare_first(shape, r, list, TB_SPARES_MOST - 1, table, TB_SPARES_MOST).refusal; }
-static void spare_sector(void) { refusal = tb_spare_sector(shape, r, full, TB_SPARES_MOST, HOMES * (TB_SPARES_MOST - 1)).refusal; }
-static void spare_address(void) { refusal = tb_spare_address(shape, r, full, TB_SPARES_MOST, HOMES * (TB_SPARES_MOST - 1)).refusal; }
-static void spare_shift(void) { refusal = tb_spare_shift(shape, r, full, TB_SPARES_MOST, HOMES * (TB_SPARES_MOST - 1)).refusal; }
-static void spare_block(void) { refusal = tb_spare_block(shape, r, full, TB_SPARES_MOST, TB_SECTORS_MOST * (TB_SPARES_MOST - 1)).refusal; }
-static void spare_block_at(void) { refusal = tb_spare_block_at(shape, r, full, TB_SPARES_MOST, TB_SPARES_MOST - 1, 0, 0).refusal; }
-static void spare_replace(void) { refusal = tb_spare_replace(shape, r, table, TB_SPARES_MOST, HOMES * TB_TABLE_BLOCK).refusal; }
-static void spare_replace_more(void) { refusal = tb_spare_replace(shape, r, table, TB_SPARES_MOST, HOMES * TB_TABLE_BLOCK + 1).refusal; }
-static void spare_census(void) { refusal = tb_spare_census(shape, r, full, TB_SPARES_MOST).refusal; }
-static void image_write(void) { refusal = tb_image_write(1, data, TB_DATA_SIZE, true, home, TB_IMAGE_SIZE).refusal; }
-static void image_header(void) { refusal = tb_image_header(home, TB_IMAGE_SIZE).refusal; }
-static void image_judge(void) { refusal = tb_image_judge(home, TB_IMAGE_SIZE, 1).refusal; }
-static void read_judge(void)
-{
-    refusal = tb_read_judge(shape, r, full, TB_SPARES_MOST, HOMES * (TB_SPARES_MOST - 1), home, sizeof home, spare, sizeof spare).refusal;
-}
-static void read_data(void)
-{
-    refusal = tb_read_data(shape, r, full, TB_SPARES_MOST, HOMES * (TB_SPARES_MOST - 1), home, sizeof home, spare, sizeof spare).refusal;
-}
+static void nothing(void) { refusal = TB_ACCEPTED; }
+static void skip_sector(void) { refusal = tb_skip_sector(n, list, list_length, unit_block).refusal; }
+static void skip_block(void) { refusal = tb_skip_block(n, list, list_length, unit).refusal; }
+static void job_start(void) { refusal = tb_job_start(n, list, list_length, unit_block).refusal; }
+static void job_check(void) { refusal = tb_job_check(cursor, n, list, list_length).refusal; }
+static void job_step(void) { refusal = tb_job_step(cursor, n, list, list_length).refusal; }
+static void shape_sector(void) { refusal = tb_shape_sector(shape, cylinder, head, in_track).refusal; }
+static void shape_address(void) { refusal = tb_shape_address(shape, sector).refusal; }
+static void skipped_address(void) { refusal = tb_skipped_address(shape, list, list_length, skipped_block).refusal; }
+static void skipped_block_at(void) { refusal = tb_skipped_block(shape, list, list_length, cylinder, head, in_track).refusal; }
+static void page_read(void) { refusal = tb_page_read(page, page_length, entries, entries_room).refusal; }
+static void page_write(void) { refusal = tb_page_write(n, kind, list, list_length, page_written, page_room).refusal; }
+static void format(void) { refusal = tb_format(n, p, p_length, g, g_length, space, option, d, d_length, grown, grown_room, merged, merged_room).refusal; }
+static void spare_sector(void) { refusal = tb_spare_sector(shape, r, table, table_length, block).refusal; }
+static void spare_address(void) { refusal = tb_spare_address(shape, r, table, table_length, block).refusal; }
+static void spare_shift(void) { refusal = tb_spare_shift(shape, r, table, table_length, block).refusal; }
+static void spare_block(void) { refusal = tb_spare_block(shape, r, table, table_length, sector).refusal; }
+static void spare_block_at(void) { refusal = tb_spare_block_at(shape, r, table, table_length, cylinder, head, in_track).refusal; }
+static void spare_replace(void) { refusal = tb_spare_replace(shape, r, table, table_length, replaced).refusal; }
+static void spare_census(void) { refusal = tb_spare_census(shape, r, table, table_length).refusal; }
+static void spare_first(void) { refusal = tb_spare_first(shape, r, bad, bad_length, first, first_room).refusal; }
+static void image_write(void) { refusal = tb_image_write(block, data, data_length, forced, image_written, image_room).refusal; }
+static void image_header(void) { refusal = tb_image_header(image, image_length).refusal; }
+static void image_judge(void) { refusal = tb_image_judge(image, image_length, block).refusal; }
+static void read_judge(void) { refusal = tb_read_judge(shape, r, table, table_length, block, home, home_length, spare, spare_length).refusal; }
+static void read_data(void) { refusal = tb_read_data(shape, r, table, table_length, block, home, home_length, spare, spare_length).refusal; }
 
-/* The calls in their order, and what each must answer here. The first table leaves one spare free, one replacement takes it, and the next finds
- * none. */
+/* Each call, and the refusals that the header names for it. */
+#define NO(name) (1u << TB_##name)
+#define NO_LIST (NO(TOO_LONG) | NO(NOT_RISING) | NO(OUTSIDE))
+#define NO_TABLE (NO(OUT_OF_RANGE) | NO(BAD_TABLE))
+#define NO_IMAGE (NO(WRONG_LENGTH) | NO(NO_ADDRESS))
+#define NO_DATA (NO_IMAGE | NO(OTHER_BLOCK) | NO(FORCED_ERROR) | NO(BAD_CODE))
+
 static const struct {
     const char *name;
-    void (*call)(void);
-    uint32_t answer;
+    void (*make)(void);
+    uint32_t refusals;
 } calls[] = {
-    {"tb_skip_sector", skip_sector, TB_ACCEPTED},
-    {"tb_skip_block", skip_block, TB_ACCEPTED},
-    {"tb_job_start", job_start, TB_ACCEPTED},
-    {"tb_job_check", job_check, TB_ACCEPTED},
-    {"tb_job_step", job_step, TB_ACCEPTED},
-    {"tb_shape_sector", shape_sector, TB_ACCEPTED},
-    {"tb_shape_address", shape_address, TB_ACCEPTED},
-    {"tb_skipped_address", skipped_address, TB_ACCEPTED},
-    {"tb_skipped_block", skipped_block, TB_ACCEPTED},
-    {"tb_page_write", page_write, TB_ACCEPTED},
-    {"tb_page_read", page_read, TB_ACCEPTED},
-    {"tb_format", format, TB_ACCEPTED},
-    {"tb_spare_first", spare_first, TB_ACCEPTED},
-    {"tb_spare_sector", spare_sector, TB_ACCEPTED},
-    {"tb_spare_address", spare_address, TB_ACCEPTED},
-    {"tb_spare_shift", spare_shift, TB_ACCEPTED},
-    {"tb_spare_block", spare_block, TB_ACCEPTED},
-    {"tb_spare_block_at", spare_block_at, TB_ACCEPTED},
-    {"tb_spare_replace", spare_replace, TB_ACCEPTED},
-    {"tb_spare_replace", spare_replace_more, TB_NO_SPARE},
-    {"tb_spare_census", spare_census, TB_ACCEPTED},
-    {"tb_image_write", image_write, TB_ACCEPTED},
-    {"tb_image_header", image_header, TB_ACCEPTED},
-    {"tb_image_judge", image_judge, TB_FORCED_ERROR},
-    {"tb_read_judge", read_judge, TB_ACCEPTED},
-    {"tb_read_data", read_data, TB_ACCEPTED},
+    {"tb_skip_sector", skip_sector, NO(OUT_OF_RANGE) | NO_LIST | NO(NO_SUCH_BLOCK)},
+    {"tb_skip_block", skip_block, NO(OUT_OF_RANGE) | NO_LIST | NO(NO_SUCH_SECTOR)},
+    {"tb_job_start", job_start, NO(OUT_OF_RANGE) | NO_LIST | NO(NO_SUCH_BLOCK)},
+    {"tb_job_check", job_check, NO(OUT_OF_RANGE) | NO_LIST | NO(STRAY_CURSOR)},
+    {"tb_job_step", job_step, NO(OUT_OF_RANGE) | NO_LIST | NO(STRAY_CURSOR) | NO(NO_SUCH_BLOCK)},
+    {"tb_shape_sector", shape_sector, NO(OUT_OF_RANGE) | NO(NO_SUCH_SECTOR)},
+    {"tb_shape_address", shape_address, NO(OUT_OF_RANGE) | NO(NO_SUCH_SECTOR)},
+    {"tb_skipped_address", skipped_address, NO(OUT_OF_RANGE) | NO_LIST | NO(NO_SUCH_BLOCK)},
+    {"tb_skipped_block", skipped_block_at, NO(OUT_OF_RANGE) | NO_LIST | NO(NO_SUCH_SECTOR)},
+    {"tb_page_read", page_read, NO(BAD_PAGE) | NO(NOT_RISING) | NO(OUTSIDE) | NO(NO_ROOM)},
+    {"tb_page_write", page_write, NO(OUT_OF_RANGE) | NO(BAD_PAGE) | NO_LIST | NO(NO_ROOM)},
+    {"tb_format", format, NO(OUT_OF_RANGE) | NO_LIST | NO(BAD_OPTION) | NO(NO_ROOM)},
+    {"tb_spare_sector", spare_sector, NO_TABLE | NO(NO_SUCH_BLOCK)},
+    {"tb_spare_address", spare_address, NO_TABLE | NO(NO_SUCH_BLOCK)},
+    {"tb_spare_shift", spare_shift, NO_TABLE | NO(NO_SUCH_BLOCK)},
+    {"tb_spare_block", spare_block, NO_TABLE | NO(NO_SUCH_SECTOR)},
+    {"tb_spare_block_at", spare_block_at, NO_TABLE | NO(NO_SUCH_SECTOR)},
+    {"tb_spare_replace", spare_replace, NO_TABLE | NO(NO_SUCH_BLOCK) | NO(ALREADY_REPLACED) | NO(NO_SPARE)},
+    {"tb_spare_census", spare_census, NO_TABLE},
+    {"tb_spare_first", spare_first, NO(OUT_OF_RANGE) | NO_LIST | NO(NO_ROOM) | NO(NO_SPARE)},
+    {"tb_image_write", image_write, NO(WRONG_LENGTH) | NO(NO_ROOM)},
+    {"tb_image_header", image_header, NO_IMAGE},
+    {"tb_image_judge", image_judge, NO_DATA},
+    {"tb_read_judge", read_judge, NO_TABLE | NO(NO_SUCH_BLOCK) | NO_DATA},
+    {"tb_read_data", read_data, NO_TABLE | NO(NO_SUCH_BLOCK) | NO_DATA},
 };
 
+enum { STACK = 1 << 17, PAD = 1 << 14 };
+
+static uint8_t stack[STACK] __attribute__((aligned(64)));
 static void (*volatile current)(void);
 
 /* Makes the call below a pad that is deeper than what starting and ending a thread touches. The pad is written and read as a whole, so that
@@ -131,17 +201,19 @@ static void *below_pad(void *unused)
     return sum == 0 ? unused : NULL;
 }
 
-/* How far below the top of the stack the call reached, for one paint. */
-static size_t depth(void (*call)(void), int paint)
+/* How far below the top of the stack a call reaches in a situation, for one paint. */
+static size_t depth(void (*make)(void), unsigned situation, int paint)
 {
     pthread_attr_t attributes;
     pthread_t thread;
     size_t lowest = 0;
+    lay(situation);
     memset(stack, paint, sizeof stack);
-    current = call;
+    current = make;
     if (pthread_attr_init(&attributes) != 0 || pthread_attr_setstack(&attributes, stack, sizeof stack) != 0
         || pthread_create(&thread, &attributes, below_pad, NULL) != 0 || pthread_join(thread, NULL) != 0) {
-        return 0;
+        puts("no thread could be started");
+        exit(1);
     }
     while (lowest < sizeof stack && stack[lowest] == (uint8_t)paint) {
         lowest++;
@@ -149,44 +221,38 @@ static size_t depth(void (*call)(void), int paint)
     return sizeof stack - lowest;
 }
 
-/* How far a call reaches with either paint, so that no byte that it stores passes for paint; both find the same table. */
-static size_t deeper(void (*call)(void))
+/* The same with either paint, so that no byte that the call stores passes for paint. */
+static size_t deeper(void (*make)(void), unsigned situation)
 {
-    static uint32_t before[TB_SPARES_MOST];
-    memcpy(before, table, sizeof table);
-    const size_t first = depth(call, 0xA5);
-    memcpy(table, before, sizeof table);
-    const size_t second = depth(call, 0x5A);
-    return first < second ? second : first;
+    const size_t one = depth(make, situation, 0xA5);
+    const size_t other = depth(make, situation, 0x5A);
+    return one < other ? other : one;
 }
 
 int main(void)
 {
     int off = 0;
     size_t deepest = 0;
-    for (uint32_t i = 0; i < TB_LIST_MOST; i++) {
-        list[i] = 2 * i;
-    }
-    for (uint32_t place = 0; place < TB_SPARES_MOST; place++) {
-        full[place] = 0x20000000u + HOMES * place;
-    }
-    tb_image_write(HOMES * (TB_SPARES_MOST - 1), data, TB_DATA_SIZE, false, spare + HOMES * TB_IMAGE_SIZE, TB_IMAGE_SIZE);
-    const size_t base = deeper(nothing);
-    if (base == 0) {
-        puts("no thread could be started");
-        return 1;
-    }
+    const size_t base = deeper(nothing, 0);
+    printf("%-20s %8s %8s  bytes of stack\n", "", "accepted", "refused");
     for (size_t i = 0; i < sizeof calls / sizeof calls[0]; i++) {
-        const size_t bytes = deeper(calls[i].call) - base;
-        if (refusal != calls[i].answer) {
-            printf("OFF: %s answers %" PRIu32 "\n", calls[i].name, refusal);
-            off = 1;
+        uint32_t seen = 0;
+        size_t most[2] = {0, 0};
+        for (unsigned situation = 0; lay(situation); situation++) {
+            const size_t bytes = deeper(calls[i].make, situation) - base;
+            size_t *const so_far = &most[refusal != TB_ACCEPTED];
+            seen |= 1u << refusal;
+            *so_far = *so_far < bytes ? bytes : *so_far;
+            deepest = deepest < bytes ? bytes : deepest;
         }
-        printf("%-20s %4zu bytes of stack%s\n", calls[i].name, bytes, calls[i].answer == TB_NO_SPARE ? " where it finds no spare" : "");
-        if (deepest < bytes) {
-            deepest = bytes;
+        printf("%-20s %8zu %8zu\n", calls[i].name, most[0], most[1]);
+        for (uint32_t number = 0; number < 32; number++) {
+            if ((seen ^ (calls[i].refusals | NO(ACCEPTED))) >> number & 1) {
+                printf("OFF: %s %s %" PRIu32 "\n", calls[i].name, seen >> number & 1 ? "gave" : "did not give", number);
+                off = 1;
+            }
         }
     }
-    printf("%-20s %4zu bytes\n", "the deepest", deepest);
+    printf("%-20s %8zu\n", "the deepest", deepest);
     return off;
 }

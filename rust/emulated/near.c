@@ -1,5 +1,7 @@
 /* The near side: the calls of tautberry.h on a machine that is no x86-64, each handed to the far side, where the proved
-   library runs under the kit's emulator. FAR is the program that starts it. */
+   library runs under the kit's emulator. What starts the far side is found when the first call is made: the program that
+   the environment variable TAUTBERRY_FAR names, or else emulated/far of the folder that the caller runs in. Cargo runs
+   tests in the crate's folder, so a tree always tests its own library, wherever it was copied to. */
 #define _POSIX_C_SOURCE 200809L
 #include <pthread.h>
 #include <spawn.h>
@@ -41,9 +43,10 @@ static void start(void)
     posix_spawn_file_actions_adddup2(&actions, requests[0], 0);
     posix_spawn_file_actions_adddup2(&actions, replies[1], 1);
     for (size_t i = 0; i < 4; i++) posix_spawn_file_actions_addclose(&actions, ends[i]);
-    char *words[] = {FAR, NULL};
+    char *named = getenv("TAUTBERRY_FAR");
+    char *words[] = {named ? named : "emulated/far", NULL};
     pid_t far;
-    if (posix_spawn(&far, FAR, &actions, NULL, words, environ)) fail("cannot start " FAR);
+    if (posix_spawn(&far, words[0], &actions, NULL, words, environ)) fail("cannot start the far side, emulated/far or what TAUTBERRY_FAR names");
     posix_spawn_file_actions_destroy(&actions);
     close(requests[0]);
     close(replies[1]);

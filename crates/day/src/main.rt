@@ -151,8 +151,8 @@ fn morning(table: &[u32]) -> [u8; 2_650] {
 // The track of the gauge log goes bad, and its blocks are replaced.
 fn noon(table: &mut [u32]) {
     telling::line(b"Noon: the track goes bad");
-    tell_replacement(7, b", sound,", table);
-    tell_replacement(8, b", sound,", table);
+    tell_replacement(7, b", a sound recording,", table);
+    tell_replacement(8, b", a sound recording,", table);
     tell_replacement(GAUGE, b", the gauge log,", table);
     tell_place(b"The gauge log now", table);
     telling::line(

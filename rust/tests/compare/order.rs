@@ -152,7 +152,7 @@ fn skipped_drives_in_order() {
 
 #[test]
 fn pages_in_order() {
-    // Layout, then the list, then the room.
+    // The page's layout, then the list, then the room.
     let strays = model::page::bytes(20, 0, &[7, 7, 30]);
     let mut broken = strays.clone();
     *broken.last_mut().expect("a byte") = 0;
