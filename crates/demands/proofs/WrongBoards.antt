@@ -16,7 +16,7 @@ use Rattle.paper.specs.Exactly.{Exactly}
 use Rattle.paper.specs.Answers.{saidPlaced}
 use Rattle.paper.specs.Refusals.{outside, noSpare, forcedError, badCode}
 use Rattle.paper.specs.declared.Placed.the-variants.{At}
-use Rattle.seek.specs.Count.{countBelow, times, times}
+use Rattle.seek.specs.Count.{countBelow, times}
 use Rattle.seek.specs.Every.{allBelow}
 use Rattle.seek.specs.Lowest.{firstBelow, faultBelow}
 use Rattle.seek.specs.Search.{firstOr, rising}
