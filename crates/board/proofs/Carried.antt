@@ -2,7 +2,7 @@
 -- Assumes nothing.
 use Prim.Native.Nat.{ℕ}
 use mathlib.Core.Path.{_≡_, sym, _∙_, ap}
-use Rattle.demands.specs.Mission.{ByTheNumbers, Keeps}
+use Rattle.demands.specs.Relations.{ByTheNumbers, Keeps}
 use Rattle.board.specs.Promises.{Tells, NumbersBy}
 
 module _ {Answer Said : Type 0} {said : Answer → Said} {Promise : Answer → Type 0} where

@@ -32,7 +32,7 @@ use Rattle.board.specs.declared.answers.TbReplaced.{TbReplaced}
 use Rattle.board.specs.declared.answers.TbShifted.{TbShifted}
 use Rattle.board.specs.declared.answers.TbSpotted.{TbSpotted}
 use Rattle.board.specs.declared.answers.TbWritten.{TbWritten}
-use Rattle.board.specs.Promises.{countedFields, formattedFields, headedFields, jobFields, judgedFields, locatedFields, namedFields, pagedFields, placedFields, replacedFields, shiftedFields, spottedFields, writtenFields, TellsCounted, TellsFormatted, TellsHeaded, TellsJob, TellsJudged, TellsLocated, TellsNamed, TellsPaged, TellsPlaced, TellsReplaced, TellsShifted, TellsSpotted, TellsWritten}
+use Rattle.board.specs.Promises.{formattedFields, pagedFields, replacedFields, writtenFields, TellsCounted, TellsFormatted, TellsHeaded, TellsJob, TellsJudged, TellsLocated, TellsNamed, TellsPaged, TellsPlaced, TellsReplaced, TellsShifted, TellsSpotted, TellsWritten}
 use Rattle.board.proofs.Carried.{told-one}
 
 -- each result as it is made of its fields

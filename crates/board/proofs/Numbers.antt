@@ -27,7 +27,7 @@ use Rattle.first_table.specs.Tables.{FirstTableJudged}
 use Rattle.spares.specs.Spares.{BlockOnJudged as SpareBlockOnJudged, BlockAtJudged as SpareBlockAtJudged, ReplaceJudged}
 use Rattle.image.specs.Judged.{HeaderJudged, ImageJudged, WriteJudged as ImageWriteJudged}
 use Rattle.reading.specs.Judged.{BlockReadJudged}
-use Rattle.demands.specs.Mission.{Keeps}
+use Rattle.demands.specs.Relations.{Keeps}
 use Rattle.demands.proofs.Demand1.{skip-sector-of, skip-block-on, cursor-start, cursor-check, cursor-step, shape-sector-of, shape-address-of, skipped-address-of, skipped-block-at, page-read, page-write, format-format, spares-sector-of, spares-address-of, spares-shift, spares-block-on, spares-block-at, spares-replace, spares-census, spares-first-table, image-write, image-header, image-judge, reading-judge, reading-spot, page-read-keeps, page-write-keeps, format-keeps, spares-replace-keeps, spares-first-table-keeps, image-write-keeps}
 use Rattle.board.specs.declared.answers.TbCounted.{TbCounted}
 use Rattle.board.specs.declared.answers.TbFormatted.{TbFormatted}

@@ -1,13 +1,13 @@
 -- Why a call that answers by a chain of checks answers by the numbers: one argument for every kind of answer.
 -- Assumes nothing.
 use Prim.Native.Nat.{ℕ}
-use mathlib.Core.Path.{_≡_, sym, _∙_, ap}
+use mathlib.Core.Path.{_≡_, sym, _∙_}
 use Rattle.paper.specs.Exactly.{Exactly}
 use Rattle.paper.specs.Promise.{Gives, Fills}
 use Rattle.paper.proofs.Cases.{byFault}
 use Rattle.paper.proofs.Chain.{answer-accepted}
 use Rattle.paper.proofs.Kept.{gives-number, gives-refused, fills-gives, fills-refused}
-use Rattle.demands.specs.Mission.{ByTheNumbers, Keeps}
+use Rattle.demands.specs.Relations.{ByTheNumbers, Keeps}
 
 module _
     {Result Said : Type 0}

@@ -3,28 +3,22 @@
 -- A call's theorem says three things (`ByTheNumbers`): its number is the one that the paper's table gives, exactly then, and no other; a refusal says 0 for every other number, save that a refused step returns its cursor; and no call answers a refusal with number 0, so that 0 means accepted. Theorems that end in `-keeps` say that lent memory keeps its bytes.
 -- Assumes nothing.
 use Rattle.paper.proofs.Kept.{fills-gives}
-use Prim.Native.Nat.{ℕ, _+_, _-_, _*_, _/_, _%_}
-use mathlib.Core.Path.{_≡_, refl, _∙_, ap}
+use Prim.Native.Nat.{ℕ}
+use mathlib.Core.Path.{refl, _∙_, ap}
 use mathlib.Core.Bool.{Bool}
 use mathlib.Core.List.{List}
-use lib.Dec.{ltb}
-use lib.ListN.{length, getD}
+use lib.ListN.{length}
 use denote.Ref.{RefT}
 use Rattle.paper.specs.Limits.{dataSize}
 use Rattle.paper.specs.Answers.{saidWritten}
 use Rattle.paper.specs.declared.Placed.{Placed}
 use Rattle.paper.specs.declared.Named.{Named}
-use Rattle.paper.specs.declared.Named.the-variants.{Block, NoBlock}
 use Rattle.paper.specs.declared.Written.{Written}
-use Rattle.lists.specs.Union.{isIn}
-use Rattle.paper.specs.Promise.{written}
 use Rattle.shape.specs.declared.Shape.{Shape}
 use Rattle.shape.specs.declared.Located.{Located}
-use Rattle.shape.specs.Shapes.{sizeOf}
 use Rattle.shape.specs.Addresses.{sectorAt, SectorOfJudged as ShapeSectorOfJudged, AddressOfJudged as ShapeAddressOfJudged}
 use Rattle.shape.specs.Promises.{SectorOf as ShapeSectorOf, AddressOf as ShapeAddressOf}
 use Rattle.shape.proofs.Exact.{sector-of-exactly as shape-sector-of-exactly, address-of-exactly as shape-address-of-exactly}
-use Rattle.skip.specs.Skipping.{goodsBefore, place}
 use Rattle.skip.specs.Translation.{SectorOfJudged, BlockOnJudged}
 use Rattle.skip.specs.Cursors.{noCursor, CheckJudged, StepJudged}
 use Rattle.skip.specs.Promises.{SectorOf, BlockOn, Starts, Checks, Steps}
@@ -34,35 +28,29 @@ use Rattle.skip.proofs.Exact.{sector-of-exactly, block-on-exactly, check-exactl
 use Rattle.skipped.specs.Faults.{AddressOfJudged as SkippedAddressOfJudged, BlockAtJudged as SkippedBlockAtJudged}
 use Rattle.skipped.specs.Promises.{AddressOf as SkippedAddressOf, BlockAt as SkippedBlockAt}
 use Rattle.skipped.proofs.Exact.{address-of-exactly as skipped-address-of-exactly, block-at-exactly as skipped-block-at-exactly}
-use Rattle.page.specs.Layout.{kindOf, unitsOf, entriesOf}
 use Rattle.page.specs.Pages.{ReadJudged as PageReadJudged, WriteJudged as PageWriteJudged}
 use Rattle.page.specs.Promises.{saidPaged, Reads, Writes}
 use Rattle.page.specs.declared.Paged.{Paged}
 use Rattle.page.proofs.Exact.{read-exactly as page-read-exactly, write-exactly as page-write-exactly}
-use Rattle.format.specs.Spaces.{formatFault, newGrown, newList, newSpace, FormatJudged}
+use Rattle.format.specs.Spaces.{FormatJudged}
 use Rattle.format.specs.Promises.{saidFormatted, Formats}
 use Rattle.format.specs.declared.Formatted.{Formatted}
 use Rattle.format.proofs.Exact.{format-exactly}
-use Rattle.layout.specs.Layouts.{driveOf, sectorsPerTrack}
-use Rattle.layout.specs.Descriptors.{numberOf, isAllocated}
-use Rattle.layout.specs.declared.Drive.{Drive}
-use Rattle.table.specs.Rules.{tableFault, TableJudged, blockFault as spareBlockFault, BlockJudged}
-use Rattle.table.specs.Places.{tableLength}
-use Rattle.table.specs.Lookup.{isReplaced, liesOn, blockAtHome, blockOnSpare, lyingOn}
+use Rattle.layout.specs.Layouts.{driveOf}
+use Rattle.table.specs.Rules.{TableJudged, BlockJudged}
+use Rattle.table.specs.Lookup.{isReplaced}
 use Rattle.table.proofs.Exact.{table-exactly}
-use Rattle.replacing.specs.Replacing.{spareFor}
-use Rattle.table.specs.Counting.{censusOf}
-use Rattle.first_table.specs.Tables.{firstTableFault, FirstTableJudged}
+use Rattle.first_table.specs.Tables.{FirstTableJudged}
 use Rattle.first_table.specs.Promises.{FirstTable}
 use Rattle.first_table.proofs.Exact.{first-exactly}
-use Rattle.spares.specs.Spares.{shiftOf, blockOnFault, blockAtFault, replaceFault, BlockOnJudged as SpareBlockOnJudged, BlockAtJudged as SpareBlockAtJudged, ReplaceJudged}
+use Rattle.spares.specs.Spares.{BlockOnJudged as SpareBlockOnJudged, BlockAtJudged as SpareBlockAtJudged, ReplaceJudged}
 use Rattle.spares.specs.Promises.{saidReplaced, SectorOf as SpareSectorOf, AddressOf as SpareAddressOf, ShiftOf, BlockOn as SpareBlockOn, BlockAt as SpareBlockAt, Replacement, CensusOf}
 use Rattle.spares.specs.declared.Shifted.{Shifted}
 use Rattle.spares.specs.declared.Replaced.{Replaced}
 use Rattle.spares.specs.declared.Counted.{Counted}
 use Rattle.spares.proofs.Exact.{block-on-exactly as spare-block-on-exactly, block-at-exactly as spare-block-at-exactly, replace-exactly}
 use Rattle.table.proofs.Exact.{block-exactly}
-use Rattle.image.specs.Image.{headerOf, headerFault, imageFault, writeFault}
+use Rattle.image.specs.Image.{imageFault}
 use Rattle.image.specs.Judged.{HeaderJudged, ImageJudged, WriteJudged}
 use Rattle.image.specs.Promises.{Write, Header, Judge, Data}
 use Rattle.image.specs.declared.Head.{Head}
@@ -77,7 +65,7 @@ use Rattle.reading.specs.Promises.{Judge as ReadJudge, Data as ReadData, Spots}
 use Rattle.reading.specs.declared.answers.Spot.{Spot}
 use Rattle.reading.proofs.Exact.{read-exactly}
 use Rattle.reading.proofs.Parts.{read-length, refused-empty as read-refused-empty, accepted-data as read-accepted-data}
-use Rattle.demands.specs.Mission.{Keeps, PartBy}
+use Rattle.demands.specs.Relations.{Keeps, PartBy}
 use Rattle.demands.specs.Numbered.{PlacedBy, NamedBy, WrittenBy, LocatedBy, JobBy, PagedBy, FormattedBy, ShiftedBy, ReplacedBy, CountedBy, HeadBy, VerdictBy, SpotBy}
 use Rattle.demands.proofs.Chains.{keeps}
 use Rattle.demands.proofs.ByKind.{found-naming, lying-naming, placed-by, named-by, written-by, located-by, ready-by, stepped-by, paged-by, formatted-by, shifted-by, replaced-by, counted-by, head-by, verdict-by, spot-by}

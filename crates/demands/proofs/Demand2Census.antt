@@ -26,7 +26,7 @@ use Rattle.spares.specs.declared.Counted.{Counted}
 use Rattle.spares.specs.declared.Counted.the-variants.{Counts as Census-of}
 use Rattle.spares.proofs.Accepted.{census-whole}
 use Rattle.spares.proofs.Histories.{history-passes, history-frees, first-passes, census-law}
-use Rattle.demands.specs.Mission.{Counts}
+use Rattle.demands.specs.Relations.{Counts}
 use Rattle.demands.proofs.Rooms.{first-table-hands}
 
 -- a census that is answered counts each code of the table

@@ -9,7 +9,6 @@ use lib.IntN.{ℤ, pos, _+ℤ_, +ℤ-idr}
 use lib.ListN.{length, getD}
 use borrow.Author.Tests.{lt-leb}
 use Rattle.paper.specs.Refusals.{noSpare, noSuchSector}
-use Rattle.paper.specs.Checks.{refuse}
 use Rattle.paper.specs.Answers.{saidNamed}
 use Rattle.paper.specs.declared.Placed.{Placed}
 use Rattle.paper.specs.declared.Placed.the-variants.{At, Refused as NotPlaced}
@@ -45,7 +44,7 @@ use Rattle.table.proofs.Exact.{Ready, table-ready, block-ready, block-below}
 use Rattle.spares.proofs.Accepted.{replace-alters, no-spare-shows, no-spare-told}
 use Rattle.spares.proofs.Shifts.{shift-at-home, shift-leads, shift-answered}
 use Rattle.demands.proofs.ByKind.{naming-says, lying-naming}
-use Rattle.demands.specs.Mission.{Leads}
+use Rattle.demands.specs.Relations.{Leads}
 
 module _ (shape : Shape) (r : ℕ) (t : List ℕ) where
   answered-passes : (b s : ℕ) → SectorOf shape r t b (At s) → blockFault shape r t b ≡ 0

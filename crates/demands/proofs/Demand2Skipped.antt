@@ -44,7 +44,7 @@ use Rattle.skipped.specs.Faults.{skippedFault, addressOfFault as skippedBlockFa
 use Rattle.skipped.specs.Promises.{AddressOf, BlockAt}
 use Rattle.skipped.proofs.Shown.{drive-shaped, drive-proper, block-drive, block-below as skipped-block-below}
 use Rattle.demands.proofs.ByKind.{naming-says, found-naming}
-use Rattle.demands.specs.Mission.{Onward}
+use Rattle.demands.specs.Relations.{Onward}
 
 module _ (n : ℕ) (a : List ℕ) where
   -- a sector that is answered is the one that the block lies on

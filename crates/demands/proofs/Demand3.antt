@@ -7,10 +7,8 @@ use mathlib.Core.Logic.{inl, inr}
 use mathlib.Core.List.{List}
 use native.Mathlib.Omega.{arith}
 use lib.ListN.{length, take}
-use borrow.Author.Tests.{le-ltb}
-use Rattle.paper.proofs.Chain.{orElse-first, answer-accepted}
+use Rattle.paper.proofs.Chain.{answer-accepted}
 use Rattle.lists.specs.Union.{isIn, union}
-use Rattle.paper.specs.Promise.{written}
 use Rattle.skip.specs.Skipping.{goodsBefore, Lies, place, sectorsOfBlocks}
 use Rattle.skip.specs.Translation.{blocks}
 use Rattle.skip.proofs.Lying.{lies-place, lies-below, place-lies}
@@ -26,7 +24,7 @@ use Rattle.format.specs.Promises.{Formats}
 use Rattle.format.specs.declared.Formatted.{Formatted}
 use Rattle.format.specs.declared.Formatted.the-variants.{Done, Refused as NotFormatted}
 use Rattle.format.proofs.Scans.{Scans, option-1-in-space-3, option-3-in-space-2, scan-places, list-is, A-rising, A-inside, d-rising, d-inside, nights-grown, nights-list, joined-fits}
-use Rattle.demands.specs.Mission.{Handed, Arrives}
+use Rattle.demands.specs.Relations.{Handed, Arrives}
 use Rattle.demands.proofs.Rooms.{format-hands}
 
 -- the two pairs of option and space that the law is claimed for

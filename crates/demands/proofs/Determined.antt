@@ -22,7 +22,7 @@ use Rattle.image.specs.Promises as Image
 use Rattle.image.proofs.Lent.{data-one}
 use Rattle.reading.specs.Promises as Reading
 use Rattle.reading.proofs.Parts.{data-one as read-one}
-use Rattle.demands.specs.Mission.{OneResult, OneFilled, OneFilledTwice, OneLent}
+use Rattle.demands.specs.Relations.{OneResult, OneFilled, OneFilledTwice, OneLent}
 
 module _ {Answer Said : Type 0} (said : Answer → Said) (nothing : ℕ → Said) (refused : ℕ → Answer) (fault : ℕ) (accepted : Answer) where
   pub gives-determines : OneResult (Gives said nothing refused fault accepted)

@@ -20,7 +20,6 @@ use Rattle.lists.specs.Union.{isIn}
 use Rattle.paper.specs.Promise.{written}
 use Rattle.shape.specs.declared.Shape.{Shape}
 use Rattle.shape.specs.Shapes.{sizeOf}
-use Rattle.skip.specs.Skipping.{goodsBefore, place}
 use Rattle.skip.specs.Walk.{passes, walked}
 use Rattle.skip.specs.Translation.{sectorOfFault, blockOnFault}
 use Rattle.skip.proofs.Shown.{block-walk}
@@ -30,12 +29,10 @@ use Rattle.format.proofs.Answering.{format-accepts}
 use Rattle.format.proofs.Held.{grown-holds, list-holds}
 use Rattle.format.proofs.Named.{scan-grown, scan-list, scan-accepted}
 use Rattle.layout.specs.Layouts.{driveOf, driveFault}
-use Rattle.table.specs.Rules.{tableFault}
 use Rattle.table.specs.Places.{tableLength}
-use Rattle.table.specs.Lookup.{placeOf, liesOn}
+use Rattle.table.specs.Lookup.{placeOf}
 use Rattle.order.specs.Order.{outward}
 use Rattle.replacing.specs.Replacing.{spareFor}
-use Rattle.table.specs.Counting.{censusOf}
 use Rattle.first_table.specs.Marks.{passing, badSpares, badHomes, marked}
 use Rattle.first_table.specs.Tables.{replacedAll, firstTable, spareFault, firstTableFault as startFault}
 use Rattle.first_table.proofs.Exact.{spares-judge}
@@ -44,8 +41,8 @@ use Rattle.spares.specs.History.{tableAfter}
 use Rattle.image.specs.Code.{wordsOf, rotated, codeAfter, codeFrom, dataCode, carried}
 use Rattle.image.specs.Image.{storedIn, imageOf, writeFault}
 use Rattle.image.proofs.Exact.{length-passes}
-use Rattle.demands.specs.Mission.{AllowsOnly}
-use Rattle.demands.specs.Inputs.{chart, small, noneReplaced, afterSeven, afterEight, afterSix}
+use Rattle.demands.specs.Relations.{AllowsOnly}
+use Rattle.demands.specs.Inputs.{chart, small, noneReplaced, afterSeven, afterEight}
 use Rattle.demands.specs.Rows.{skip-sector, skip-block, format, spare-first, spare-replace, image-write, Holds, AllHold, done, _also_, zeros, firstOne, lastOne, paperRows}
 
 module _ {Answer Said : Type 0} {said : Answer → Said} {nothing : ℕ → Said} {refused : ℕ → Answer} {fault : ℕ} {accepted : Answer} (alone : (k : ℕ) → said (refused k) ≡ nothing k) where

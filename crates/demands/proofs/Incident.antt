@@ -50,7 +50,7 @@ use Rattle.reading.proofs.Parts.{refused-empty, accepted-data, accepted-part}
 use Rattle.reading.proofs.Tracks.{seated-only, data-inside}
 use Rattle.reading.proofs.Written.{good-read, good-part}
 use Rattle.demands.proofs.ByKind.{spot-says}
-use Rattle.demands.specs.Mission.{AllowsOnly}
+use Rattle.demands.specs.Relations.{AllowsOnly}
 use Rattle.demands.specs.Inputs.{small, afterEight}
 use Rattle.demands.specs.Incident.{spareStart, spareData, imageFrom, WholeTrack, SamePart, HandsBack, Safe}
 use Rattle.demands.proofs.Demand2Revectored.{replacement-alters}

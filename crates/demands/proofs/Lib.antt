@@ -10,5 +10,6 @@ pub mod ThereAndBack
 pub mod Examples
 pub mod Incident
 pub mod Determined
+pub mod Boards
 pub mod WrongBoards
 pub mod Readings

@@ -29,8 +29,7 @@ use Rattle.image.specs.Promises.{Write}
 use Rattle.image.proofs.ThereAndBack.{room-image, room-rest}
 use Rattle.image.proofs.Exact.{write-shows}
 use Rattle.image.proofs.Images.{length-image}
-use Rattle.table.proofs.Obeying.{unbroken-obeys}
-use Rattle.demands.specs.Mission.{Handed}
+use Rattle.demands.specs.Relations.{Handed}
 
 -- a room that holds a list and then the rest of what it held
 pub handed : (list before : List ℕ) (long : ℕ) (after : List ℕ) → long ≡ length list → after ≡ written list before → Handed list before long after

@@ -3,7 +3,7 @@
 -- Assumes nothing.
 use Rattle.paper.proofs.Kept.{gives-number, fills-gives}
 use Prim.Native.Nat.{ℕ, _+_, _^_, _<_, _≤_}
-use mathlib.Core.Path.{_≡_, refl, sym, _∙_, ap}
+use mathlib.Core.Path.{_≡_, refl, sym, _∙_}
 use mathlib.Core.Bool.{Bool, true, false}
 use mathlib.Core.List.{List, []}
 use lib.Bits.{bitXor}

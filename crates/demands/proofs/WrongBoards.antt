@@ -67,10 +67,10 @@ use Rattle.reading.proofs.Spots.{spotted}
 use Rattle.reading.specs.declared.answers.Spot.the-variants.{InSpare}
 use Rattle.reading.proofs.Tracks.{image-inside, data-inside}
 use Rattle.reading.proofs.Written.{good-read}
-use Rattle.demands.specs.Mission.{Keeps, Handed, Onward, Leads, Counts, Arrives}
+use Rattle.demands.specs.Relations.{Keeps, Handed, Onward, Leads, Counts, Arrives}
 use Rattle.demands.specs.Numbered.{PlacedBy}
 use Rattle.demands.specs.Inputs.{few, chart, small, noneReplaced, afterSix}
-use Rattle.demands.specs.Boards.{made, scan, lent, pageWith, begun, damaged, older, newer, blank, trackWith, refusesAll, sameSector, addsOnce, skipsNothing, opened, runsAhead, cursorAfter, sectorsAfter, madeUpEntries, writesEarly, madeUpLengths, takesSectors, Composes, sameSpare, sparesNone, leavesTable, stoppedOrder, stopsSearch, madeUpCensus, censusWith, truncatedShift, wrappedShift, everyForced, homeImage, readsHome}
+use Rattle.demands.proofs.Boards.{made, scan, lent, pageWith, begun, damaged, older, newer, blank, trackWith, refusesAll, sameSector, addsOnce, skipsNothing, opened, runsAhead, cursorAfter, sectorsAfter, madeUpEntries, writesEarly, madeUpLengths, takesSectors, Composes, sameSpare, sparesNone, leavesTable, stoppedOrder, stopsSearch, madeUpCensus, censusWith, truncatedShift, wrappedShift, everyForced, homeImage, readsHome}
 
 -- a number that is given exactly is the only one
 no-other : {Rows : ℕ → Type 0} {number k : ℕ} → Exactly Rows number → (number ≡ k → ⊥) → Rows k → ⊥

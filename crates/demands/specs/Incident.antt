@@ -16,7 +16,7 @@ use Rattle.image.specs.Image.{imageOf}
 use Rattle.image.specs.Promises.{saidVerdict, Lends}
 use Rattle.reading.specs.Tracks.{bytesIn}
 use Rattle.reading.specs.Promises.{Data, Judge, Spots, saidSpot}
-use Rattle.demands.specs.Mission.{AllowsOnly}
+use Rattle.demands.specs.Relations.{AllowsOnly}
 
 -- where the sector image of spare q starts in the image of its track: the spare's sector there, l + q mod r, times 530
 abbrev pub spareStart : Shape → ℕ → ℕ → ℕ

@@ -1,6 +1,5 @@
-pub mod Mission
+pub mod Relations
 pub mod Numbered
 pub mod Inputs
 pub mod Rows
 pub mod Incident
-pub mod Boards

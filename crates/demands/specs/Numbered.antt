@@ -37,7 +37,7 @@ use Rattle.image.specs.declared.Verdict.the-variants.{Refused as NotGood}
 use Rattle.reading.specs.Promises.{saidSpot}
 use Rattle.reading.specs.declared.answers.Spot.{Spot}
 use Rattle.reading.specs.declared.answers.Spot.the-variants.{Refused as NotSpotted}
-use Rattle.demands.specs.Mission.{ByTheNumbers}
+use Rattle.demands.specs.Relations.{ByTheNumbers}
 
 -- a sector
 abbrev pub PlacedBy : (ℕ → Type 0) → Placed → Type 0

@@ -1,6 +1,6 @@
 // The listing of a page as bytes: decimal numbers, one line for each.
 ghost use mathlib.Core.Path.{_≡_};
-ghost use Prim.Native.Nat.{_+_, _*_, _-_, _≤_};
+ghost use Prim.Native.Nat.{_+_, _*_, _≤_};
 ghost use lib.ListN.{length};
 ghost use Rattle.paper.specs.Limits.{unitsMost, entrySize, listingMost};
 ghost use Rattle.words.specs.Words.{entriesAt};

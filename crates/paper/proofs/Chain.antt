@@ -3,7 +3,7 @@
 use Prim.Native.Nat.{ℕ, zero, suc}
 use mathlib.Core.Path.{_≡_, refl}
 use native.Mathlib.Omega.{arith}
-use Rattle.paper.specs.Checks.{_orElse_, answer, given}
+use Rattle.paper.specs.Checks.{_orElse_, answer}
 
 pub orElse-some : (fault next : ℕ) → (fault ≡ 0 → ⊥) → (fault orElse next) ≡ fault
 orElse-some zero next some = absurd (some refl)
@@ -37,8 +37,3 @@ module _ {ℓ} {X : Type ℓ} where
 pub answer-number : (fault : ℕ) → answer fault (λ k. k) 0 ≡ fault
 answer-number zero = refl
 answer-number (suc fault) = refl
-
--- a number of a call that refuses is 0
-pub given-refused : (fault number : ℕ) → (fault ≡ 0 → ⊥) → given fault number ≡ 0
-given-refused zero number some = absurd (some refl)
-given-refused (suc fault) number some = refl

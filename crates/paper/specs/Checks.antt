@@ -25,8 +25,3 @@ suc fault orElse next = suc fault
 abbrev pub answer {ℓ} : {X : Type ℓ} → ℕ → (ℕ → X) → X → X
 answer zero refused accepted = accepted
 answer (suc fault) refused accepted = refused (suc fault)
-
--- a number of an answer: 0 where the call refuses
-abbrev pub given : ℕ → ℕ → ℕ
-given zero number = number
-given (suc fault) number = 0

@@ -1,6 +1,6 @@
 // The paper's numbers: refusals, limits and sizes, the range of N, and the answers that several crates give.
 ghost use mathlib.Core.Path.{_≡_};
-ghost use Prim.Native.Nat.{_+_, _*_, _≤_};
+ghost use Prim.Native.Nat.{_≤_};
 ghost use Rattle.paper.specs.Checks.{oneIf};
 ghost use Rattle.paper.specs.Refusals.{outOfRange, tooLong, notRising, outside, noSuchBlock, noSuchSector, noRoom, badPage, strayCursor, badOption, badTable, alreadyReplaced, noSpare, wrongLength, noAddress, otherBlock, forcedError, badCode};
 ghost use Rattle.paper.specs.Limits.{unitsMost, cylindersMost, headsMost, sectorsLeast, sectorsMost, listMost, sparesMost, tableBlock, dataSize, headerSize, imageExtra, pageFrame, entrySize, pageMost, optionMost, spaceMost, kindMost, listingMost, startCode, within, sizeFault};

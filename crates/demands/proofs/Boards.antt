@@ -20,7 +20,7 @@ use Rattle.paper.specs.Promise.{written}
 use Rattle.shape.specs.declared.Shape.{Shape}
 use Rattle.skip.specs.Skipping.{goodsBefore, place, after}
 use Rattle.skip.specs.Walk.{entriesBelow}
-use Rattle.skip.specs.Translation.{blocks, sectorOfFault}
+use Rattle.skip.specs.Translation.{sectorOfFault}
 use Rattle.skip.specs.Cursors.{cursorAt, stepFault}
 use Rattle.skip.specs.Promises.{saidJob, handedBack}
 use Rattle.skip.specs.declared.Cursor.{Cursor}
