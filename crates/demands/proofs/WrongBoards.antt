@@ -184,10 +184,10 @@ pub made-up-lengths :
 unfolding countBelow firstBelow faultBelow isIn into union goodsBefore place
 made-up-lengths long other wrong = (refl, λ grown list. wrong (grown .long-as, list .long-as))
 
--- a census made up: five places are free, one is afterSix at its primary, two elsewhere, none is unusable and 120 are null
-pub used-counts : Counts afterSix (censusWith 5 1 2 0 120)
+-- a census made up: in the table after the three replacements five places are free, one block lies at its primary and two lie elsewhere, no place is unusable and 120 are null
+pub after-six-counts : Counts afterSix (censusWith 5 1 2 0 120)
 unfolding countBelow
-used-counts = record { are-free = refl; are-primary = refl; are-elsewhere = refl; are-unusable = refl; are-null = refl }
+after-six-counts = record { are-free = refl; are-primary = refl; are-elsewhere = refl; are-unusable = refl; are-null = refl }
 
 counts-one : {t : List ℕ} {first second : Census} → Counts t first → Counts t second → first ≡ second
 counts-one one other =
@@ -204,17 +204,17 @@ counts-one one other =
 pub made-up-census :
     (census : Census) → (census ≡ censusWith 5 1 2 0 120 → ⊥) → (madeUpCensus census small 2 afterSix ≡ CountedAs census) × (Counts afterSix census → ⊥)
 unfolding allBelow
-made-up-census census other = (refl, λ counts. other (counts-one counts used-counts))
+made-up-census census other = (refl, λ counts. other (counts-one counts after-six-counts))
 
 -- all zeros; one free place too many; the right sum with two codes exchanged
 pub zeros-counted : Counts afterSix (censusWith 0 0 0 0 0) → ⊥
-zeros-counted counts = omega (arith, ap (λ (c : Census). c .free) (counts-one counts used-counts))
+zeros-counted counts = omega (arith, ap (λ (c : Census). c .free) (counts-one counts after-six-counts))
 
 pub one-too-many : Counts afterSix (censusWith 6 1 2 0 120) → ⊥
-one-too-many counts = omega (arith, ap (λ (c : Census). c .free) (counts-one counts used-counts))
+one-too-many counts = omega (arith, ap (λ (c : Census). c .free) (counts-one counts after-six-counts))
 
 pub codes-exchanged : Counts afterSix (censusWith 5 2 1 0 120) → ⊥
-codes-exchanged counts = omega (arith, ap (λ (c : Census). c .primary) (counts-one counts used-counts))
+codes-exchanged counts = omega (arith, ap (λ (c : Census). c .primary) (counts-one counts after-six-counts))
 
 -- a map that moves nothing has demand 3's law too, as demand 2's map does
 pub identity-composes : Composes (λ bad n b. b)

@@ -20,7 +20,7 @@ use spares::Counted;
 use spares::Replaced;
 use spares::Shifted;
 
-// Writes the number of a refusal. Only other crates call this.
+// Writes the number of a refusal.
 pub fn refused(fault: u32) {
     number(b"refused ", fault);
 }
@@ -89,14 +89,14 @@ pub fn located(words: &[u8], answer: Located) {
     end();
 }
 
-// Writes a cursor: the next block and the skipped count. Only other crates call this.
+// Writes a cursor: the next block and the skipped count.
 pub fn cursor(words: &[u8], at: Cursor) {
     text(words);
     number(b"cursor ", at.block);
     number(b", ", at.skipped);
 }
 
-// Writes how a job stands, with the cursor that is handed back. Only other crates call this.
+// Writes how a job stands, with the cursor that is handed back.
 pub fn job(words: &[u8], answer: Job) {
     text(words);
     match answer {
