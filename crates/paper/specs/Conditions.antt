@@ -9,7 +9,7 @@ use Rattle.paper.specs.Limits.{listMost}
 abbrev pub TooLong : List ℕ → Type 0
 TooLong list = listMost < length list
 
--- rows 5 and 6: a number is not below its bound
+-- rows 4, 5 and 6: an entry, or a number that the caller names, is not below its bound
 abbrev pub NotBelow : ℕ → ℕ → Type 0
 NotBelow bound number = bound ≤ number
 
