@@ -22,7 +22,7 @@ use Rattle.table.proofs.Exact.{Ready, block-ready, block-below, block-exactly}
 use Rattle.image.specs.Image.{contentsFault}
 use Rattle.image.proofs.Exact.{sector-exactly}
 use Rattle.reading.specs.Tracks.{trackOf, sectorIn, bytesIn, imageAt, imageFor, headerFor}
-use Rattle.reading.specs.Faults.{otherLength, lentFault, blockReadFault}
+use Rattle.reading.specs.Faults.{otherTracks, lentFault, blockReadFault}
 use Rattle.reading.specs.Judged.{LengthsJudged, LyingJudged, lies, BlockReadJudged}
 use Rattle.reading.proofs.Tracks.{seated, seated-only}
 
@@ -50,14 +50,14 @@ lying-exactly size drive t b home spare o = record { judged = judged; only = onl
         rw (one .0, one .1) (sector-exactly (imageAt size (bytesIn size sector) track) size (headerFor drive t b) .only k found)
 
 module _ (size : ℕ) (shape : Shape) (home spare : List ℕ) where
-  tells-other-length : Tells (otherLength size shape home spare) ((length home ≡ bytesIn size (shape .sectors) → ⊥) ⊎ (length spare ≡ bytesIn size (shape .sectors) → ⊥))
+  tells-other-length : Tells (otherTracks size shape home spare) ((length home ≡ bytesIn size (shape .sectors) → ⊥) ⊎ (length spare ≡ bytesIn size (shape .sectors) → ⊥))
   tells-other-length =
       tells-either
       (tells-not (tells-eq (length home) (bytesIn size (shape .sectors))))
       (tells-not (tells-eq (length spare) (bytesIn size (shape .sectors))))
 
   lengths-show :
-      refuse (otherLength size shape home spare) wrongLength ≡ 0 →
+      refuse (otherTracks size shape home spare) wrongLength ≡ 0 →
       (length home ≡ bytesIn size (shape .sectors)) × (length spare ≡ bytesIn size (shape .sectors))
   lengths-show none =
       byEq (length home) (bytesIn size (shape .sectors))

@@ -13,13 +13,13 @@ use Rattle.image.specs.Image.{contentsFault}
 use Rattle.reading.specs.Tracks.{bytesIn, imageFor, headerFor}
 
 -- either image is not that of a whole track
-abbrev pub otherLength : ℕ → Shape → List ℕ → List ℕ → Bool
-otherLength size shape home spare =
+abbrev pub otherTracks : ℕ → Shape → List ℕ → List ℕ → Bool
+otherTracks size shape home spare =
     not (eqb (length home) (bytesIn size (shape .sectors))) || not (eqb (length spare) (bytesIn size (shape .sectors)))
 
 -- 1, 11, 5, 14: checks of what is lent
 unfoldable pub lentFault : ℕ → Shape → ℕ → List ℕ → ℕ → List ℕ → List ℕ → ℕ
-lentFault size shape r t b home spare = blockFault shape r t b orElse refuse (otherLength size shape home spare) wrongLength
+lentFault size shape r t b home spare = blockFault shape r t b orElse refuse (otherTracks size shape home spare) wrongLength
 
 -- 15 to 18: checks of the sector image that the block lies on
 abbrev pub lyingFault : ℕ → Shape → ℕ → List ℕ → ℕ → List ℕ → List ℕ → ℕ
