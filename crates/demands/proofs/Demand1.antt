@@ -67,8 +67,12 @@ use Rattle.reading.proofs.Exact.{read-exactly}
 use Rattle.reading.proofs.Parts.{read-length, refused-empty as read-refused-empty, accepted-data as read-accepted-data}
 use Rattle.demands.specs.Relations.{Keeps, PartBy}
 use Rattle.demands.specs.Numbered.{PlacedBy, NamedBy, WrittenBy, LocatedBy, JobBy, PagedBy, FormattedBy, ShiftedBy, ReplacedBy, CountedBy, HeadBy, VerdictBy, SpotBy}
+use Rattle.demands.specs.Demand1.{EachByTheNumbers, EachKeeps, EachHands, EachDetermined, EachAgain, Demand1}
 use Rattle.demands.proofs.Chains.{keeps}
 use Rattle.demands.proofs.ByKind.{found-naming, lying-naming, placed-by, named-by, written-by, located-by, ready-by, stepped-by, paged-by, formatted-by, shifted-by, replaced-by, counted-by, head-by, verdict-by, spot-by}
+use Rattle.demands.proofs.Rooms.{page-read-hands, page-write-hands, format-hands, first-table-hands, image-write-hands}
+use Rattle.demands.proofs.Determined as Determined
+use Rattle.demands.proofs.ThereAndBack as Again
 
 -- a drive by its shape
 module _ (shape : Shape) where
@@ -231,3 +235,119 @@ module _ (shape : Shape) (r : ℕ) (t : List ℕ) (b : ℕ) where
             ap length (read-accepted-data dataSize shape r t b home spare part promise passes)
             ∙ read-length dataSize shape r t b (home .now) (spare .now) passes;
       }
+
+-- each sentence, call by call
+each-by-the-numbers : EachByTheNumbers
+each-by-the-numbers =
+    record {
+      shape-sector-of = shape-sector-of;
+      shape-address-of = shape-address-of;
+      skip-sector-of = skip-sector-of;
+      skip-block-on = skip-block-on;
+      cursor-start = cursor-start;
+      cursor-check = cursor-check;
+      cursor-step = cursor-step;
+      skipped-address-of = skipped-address-of;
+      skipped-block-at = skipped-block-at;
+      page-read = page-read;
+      page-write = page-write;
+      format-format = format-format;
+      spares-sector-of = spares-sector-of;
+      spares-address-of = spares-address-of;
+      spares-shift = spares-shift;
+      spares-block-on = spares-block-on;
+      spares-block-at = spares-block-at;
+      spares-replace = spares-replace;
+      spares-census = spares-census;
+      spares-first-table = spares-first-table;
+      image-write = image-write;
+      image-header = image-header;
+      image-judge = image-judge;
+      image-data = image-data;
+      reading-judge = reading-judge;
+      reading-spot = reading-spot;
+      reading-data = reading-data;
+    }
+
+each-keeps : EachKeeps
+each-keeps =
+    record {
+      page-read = page-read-keeps;
+      page-write = page-write-keeps;
+      format-format = format-keeps;
+      spares-replace = spares-replace-keeps;
+      spares-first-table = spares-first-table-keeps;
+      image-write = image-write-keeps;
+    }
+
+each-hands : EachHands
+each-hands =
+    record {
+      page-read = page-read-hands;
+      page-write = page-write-hands;
+      format-format = format-hands;
+      spares-first-table = first-table-hands;
+      image-write = image-write-hands;
+    }
+
+each-determined : EachDetermined
+each-determined =
+    record {
+      shape-sector-of = Determined.shape-sector-of;
+      shape-address-of = Determined.shape-address-of;
+      skip-sector-of = Determined.skip-sector-of;
+      skip-block-on = Determined.skip-block-on;
+      cursor-start = Determined.skip-cursor-start;
+      cursor-check = Determined.skip-cursor-check;
+      cursor-step = Determined.skip-cursor-step;
+      skipped-address-of = Determined.skipped-address-of;
+      skipped-block-at = Determined.skipped-block-at;
+      page-read = Determined.page-read;
+      page-write = Determined.page-write;
+      format-format = Determined.format-format;
+      spares-sector-of = Determined.spares-sector-of;
+      spares-address-of = Determined.spares-address-of;
+      spares-shift = Determined.spares-shift;
+      spares-block-on = Determined.spares-block-on;
+      spares-block-at = Determined.spares-block-at;
+      spares-replace = Determined.spares-replace;
+      spares-census = Determined.spares-census;
+      spares-first-table = Determined.spares-first-table;
+      image-write = Determined.image-write;
+      image-header = Determined.image-header;
+      image-judge = Determined.image-judge;
+      image-data = Determined.image-data;
+      reading-judge = Determined.reading-judge;
+      reading-spot = Determined.reading-spot;
+      reading-data = Determined.reading-data;
+    }
+
+each-again : EachAgain
+each-again =
+    record {
+      sector-addressed = Again.sector-addressed;
+      address-numbered = Again.address-numbered;
+      written-page-reads = Again.written-page-reads;
+      read-page-writes = Again.read-page-writes;
+      header-stands = Again.header-stands;
+      standing-header = Again.standing-header;
+      written-names = Again.written-names;
+      written-good-judges = Again.written-good-judges;
+      written-good-gives = Again.written-good-gives;
+      written-forced-judges = Again.written-forced-judges;
+      written-forced-gives = Again.written-forced-gives;
+      changed-bit-changes-code = Again.changed-bit-changes-code;
+      changed-data-not-good = Again.changed-data-not-good;
+      one-verdict = Again.one-verdict;
+    }
+
+-- the demand whole
+pub demand1 : Demand1
+demand1 =
+    record {
+      by-the-numbers = each-by-the-numbers;
+      lent-kept = each-keeps;
+      front-filled = each-hands;
+      no-choice = each-determined;
+      read-again = each-again;
+    }
