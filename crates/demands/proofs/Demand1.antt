@@ -1,6 +1,4 @@
--- Demand 1: whatever a call is handed, it comes back with an answer or with one of the paper's refusal numbers, by the paper's rules, and nobody has to look at the input first. Refused, it says the number and nothing more, and what was lent is untouched.
--- That a call takes anything and ends: no public call has a `requires`, and Rattle proves of each function that it is safe and ends. The rest stands here for each public call, over whatever result its promise allows.
--- A call's theorem says three things (`ByTheNumbers`): its number is the one that the paper's table gives, exactly then, and no other; a refusal says 0 for every other number, save that a refused step returns its cursor; and no call answers a refusal with number 0, so that 0 means accepted. Theorems that end in `-keeps` say that lent memory keeps its bytes.
+-- Demand 1 holds. A call's promise makes its answer by a chain of checks, and the chain gives exactly the numbers of the paper's table; so each call answers and refuses by the numbers, and what it is lent keeps its bytes where it refuses. `demand1`, at the end, is the demand whole.
 -- Assumes nothing.
 use Rattle.paper.proofs.Kept.{fills-gives}
 use Prim.Native.Nat.{ℕ}
@@ -67,12 +65,12 @@ use Rattle.reading.proofs.Exact.{read-exactly}
 use Rattle.reading.proofs.Parts.{read-length, refused-empty as read-refused-empty, accepted-data as read-accepted-data}
 use Rattle.demands.specs.Relations.{Keeps, PartBy}
 use Rattle.demands.specs.Numbered.{PlacedBy, NamedBy, WrittenBy, LocatedBy, JobBy, PagedBy, FormattedBy, ShiftedBy, ReplacedBy, CountedBy, HeadBy, VerdictBy, SpotBy}
-use Rattle.demands.specs.Demand1.{EachByTheNumbers, EachKeeps, EachHands, EachDetermined, EachAgain, Demand1}
+use Rattle.demands.specs.Demand1.{EachByTheNumbers, EachKeeps, Demand1}
 use Rattle.demands.proofs.Chains.{keeps}
 use Rattle.demands.proofs.ByKind.{found-naming, lying-naming, placed-by, named-by, written-by, located-by, ready-by, stepped-by, paged-by, formatted-by, shifted-by, replaced-by, counted-by, head-by, verdict-by, spot-by}
-use Rattle.demands.proofs.Rooms.{page-read-hands, page-write-hands, format-hands, first-table-hands, image-write-hands}
-use Rattle.demands.proofs.Determined as Determined
-use Rattle.demands.proofs.ThereAndBack as Again
+use Rattle.demands.proofs.Rooms.{each-hands}
+use Rattle.demands.proofs.Determined.{each-determined}
+use Rattle.demands.proofs.ThereAndBack.{each-again}
 
 -- a drive by its shape
 module _ (shape : Shape) where
@@ -278,67 +276,6 @@ each-keeps =
       spares-replace = spares-replace-keeps;
       spares-first-table = spares-first-table-keeps;
       image-write = image-write-keeps;
-    }
-
-each-hands : EachHands
-each-hands =
-    record {
-      page-read = page-read-hands;
-      page-write = page-write-hands;
-      format-format = format-hands;
-      spares-first-table = first-table-hands;
-      image-write = image-write-hands;
-    }
-
-each-determined : EachDetermined
-each-determined =
-    record {
-      shape-sector-of = Determined.shape-sector-of;
-      shape-address-of = Determined.shape-address-of;
-      skip-sector-of = Determined.skip-sector-of;
-      skip-block-on = Determined.skip-block-on;
-      cursor-start = Determined.skip-cursor-start;
-      cursor-check = Determined.skip-cursor-check;
-      cursor-step = Determined.skip-cursor-step;
-      skipped-address-of = Determined.skipped-address-of;
-      skipped-block-at = Determined.skipped-block-at;
-      page-read = Determined.page-read;
-      page-write = Determined.page-write;
-      format-format = Determined.format-format;
-      spares-sector-of = Determined.spares-sector-of;
-      spares-address-of = Determined.spares-address-of;
-      spares-shift = Determined.spares-shift;
-      spares-block-on = Determined.spares-block-on;
-      spares-block-at = Determined.spares-block-at;
-      spares-replace = Determined.spares-replace;
-      spares-census = Determined.spares-census;
-      spares-first-table = Determined.spares-first-table;
-      image-write = Determined.image-write;
-      image-header = Determined.image-header;
-      image-judge = Determined.image-judge;
-      image-data = Determined.image-data;
-      reading-judge = Determined.reading-judge;
-      reading-spot = Determined.reading-spot;
-      reading-data = Determined.reading-data;
-    }
-
-each-again : EachAgain
-each-again =
-    record {
-      sector-addressed = Again.sector-addressed;
-      address-numbered = Again.address-numbered;
-      written-page-reads = Again.written-page-reads;
-      read-page-writes = Again.read-page-writes;
-      header-stands = Again.header-stands;
-      standing-header = Again.standing-header;
-      written-names = Again.written-names;
-      written-good-judges = Again.written-good-judges;
-      written-good-gives = Again.written-good-gives;
-      written-forced-judges = Again.written-forced-judges;
-      written-forced-gives = Again.written-forced-gives;
-      changed-bit-changes-code = Again.changed-bit-changes-code;
-      changed-data-not-good = Again.changed-data-not-good;
-      one-verdict = Again.one-verdict;
     }
 
 -- the demand whole

@@ -1,4 +1,4 @@
--- Demand 1: every call takes whatever it is handed, ends, and answers or refuses by the paper's numbers. `Demand1`, at the end, has a field for each sentence, over whatever results the promises allow.
+-- Demand 1: every call takes whatever it is handed, ends, and answers or refuses by the paper's numbers. The record `Demand1`, at the end, has a field for each sentence.
 -- That a call takes anything and ends is no field: no public call has a `requires`, and Rattle proves of each function that it is safe and ends.
 use Prim.Native.Nat.{ℕ, _+_, _^_, _<_, _≤_}
 use mathlib.Core.Path.{_≡_}
@@ -184,7 +184,7 @@ pub record EachHands : Type 0 where
       (number : ℕ) (bytes : List ℕ) (forced : Bool) (room : List ℕ) (long : ℕ) (after : List ℕ) → Image.Write number bytes forced room (Length long) after →
       (long ≡ dataSize + imageExtra) × Handed (imageOf number bytes forced) room long after
 
--- what each call's promise allows for the same inputs: one result, one content of each lent room, one part and one place of it
+-- what the promise of each call allows for the same inputs is one result, one content of each lent room, one part and one place of it
 pub record EachDetermined : Type 0 where
   -- a drive by its shape
   pub shape-sector-of : (shape : Shape) (cylinder head sector : ℕ) → OneResult (Shapes.SectorOf shape cylinder head sector)
@@ -219,6 +219,9 @@ pub record EachDetermined : Type 0 where
   pub reading-judge : (shape : Shape) (r : ℕ) (t : List ℕ) (b : ℕ) (home spare : List ℕ) → OneResult (Reading.Judge shape r t b home spare)
   pub reading-spot : (shape : Shape) (r : ℕ) (t : List ℕ) (b : ℕ) (home spare : List ℕ) → OneResult (Reading.Spots shape r t b home spare)
   pub reading-data : (shape : Shape) (r : ℕ) (t : List ℕ) (b : ℕ) (home spare : RefT (List ℕ)) → OneLent (Reading.Data shape r t b home spare)
+  -- what an image holds has one verdict
+  pub one-verdict :
+      (image : List ℕ) (number j k : ℕ) → ContentsJudged dataSize image number j → ContentsJudged dataSize image number k → j ≡ k
 
 -- an image that an accepted write left at the front of some room; that its number is 32 bits and its data bytes is what the call's types say
 pub record WrittenImage (number : ℕ) (bytes : List ℕ) (forced : Bool) (image : List ℕ) : Type 0 where
@@ -280,9 +283,6 @@ pub record EachAgain : Type 0 where
   pub changed-data-not-good :
       (image : List ℕ) (number k byte : ℕ) → Bytes image → k < dataSize → byte < 256 → (byte ≡ getD image (headerSize + k) 0 → ⊥) →
       Image.Judge image number Good → Image.Judge (set image (headerSize + k) byte) number Good → ⊥
-  -- what an image holds is judged by one number
-  pub one-verdict :
-      (image : List ℕ) (number j k : ℕ) → ContentsJudged dataSize image number j → ContentsJudged dataSize image number k → j ≡ k
 
 pub record Demand1 : Type 0 where
   -- a call, whatever it is handed, answers or refuses by the paper's numbers, and a refusal says its number and nothing else
@@ -293,5 +293,5 @@ pub record Demand1 : Type 0 where
   pub front-filled : EachHands
   -- a contract leaves no choice
   pub no-choice : EachDetermined
-  -- what was written is read again
+  -- what was written is read again, and data that has changed is not taken for it
   pub read-again : EachAgain
