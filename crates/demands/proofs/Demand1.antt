@@ -1,6 +1,4 @@
--- Demand 1: whatever a call is handed, it comes back with an answer or with one of the paper's refusal numbers, by the paper's rules, and nobody has to look at the input first. Refused, it says the number and nothing more, and what was lent is untouched.
--- That a call takes anything and ends: no public call has a `requires`, and Rattle proves of each function that it is safe and ends. The rest stands here for each public call, over whatever result its promise allows.
--- A call's theorem says three things (`ByTheNumbers`): its number is the one that the paper's table gives, exactly then, and no other; a refusal says 0 for every other number, save that a refused step returns its cursor; and no call answers a refusal with number 0, so that 0 means accepted. Theorems that end in `-keeps` say that lent memory keeps its bytes.
+-- Demand 1 holds. A call's promise makes its answer by a chain of checks, and the chain gives exactly the numbers of the paper's table; so each call answers and refuses by the numbers, and what it is lent keeps its bytes where it refuses. `demand1`, at the end, is the demand whole.
 -- Assumes nothing.
 use Rattle.paper.proofs.Kept.{fills-gives}
 use Prim.Native.Nat.{ℕ}
@@ -67,8 +65,12 @@ use Rattle.reading.proofs.Exact.{read-exactly}
 use Rattle.reading.proofs.Parts.{read-length, refused-empty as read-refused-empty, accepted-data as read-accepted-data}
 use Rattle.demands.specs.Relations.{Keeps, PartBy}
 use Rattle.demands.specs.Numbered.{PlacedBy, NamedBy, WrittenBy, LocatedBy, JobBy, PagedBy, FormattedBy, ShiftedBy, ReplacedBy, CountedBy, HeadBy, VerdictBy, SpotBy}
+use Rattle.demands.specs.Demand1.{EachByTheNumbers, EachKeeps, Demand1}
 use Rattle.demands.proofs.Chains.{keeps}
 use Rattle.demands.proofs.ByKind.{found-naming, lying-naming, placed-by, named-by, written-by, located-by, ready-by, stepped-by, paged-by, formatted-by, shifted-by, replaced-by, counted-by, head-by, verdict-by, spot-by}
+use Rattle.demands.proofs.Rooms.{each-hands}
+use Rattle.demands.proofs.Determined.{each-determined}
+use Rattle.demands.proofs.ThereAndBack.{each-again}
 
 -- a drive by its shape
 module _ (shape : Shape) where
@@ -231,3 +233,58 @@ module _ (shape : Shape) (r : ℕ) (t : List ℕ) (b : ℕ) where
             ap length (read-accepted-data dataSize shape r t b home spare part promise passes)
             ∙ read-length dataSize shape r t b (home .now) (spare .now) passes;
       }
+
+-- each sentence, call by call
+each-by-the-numbers : EachByTheNumbers
+each-by-the-numbers =
+    record {
+      shape-sector-of = shape-sector-of;
+      shape-address-of = shape-address-of;
+      skip-sector-of = skip-sector-of;
+      skip-block-on = skip-block-on;
+      cursor-start = cursor-start;
+      cursor-check = cursor-check;
+      cursor-step = cursor-step;
+      skipped-address-of = skipped-address-of;
+      skipped-block-at = skipped-block-at;
+      page-read = page-read;
+      page-write = page-write;
+      format-format = format-format;
+      spares-sector-of = spares-sector-of;
+      spares-address-of = spares-address-of;
+      spares-shift = spares-shift;
+      spares-block-on = spares-block-on;
+      spares-block-at = spares-block-at;
+      spares-replace = spares-replace;
+      spares-census = spares-census;
+      spares-first-table = spares-first-table;
+      image-write = image-write;
+      image-header = image-header;
+      image-judge = image-judge;
+      image-data = image-data;
+      reading-judge = reading-judge;
+      reading-spot = reading-spot;
+      reading-data = reading-data;
+    }
+
+each-keeps : EachKeeps
+each-keeps =
+    record {
+      page-read = page-read-keeps;
+      page-write = page-write-keeps;
+      format-format = format-keeps;
+      spares-replace = spares-replace-keeps;
+      spares-first-table = spares-first-table-keeps;
+      image-write = image-write-keeps;
+    }
+
+-- the demand whole
+pub demand1 : Demand1
+demand1 =
+    record {
+      by-the-numbers = each-by-the-numbers;
+      lent-kept = each-keeps;
+      front-filled = each-hands;
+      no-choice = each-determined;
+      read-again = each-again;
+    }

@@ -18,11 +18,14 @@ use Rattle.format.proofs.Held.{grown-holds, list-holds}
 use Rattle.format.specs.Promises.{Formats}
 use Rattle.first_table.specs.Promises.{FirstTable}
 use Rattle.spares.specs.Promises as Spares
+use Rattle.image.specs.Judged.{ContentsJudged}
 use Rattle.image.specs.Promises as Image
+use Rattle.image.proofs.Exact.{sector-one}
 use Rattle.image.proofs.Lent.{data-one}
 use Rattle.reading.specs.Promises as Reading
 use Rattle.reading.proofs.Parts.{data-one as read-one}
 use Rattle.demands.specs.Relations.{OneResult, OneFilled, OneFilledTwice, OneLent}
+use Rattle.demands.specs.Demand1.{EachDetermined}
 
 module _ {Answer Said : Type 0} (said : Answer → Said) (nothing : ℕ → Said) (refused : ℕ → Answer) (fault : ℕ) (accepted : Answer) where
   pub gives-determines : OneResult (Gives said nothing refused fault accepted)
@@ -125,3 +128,41 @@ module _ (shape : Shape) (r : ℕ) (t : List ℕ) (b : ℕ) where
 
   pub reading-spot : (home spare : List ℕ) → OneResult (Reading.Spots shape r t b home spare)
   reading-spot home spare = gives-determines _ _ _ _ _
+
+-- what an image holds has one verdict
+pub one-verdict : (image : List ℕ) (number j k : ℕ) → ContentsJudged dataSize image number j → ContentsJudged dataSize image number k → j ≡ k
+one-verdict image number j k = sector-one image dataSize number j k
+
+-- each of them
+pub each-determined : EachDetermined
+each-determined =
+    record {
+      shape-sector-of = shape-sector-of;
+      shape-address-of = shape-address-of;
+      skip-sector-of = skip-sector-of;
+      skip-block-on = skip-block-on;
+      cursor-start = skip-cursor-start;
+      cursor-check = skip-cursor-check;
+      cursor-step = skip-cursor-step;
+      skipped-address-of = skipped-address-of;
+      skipped-block-at = skipped-block-at;
+      page-read = page-read;
+      page-write = page-write;
+      format-format = format-format;
+      spares-sector-of = spares-sector-of;
+      spares-address-of = spares-address-of;
+      spares-shift = spares-shift;
+      spares-block-on = spares-block-on;
+      spares-block-at = spares-block-at;
+      spares-replace = spares-replace;
+      spares-census = spares-census;
+      spares-first-table = spares-first-table;
+      image-write = image-write;
+      image-header = image-header;
+      image-judge = image-judge;
+      image-data = image-data;
+      reading-judge = reading-judge;
+      reading-spot = reading-spot;
+      reading-data = reading-data;
+      one-verdict = one-verdict;
+    }

@@ -1,4 +1,4 @@
--- What an accepted call writes: the answered length is that of the list or of the bytes, these stand at the front of the room, and what stood behind them stays. (That a refused call leaves the whole room stands in `Demand1`.)
+-- What an accepted call writes: the answered length is that of the list or of the bytes, these stand at the front of the room, and what stood behind them stays. (That a refused call leaves the whole room is `EachKeeps`.)
 -- Assumes nothing.
 use Rattle.paper.proofs.Kept.{gives-number, fills-gives}
 use Prim.Native.Nat.{ℕ, _+_}
@@ -30,6 +30,7 @@ use Rattle.image.proofs.ThereAndBack.{room-image, room-rest}
 use Rattle.image.proofs.Exact.{write-shows}
 use Rattle.image.proofs.Images.{length-image}
 use Rattle.demands.specs.Relations.{Handed}
+use Rattle.demands.specs.Demand1.{EachHands}
 
 -- a room that holds a list and then the rest of what it held
 pub handed : (list before : List ℕ) (long : ℕ) (after : List ℕ) → long ≡ length list → after ≡ written list before → Handed list before long after
@@ -104,3 +105,14 @@ image-write-hands number bytes forced room long after promise =
         rest = rw (is, promise .holds) (room-rest dataSize number bytes forced room passes);
       },
     )
+
+-- each of them
+pub each-hands : EachHands
+each-hands =
+    record {
+      page-read = page-read-hands;
+      page-write = page-write-hands;
+      format-format = format-hands;
+      spares-first-table = first-table-hands;
+      image-write = image-write-hands;
+    }

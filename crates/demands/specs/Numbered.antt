@@ -60,7 +60,7 @@ pub record JobRefused (k : ℕ) (job : Job) : Type 0 where
   pub back : Cursor
   pub is : job ≡ NotReady k back
 
--- a sector and the cursor after it; a refusal hands back a cursor, and says it
+-- a sector and the cursor after it; a refusal hands back a cursor, and says it; and no job is refused with number 0, whatever cursor comes with it
 abbrev pub JobBy : Cursor → (ℕ → Type 0) → Job → Type 0
 JobBy back = ByTheNumbers saidJob (λ numbers. numbers .0) (λ k. (k, 0, back .block, back .skipped)) JobRefused
 
