@@ -1,5 +1,6 @@
 pub mod Relations
 pub mod Numbered
+pub mod Demand2Skipped
 pub mod Inputs
 pub mod Rows
 pub mod Incident
