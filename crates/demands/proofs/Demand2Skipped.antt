@@ -1,16 +1,16 @@
 -- Demand 2 on a skipped drive: counted from 0, a block's number is the number of good sectors before its own; each sector leads back to its block, and no sector has two.
 -- Assumes nothing.
-use Prim.Native.Nat.{ℕ, zero, suc, _-_, _<_, _≤_}
+use Prim.Native.Nat.{ℕ, zero, suc, _-_, _<_}
 use mathlib.Core.Path.{_≡_, sym, _∙_, ap, refl}
-use mathlib.Core.Bool.{true, false}
+use mathlib.Core.Bool.{true}
 use mathlib.Core.List.{List}
 use native.Mathlib.Omega.{arith}
 use lib.Dec.{leb}
 use lib.ListN.{length}
 use borrow.Author.Tests.{lt-leb}
 use Rattle.paper.specs.Answers.{saidNamed, GivesNamed}
-use Rattle.paper.specs.Checks.{refuse, _orElse_, answer}
-use Rattle.paper.specs.Refusals.{noSuchBlock, noSuchSector}
+use Rattle.paper.specs.Checks.{refuse, _orElse_}
+use Rattle.paper.specs.Refusals.{noSuchSector}
 use Rattle.paper.specs.Limits.{sizeFault}
 use Rattle.paper.specs.declared.Placed.{Placed}
 use Rattle.paper.specs.declared.Placed.the-variants.{At, Refused as NotPlaced}
@@ -20,7 +20,7 @@ use Rattle.paper.proofs.Cases.{byBool}
 use Rattle.paper.proofs.Chain.{orElse-first, orElse-next, answer-accepted}
 use Rattle.paper.proofs.Kept.{gives-number}
 use Rattle.paper.proofs.Rows.{below-shows, size-passes}
-use Rattle.lists.specs.Proper.{Proper, listFault, spaceFault, SpaceJudged}
+use Rattle.lists.specs.Proper.{Proper, listFault, spaceFault}
 use Rattle.lists.specs.Union.{isIn}
 use Rattle.lists.proofs.Exact.{space-exactly, space-list}
 use Rattle.shape.specs.Shapes.{Shaped, sizeOf, shapeFault}
@@ -33,18 +33,18 @@ use Rattle.shape.specs.declared.Located.the-variants.{At as LocatedAt, Refused 
 use Rattle.shape.proofs.Bounds.{size-fits, sector-below}
 use Rattle.shape.proofs.Exact.{tells-on-drive, shape-shows, place-shows}
 use Rattle.shape.proofs.Inverse.{there-and-back, back-and-there, address-on-drive}
-use Rattle.skip.specs.Skipping.{Lies, goodsBefore, place}
+use Rattle.skip.specs.Skipping.{Lies, place}
 use Rattle.skip.specs.Translation.{blocks, sectorOfFault, blockOnFault, blockOn}
 use Rattle.skip.specs.Promises.{SectorOf, BlockOn}
-use Rattle.skip.proofs.Lying.{Somewhere, somewhere, lies-one-unit, lies-one-block, lies-place, lies-below, place-lies}
+use Rattle.skip.proofs.Lying.{lies-one-unit, lies-one-block, lies-place, lies-below, place-lies}
 use Rattle.skip.proofs.Walks.{goods-are-blocks}
 use Rattle.skip.proofs.Shown.{block-space, block-proper, block-below}
 use Rattle.skipped.specs.Faults.{skippedFault, addressOfFault, blockAtFault}
 use Rattle.skipped.specs.Promises.{AddressOf, BlockAt}
 use Rattle.skipped.proofs.Shown.{drive-shaped, drive-proper, block-drive, place-drive, place-on-drive, block-below as skipped-block-below}
-use Rattle.demands.specs.Demand2Skipped.{AnsweredWhere, BlocksLie, SectorsName, NeverShared, ByAddress, Demand2Skipped}
+use Rattle.demands.specs.Demand2Skipped.{AnsweredWhere, BlocksLie, SectorsName, NeverShared, SkippedByAddress, Demand2Skipped}
 use Rattle.demands.proofs.ByKind.{naming-says, found-naming}
-use Rattle.demands.proofs.Jobs.{job-calls, whole-job}
+use Rattle.demands.proofs.Jobs.{job-calls, whole-job, job-reaches}
 
 -- what an answer shows that names a block, or none
 module _ (a : List ℕ) (s fault : ℕ) where
@@ -147,8 +147,8 @@ module _ (n : ℕ) (a : List ℕ) where
   pub sectors-name : SectorsName n a
   sectors-name =
       record {
-        there-and-back = λ b s promise. lies-named (block-space n a b (answered-passes b s promise)) b s (answered-lies b s promise);
-        back-and-there = λ b s promise.
+        sector-names-block = λ b s promise. lies-named (block-space n a b (answered-passes b s promise)) b s (answered-lies b s promise);
+        named-has-sector = λ b s promise.
             lies-answered (orElse-first (spaceFault n a) (refuse (leb n s) noSuchSector) (named-passes b s promise)) b s (named-lies b s promise);
         named-lies = named-lies;
         lies-named = λ judged. lies-named (space-exactly n a .only 0 judged);
@@ -163,43 +163,46 @@ module _ (n : ℕ) (a : List ℕ) where
         one-lying = λ b c s. lies-one-block (isIn a) n;
       }
 
+-- a check that finds no fault leaves the one before it as it is
 orElse-zero : (fault next : ℕ) → next ≡ 0 → (fault orElse next) ≡ fault
 orElse-zero zero next none = none
 orElse-zero (suc fault) next none = refl
 
 -- by cylinder, head and sector
 module _ (shape : Shape) (a : List ℕ) where
-  -- where the number is answered, both addresses are refused by the shape alone
-  address-as-shape :
-      (b s : ℕ) → SectorOf (sizeOf shape) a b (At s) → (located : Located) → ShapeAddressOf shape s located →
-      (result : Located) → AddressOf shape a b result → result ≡ located
-  address-as-shape b s promise located there result here =
+  -- a drive that has a sector has an N in range
+  drive-size : Shaped shape → (s : ℕ) → s < sizeOf shape → sizeFault (sizeOf shape) ≡ 0
+  drive-size shaped s inside = size-passes (sizeOf shape) (omega (arith, inside), size-fits shaped)
+
+  -- where a sector is answered, its address and the block's are refused by the shape alone
+  pub address-of-sector :
+      (b s : ℕ) → SectorOf (sizeOf shape) a b (At s) →
+      (result located : Located) → AddressOf shape a b result → ShapeAddressOf shape s located → result ≡ located
+  address-of-sector b s promise result located here there =
       let passes : sectorOfFault (sizeOf shape) a b ≡ 0 = answered-passes (sizeOf shape) a b s promise in
       let list : listFault (sizeOf shape) a ≡ 0 =
       orElse-next (sizeFault (sizeOf shape)) (listFault (sizeOf shape) a) (block-space (sizeOf shape) a b passes) in
       let one : addressOfFault shape a b ≡ shapeFault shape =
-      orElse-zero (skippedFault shape a) (refuse (leb (blocks (sizeOf shape) a) b) noSuchBlock) (orElse-next (spaceFault (sizeOf shape) a) (refuse (leb (blocks (sizeOf shape) a) b) noSuchBlock) passes)
-      ∙ orElse-zero (shapeFault shape) (listFault (sizeOf shape) a) list in
+      rw (list, lt-leb (blocks (sizeOf shape) a) b (block-below (sizeOf shape) a b passes)) (orElse-zero (shapeFault shape orElse 0) 0 refl ∙ orElse-zero (shapeFault shape) 0 refl) in
       let other : shapeAddressFault shape s ≡ shapeFault shape =
-      orElse-zero (shapeFault shape) (refuse (leb (sizeOf shape) s) noSuchSector) (rw (lt-leb (sizeOf shape) s (answered-lies (sizeOf shape) a b s promise .inside))) in
+      rw (lt-leb (sizeOf shape) s (answered-lies (sizeOf shape) a b s promise .inside)) (orElse-zero (shapeFault shape) 0 refl) in
       (rw (one, ← answered-place (sizeOf shape) a b s promise) at (here .answers)) ∙ sym (rw other at (there .answers))
 
-  -- where the address has a sector, both blocks are refused by the list alone
-  block-as-shape :
-      (cylinder head sector s : ℕ) → ShapeSectorOf shape cylinder head sector (At s) → (named : Named) → BlockOn (sizeOf shape) a s named →
-      (result : Named) → BlockAt shape a cylinder head sector result → result ≡ named
-  block-as-shape cylinder head sector s promise named there result here =
+  -- where an address has a sector, the block there and the block on it are refused by the list alone
+  pub block-at-sector :
+      (cylinder head sector s : ℕ) → ShapeSectorOf shape cylinder head sector (At s) →
+      (result named : Named) → BlockAt shape a cylinder head sector result → BlockOn (sizeOf shape) a s named → result ≡ named
+  block-at-sector cylinder head sector s promise result named here there =
       let passes : shapeSectorFault shape cylinder head sector ≡ 0 = sym (gives-number promise (λ said. said .0) (λ k. refl) refl) in
       let is : s ≡ sectorAt shape cylinder head sector = rw passes at (ap (λ (said : ℕ × ℕ). said .1) (promise .says)) in
-      let shape-passes : shapeFault shape ≡ 0 = orElse-first (shapeFault shape) (offDriveFault shape cylinder head sector) passes in
-      let address-passes : offDriveFault shape cylinder head sector ≡ 0 = orElse-next (shapeFault shape) (offDriveFault shape cylinder head sector) passes in
-      let shaped : Shaped shape = shape-shows shape shape-passes in
-      let inside : sectorAt shape cylinder head sector < sizeOf shape = sector-below shaped (place-shows shape cylinder head sector address-passes) in
-      let size : sizeFault (sizeOf shape) ≡ 0 = size-passes (sizeOf shape) (omega (arith, inside), size-fits shaped) in
+      let in-range : shapeFault shape ≡ 0 = orElse-first (shapeFault shape) (offDriveFault shape cylinder head sector) passes in
+      let on-drive : offDriveFault shape cylinder head sector ≡ 0 = orElse-next (shapeFault shape) (offDriveFault shape cylinder head sector) passes in
+      let shaped : Shaped shape = shape-shows shape in-range in
+      let inside : s < sizeOf shape = rw is (sector-below shaped (place-shows shape cylinder head sector on-drive)) in
       let one : blockAtFault shape a cylinder head sector ≡ listFault (sizeOf shape) a =
-      rw shape-passes (orElse-zero (listFault (sizeOf shape) a) (offDriveFault shape cylinder head sector) address-passes) in
+      rw in-range (orElse-zero (listFault (sizeOf shape) a) (offDriveFault shape cylinder head sector) on-drive) in
       let other : blockOnFault (sizeOf shape) a s ≡ listFault (sizeOf shape) a =
-      rw size (orElse-zero (listFault (sizeOf shape) a) (refuse (leb (sizeOf shape) s) noSuchSector) (rw (is, lt-leb (sizeOf shape) (sectorAt shape cylinder head sector) inside))) in
+      rw (drive-size shaped s inside, lt-leb (sizeOf shape) s inside) (orElse-zero (listFault (sizeOf shape) a) 0 refl) in
       (rw (one, ← is) at (here .answers)) ∙ sym (rw other at (there .answers))
 
   module _ (b : ℕ) (address : Address) (promise : AddressOf shape a b (LocatedAt address)) where
@@ -229,6 +232,18 @@ module _ (shape : Shape) (a : List ℕ) where
     pub address-lies : Lies (isIn a) (sizeOf shape) b (sectorAt shape (address .cylinder) (address .head) (address .sector))
     address-lies = rw (same-cylinder, same-head, same-sector) (rw (there-and-back (drive-shaped shape a drive-passes) (block-there .inside)) block-there)
 
+    -- so `shape::sector_of` answers that sector
+    pub sector-of-address :
+        (result placed : Placed) → SectorOf (sizeOf shape) a b result → ShapeSectorOf shape (address .cylinder) (address .head) (address .sector) placed →
+        result ≡ placed
+    sector-of-address result placed here there =
+        let in-range : shapeFault shape ≡ 0 = orElse-first (shapeFault shape) (listFault (sizeOf shape) a) drive-passes in
+        let list : listFault (sizeOf shape) a ≡ 0 = orElse-next (shapeFault shape) (listFault (sizeOf shape) a) drive-passes in
+        let space : spaceFault (sizeOf shape) a ≡ 0 = rw (drive-size (drive-shaped shape a drive-passes) _ (block-there .inside)) list in
+        let passes : shapeSectorFault shape (address .cylinder) (address .head) (address .sector) ≡ 0 =
+        rw (in-range, tells-on-drive shape (address .cylinder) (address .head) (address .sector) .told address-is-on-drive) in
+        lies-answered (sizeOf shape) a space b _ address-lies result here ∙ sym (there .answers ∙ answer-accepted _ NotPlaced _ passes)
+
     -- and that address names the block again
     pub address-names-block : (result : Named) → BlockAt shape a (address .cylinder) (address .head) (address .sector) result → result ≡ Block b
     address-names-block =
@@ -237,10 +252,10 @@ module _ (shape : Shape) (a : List ℕ) where
         lies-found a (sectorAt shape (address .cylinder) (address .head) (address .sector)) (blockAtFault shape a (address .cylinder) (address .head) (address .sector)) (sizeOf shape) b passes address-lies
 
   -- the block that an address names is answered with that address
-  pub named-address :
+  pub named-has-address :
       (b : ℕ) (address : Address) → BlockAt shape a (address .cylinder) (address .head) (address .sector) (Block b) →
       (result : Located) → AddressOf shape a b result → result ≡ LocatedAt address
-  named-address b address promise result located =
+  named-has-address b address promise result located =
       let sector : ℕ = sectorAt shape (address .cylinder) (address .head) (address .sector) in
       let fault : ℕ = blockAtFault shape a (address .cylinder) (address .head) (address .sector) in
       let passes : blockAtFault shape a (address .cylinder) (address .head) (address .sector) ≡ 0 = found-passes a sector fault (Block b) promise refl in
@@ -254,15 +269,14 @@ module _ (shape : Shape) (a : List ℕ) where
       ∙ (answer-accepted _ NotLocated _ accepted
       ∙ rw (lies-place (isIn a) (sizeOf shape) b sector lies) (ap LocatedAt (back-and-there (drive-shaped shape a drive) on-drive)))
 
-  pub by-address : ByAddress shape a
+  pub by-address : SkippedByAddress shape a
   by-address =
       record {
-        address-of = address-as-shape;
-        block-at = block-as-shape;
-        on-drive = address-is-on-drive;
-        address-lies = address-lies;
-        there-and-back = address-names-block;
-        back-and-there = named-address;
+        address-of-sector = address-of-sector;
+        sector-of-address = sector-of-address;
+        block-at-sector = block-at-sector;
+        address-names-block = address-names-block;
+        named-has-address = named-has-address;
       }
 
 pub demand2-skipped : Demand2Skipped
@@ -270,8 +284,9 @@ demand2-skipped =
     record {
       lies = blocks-lie;
       names-again = sectors-name;
-      never-shared = never-shared;
+      never-share = never-shared;
       by-address = by-address;
       job-calls = job-calls;
       whole-job = whole-job;
+      job-reaches = job-reaches;
     }

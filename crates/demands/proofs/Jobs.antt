@@ -10,8 +10,8 @@ use Rattle.paper.specs.Refusals.{noSuchBlock}
 use Rattle.paper.specs.declared.Placed.{Placed}
 use Rattle.paper.specs.declared.Placed.the-variants.{At}
 use Rattle.paper.proofs.Chain.{answer-refused, answer-accepted}
-use Rattle.paper.proofs.Kept.{gives-number}
-use Rattle.lists.specs.Proper.{spaceFault, SpaceJudged}
+use Rattle.paper.proofs.Kept.{gives-number, accepts}
+use Rattle.lists.specs.Proper.{spaceFault}
 use Rattle.lists.specs.Union.{isIn}
 use Rattle.lists.proofs.Exact.{space-exactly}
 use Rattle.skip.specs.Skipping.{place}
@@ -24,7 +24,7 @@ use Rattle.skip.specs.declared.Job.the-variants.{Ready, At as SteppedAt, Refuse
 use Rattle.skip.proofs.Shown.{block-space, block-below}
 use Rattle.skip.proofs.Cursoring.{tells-belongs, belongs-one, cursor-belongs, step-fresh as fresh-passes, step-block}
 use Rattle.demands.specs.Relations.{Onward}
-use Rattle.demands.specs.Demand2Skipped.{Opened, Stepped, JobCalls, Run, stays, steps, RunsFrom}
+use Rattle.demands.specs.Demand2Skipped.{Opens, GoesOn, JobCalls, Run, stays, steps, RunsFrom, StepsOn}
 
 module _ (n : ℕ) (a : List ℕ) where
   -- the cursor of a block belongs
@@ -60,7 +60,7 @@ module _ (n : ℕ) (a : List ℕ) where
       belongs-one n a (cursor-at-belongs (c .block) back (belongs .within) block (count ∙ belongs .counts)) belongs block
 
   -- a step that is accepted
-  module _ (c : Cursor) (s : ℕ) (next : Cursor) (promise : Steps n a c (SteppedAt s next)) where
+  module _ (c next : Cursor) (s : ℕ) (promise : Steps n a c (SteppedAt s next)) where
     stepped-passes : stepFault n a c ≡ 0
     stepped-passes = sym (gives-number promise (λ said. said .0) (λ k. refl) refl)
 
@@ -83,15 +83,10 @@ module _ (n : ℕ) (a : List ℕ) where
   -- where N and the list pass
   module _ (space : spaceFault n a ≡ 0) where
     -- a job opens at any block
-    pub opens : (b : ℕ) → b < n - length a → (result : Job) → Starts n a b result → Opened n a b result
-    opens b h result promise =
+    pub any-opens : (b : ℕ) → b < n - length a → (result : Job) → Starts n a b result → Opens result
+    any-opens b h result promise =
         let passes : sectorOfFault n a b ≡ 0 = rw (space, lt-leb (blocks n a) b h) in
-        record {
-          cursor = cursorAt n a b;
-          is = promise .answers ∙ answer-accepted _ _ _ passes;
-          at-block = refl;
-          belongs = record { within = omega (arith, h); counts = refl };
-        }
+        record { cursor = cursorAt n a b; is = promise .answers ∙ answer-accepted _ _ _ passes }
 
     cursor-passes : (c : Cursor) → Belongs n a c → checkFault n a c ≡ 0
     cursor-passes c belongs = rw (space, tells-belongs n a c .told belongs)
@@ -100,14 +95,16 @@ module _ (n : ℕ) (a : List ℕ) where
     pub belongs-checked : (c : Cursor) → Belongs n a c → (result : Job) → Checks n a c result → result ≡ Ready c
     belongs-checked c belongs result promise = promise .answers ∙ answer-accepted _ _ _ (cursor-passes c belongs)
 
+    step-passes : (c : Cursor) → Belongs n a c → c .block < n - length a → stepFault n a c ≡ 0
+    step-passes c belongs h = rw (cursor-passes c belongs, lt-leb (blocks n a) (c .block) h)
+
     -- it steps on until the last block
-    pub step-before-end : (c : Cursor) → Belongs n a c → c .block < n - length a → (result : Job) → Steps n a c result → Stepped result
+    pub step-before-end : (c : Cursor) → Belongs n a c → c .block < n - length a → (result : Job) → Steps n a c result → GoesOn result
     step-before-end c belongs h result promise =
-        let passes : stepFault n a c ≡ 0 = rw (cursor-passes c belongs, lt-leb (blocks n a) (c .block) h) in
         record {
           sector = place (isIn a) n (c .block);
           next = cursorAt n a (suc (c .block));
-          is = promise .answers ∙ answer-accepted _ _ _ passes;
+          is = promise .answers ∙ answer-accepted _ _ _ (step-passes c belongs h);
         }
 
     -- after the last block a step refuses 5 and the cursor stays
@@ -151,13 +148,27 @@ module _ (n : ℕ) (a : List ℕ) where
           ends = λ h. step-at-end c belongs (omega (arith, here));
         }
     runs-from b {c} {last} {sectors} here belongs (steps {next = next} {s = s} {sectors = rest} step run) =
-        let on : Onward n a c next = step-onward c s next step in
-        one-more b s rest last (rw here at (step-fresh c s next step)) (runs-from (suc b) (on .follows ∙ ap suc here) (on .belongs) run)
+        let on : Onward n a c next = step-onward c next s step in
+        one-more b s rest last (rw here at (step-fresh c next s step)) (runs-from (suc b) (on .follows ∙ ap suc here) (on .belongs) run)
+
+    -- as many steps can be taken as blocks are left
+    pub steps-on : (k : ℕ) (c : Cursor) → Belongs n a c → c .block + k ≤ n - length a → StepsOn n a c k
+    steps-on zero c belongs h = record { sectors = []; last = c; taken = refl; run = stays }
+    steps-on (suc k) c belongs h =
+        let step : Steps n a c (SteppedAt (place (isIn a) n (c .block)) (cursorAt n a (suc (c .block)))) =
+        accepts (λ fault. refl) (step-passes c belongs (omega (arith, h))) refl in
+        let rest : StepsOn n a (cursorAt n a (suc (c .block))) k = steps-on k (cursorAt n a (suc (c .block))) (record { within = omega (arith, h); counts = refl }) (omega (arith, h)) in
+        record {
+          sectors = place (isIn a) n (c .block) ∷ rest .sectors;
+          last = rest .last;
+          taken = ap suc (rest .taken);
+          run = steps step (rest .run);
+        }
 
   pub job-calls : JobCalls n a
   job-calls =
       record {
-        opens = λ judged. opens (space-exactly n a .only 0 judged);
+        any-opens = λ judged. any-opens (space-exactly n a .only 0 judged);
         started-at = started-at;
         started-belongs = started-belongs;
         checked-same = checked-same;
@@ -170,7 +181,11 @@ module _ (n : ℕ) (a : List ℕ) where
       }
 
   -- the whole job
-  pub whole-job :
-      (b : ℕ) (c : Cursor) → Starts n a b (Ready c) → (sectors : List ℕ) (last : Cursor) → Run n a c sectors last → RunsFrom n a b sectors last
-  whole-job b c promise sectors last =
-      runs-from (block-space n a b (started-passes b c promise)) b (started-at b c promise) (started-belongs b c promise)
+  module _ (b : ℕ) (c : Cursor) (promise : Starts n a b (Ready c)) where
+    pub whole-job : (sectors : List ℕ) (last : Cursor) → Run n a c sectors last → RunsFrom n a b sectors last
+    whole-job sectors last =
+        runs-from (block-space n a b (started-passes b c promise)) b (started-at b c promise) (started-belongs b c promise)
+
+    pub job-reaches : (k : ℕ) → b + k ≤ n - length a → StepsOn n a c k
+    job-reaches k h =
+        steps-on (block-space n a b (started-passes b c promise)) k c (started-belongs b c promise) (omega (arith, h, started-at b c promise))
