@@ -61,82 +61,64 @@ pub record ShiftLeads (shape : Shape) (r : ℕ) (t : List ℕ) (b : ℕ) (shift 
 pub record Demand2Revectored : Type 0 where
   -- A block lies at home, or on the spare whose descriptor names it.
   pub home-or-spare : (shape : Shape) (r : ℕ) (t : List ℕ) (b s : ℕ) → SectorOf shape r t b (At s) → Resides (driveOf shape r) t b s
-
   -- Of a table that passes, one descriptor at most names a block.
   pub one-descriptor :
       (shape : Shape) (r : ℕ) (t : List ℕ) (b p q : ℕ) → TableJudged shape r t 0 →
       p < length t → q < length t → Names (getD t p 0) b → Names (getD t q 0) b → p ≡ q
-
   -- Every block of such a table is answered, with the one sector that it lies on.
   pub every-block-answered :
       (shape : Shape) (r : ℕ) (t : List ℕ) (b : ℕ) → TableJudged shape r t 0 → b < driveOf shape r .blocks →
       (result : Placed) → SectorOf shape r t b result → LiesThere shape r t b result
-
   -- Two blocks never share a sector.
   pub never-share : (shape : Shape) (r : ℕ) (t : List ℕ) (a b s : ℕ) → SectorOf shape r t a (At s) → SectorOf shape r t b (At s) → a ≡ b
-
   -- None lies on a spare that is marked unusable.
   pub never-on-unusable :
       (shape : Shape) (r : ℕ) (t : List ℕ) (b q : ℕ) → codeOf (getD t q 0) ≡ unusable → SectorOf shape r t b (At (spareSector (driveOf shape r) q)) → ⊥
-
   -- The sector of a block names that block again.
   pub sector-names-block :
       (shape : Shape) (r : ℕ) (t : List ℕ) (b s : ℕ) → SectorOf shape r t b (At s) → (result : Named) → BlockOn shape r t s result → result ≡ Block b
-
   -- A block that a sector names lies there.
   pub named-lies :
       (shape : Shape) (r : ℕ) (t : List ℕ) (b s : ℕ) → BlockOn shape r t s (Block b) → (result : Placed) → SectorOf shape r t b result → result ≡ At s
-
   -- "No block" is answered for the home of a replaced block and for a spare that is not allocated, and for no other sector.
   pub none-is-vacant : (shape : Shape) (r : ℕ) (t : List ℕ) (s : ℕ) → BlockOn shape r t s NoBlock → Vacant (driveOf shape r) t s
-
   -- For these it is always answered, where the table passes.
   pub vacant-has-none :
       (shape : Shape) (r : ℕ) (t : List ℕ) (s : ℕ) → TableJudged shape r t 0 → Vacant (driveOf shape r) t s →
       (result : Named) → BlockOn shape r t s result → result ≡ NoBlock
-
   -- `address_of` answers what `shape::address_of` answers of the sector that `sector_of` answers.
   pub address-of-sector :
       (shape : Shape) (r : ℕ) (t : List ℕ) (b s : ℕ) → SectorOf shape r t b (At s) →
       (result address : Located) → AddressOf shape r t b result → ShapeAddressOf shape s address → result ≡ address
-
   -- And back: where `address_of` answers an address, `sector_of` answers what `shape::sector_of` answers of it.
   pub sector-of-address :
       (shape : Shape) (r : ℕ) (t : List ℕ) (b : ℕ) (address : Address) → AddressOf shape r t b (LocatedAt address) →
       (result sector : Placed) → SectorOf shape r t b result → ShapeSectorOf shape (address .cylinder) (address .head) (address .sector) sector →
       result ≡ sector
-
   -- `block_at` answers what `block_on` answers of the sector that `shape::sector_of` answers.
   pub block-at-sector :
       (shape : Shape) (r : ℕ) (t : List ℕ) (cylinder head sector s : ℕ) → ShapeSectorOf shape cylinder head sector (At s) →
       (result named : Named) → BlockAt shape r t cylinder head sector result → BlockOn shape r t s named → result ≡ named
-
   -- The address of a block names that block again.
   pub address-names-block :
       (shape : Shape) (r : ℕ) (t : List ℕ) (b : ℕ) (address : Address) → AddressOf shape r t b (LocatedAt address) →
       (result : Named) → BlockAt shape r t (address .cylinder) (address .head) (address .sector) result → result ≡ Block b
-
   -- A block that an address names has that address.
   pub named-has-address :
       (shape : Shape) (r : ℕ) (t : List ℕ) (b : ℕ) (address : Address) →
       BlockAt shape r t (address .cylinder) (address .head) (address .sector) (Block b) →
       (result : Located) → AddressOf shape r t b result → result ≡ LocatedAt address
-
   -- A replacement alters one descriptor.
   pub replacement-alters-one :
       (shape : Shape) (r : ℕ) (t : List ℕ) (b q : ℕ) (after : List ℕ) → Replacement shape r t b (Place q) after → AltersOne shape r t b q after
-
   -- It is refused for want of a spare only when none is free.
   pub no-spare-none-free :
       (shape : Shape) (r : ℕ) (t : List ℕ) (b : ℕ) (after : List ℕ) → Replacement shape r t b (NotReplaced noSpare) after → NoneFree t
-
   -- And always then, where 1, 11, 5 and 12 do not refuse it.
   pub none-free-no-spare :
       (shape : Shape) (r : ℕ) (t : List ℕ) (b : ℕ) → BlockJudged shape r t b 0 → (Replaced t b → ⊥) → NoneFree t →
       (result : Answers.Replaced) (after : List ℕ) → Replacement shape r t b result after → result ≡ NotReplaced noSpare
-
   -- The shift leads from the cylinder of a block's home to the cylinder that the block lies on.
   pub shift-leads-there :
       (shape : Shape) (r : ℕ) (t : List ℕ) (b : ℕ) (shift : ℤ) → ShiftOf shape r t b (By shift) → ShiftLeads shape r t b shift
-
   -- Here follow the reads of a block (`ReadsInPlace`) and the census over a history of calls (`CensusLaw`).
