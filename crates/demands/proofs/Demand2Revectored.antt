@@ -1,6 +1,6 @@
 -- Demand 2 on a revectored drive: every block has one sector, its home or else the spare whose descriptor names it, and no other block has that sector. An unusable spare has no block. A replacement changes a single descriptor, and 13 means that every spare is taken.
 -- Assumes nothing.
-use Rattle.paper.proofs.Kept.{gives-number, fills-gives}
+use Rattle.paper.proofs.Kept.{accepts, gives-one, gives-number, fills-gives}
 use Prim.Native.Nat.{ℕ, _*_, _/_, _<_}
 use mathlib.Core.Path.{_≡_, refl, sym, _∙_, ap}
 use mathlib.Core.List.{List}
@@ -23,7 +23,7 @@ use Rattle.shape.specs.declared.Located.{Located}
 use Rattle.shape.specs.declared.Located.the-variants.{At as LocatedAt, Refused as NotLocated}
 use Rattle.shape.specs.Shapes.{Shaped, sizeOf, shapeFault}
 use Rattle.shape.specs.Addresses.{OnDrive, sectorAt, addressAt, sectorOfFault, addressOfFault}
-use Rattle.shape.specs.Promises.{SectorOf as ShapeSectorOf, AddressOf as ShapeAddressOf}
+use Rattle.shape.specs.Promises.{AddressOf as ShapeAddressOf}
 use Rattle.shape.proofs.Bounds.{sector-below}
 use Rattle.shape.proofs.Inverse.{there-and-back, back-and-there, address-on-drive}
 use Rattle.shape.proofs.Exact.{tells-on-drive, place-shows, shape-shows}
@@ -39,7 +39,7 @@ use Rattle.table.specs.Lookup.{Replaced, isReplaced, placeOf, liesOn, lyingOn, 
 use Rattle.table.proofs.Lookups.{tells-replaced, place-once, lies-shows, lies-only, lies-apart, none-on-unusable, lying-of-lies, vacant-told, lies-below, lies-of-lying, vacant-shows}
 use Rattle.replacing.specs.Replacing.{NoneFree, Altered, spareFor}
 use Rattle.spares.specs.Spares.{shiftOf, blockOnFault, blockAtFault, replaceFault}
-use Rattle.spares.specs.Promises.{SectorOf, AddressOf, ShiftOf, BlockOn, BlockAt, Replacement}
+use Rattle.spares.specs.Promises.{SectorOf, AddressOf, ShiftOf, BlockOn, Replacement}
 use Rattle.spares.specs.declared.Shifted.the-variants.{By}
 use Rattle.spares.specs.declared.Replaced.{Replaced as ReplaceAnswer}
 use Rattle.spares.specs.declared.Replaced.the-variants.{Place, Refused as NotReplaced}
@@ -48,7 +48,7 @@ use Rattle.table.proofs.Exact.{Ready, table-ready, table-exactly, block-ready, 
 use Rattle.spares.proofs.Accepted.{replace-block, after-passes, replace-alters, no-spare-shows, no-spare-told}
 use Rattle.spares.proofs.Shifts.{shift-at-home, shift-leads, shift-answered}
 use Rattle.demands.proofs.ByKind.{naming-says, lying-naming}
-use Rattle.demands.specs.Demand2Revectored.{LiesThere, AltersOne, ShiftLeads, Demand2Revectored}
+use Rattle.demands.specs.Demand2Revectored.{SectorOfAddress, BlockAtAddress, LiesThere, AltersOne, ShiftLeads, Demand2Revectored}
 
 -- a vacant sector is one of the drive's
 vacant-inside : {drive : Drive} {t : List ℕ} {s : ℕ} → Laid drive → Vacant drive t s → s < drive .tracks * sectorsPerTrack drive
@@ -181,9 +181,7 @@ module _ (shape : Shape) (r : ℕ) (t : List ℕ) where
       let is = answered-is b s promise in
       let inside : s < sizeOf shape = rw is (lies-inside b none) in
       let fault : addressOfFault shape s ≡ 0 = rw (shape-passes b none, lt-leb (sizeOf shape) s inside) in
-      located-answers b none result located
-      ∙ (ap (λ (sector : ℕ). LocatedAt (addressAt shape sector)) (sym is)
-      ∙ sym (promised .answers ∙ answer-accepted (addressOfFault shape s) NotLocated (LocatedAt (addressAt shape s)) fault))
+      gives-one located (accepts (λ k. refl) none (promised .answers ∙ rw fault (ap (λ (sector : ℕ). LocatedAt (addressAt shape sector)) is)))
 
   module _ (b : ℕ) (address : Address) (promise : AddressOf shape r t b (LocatedAt address)) where
     located-passes : blockFault shape r t b ≡ 0
@@ -199,61 +197,53 @@ module _ (shape : Shape) (r : ℕ) (t : List ℕ) where
     located-sector : sectorAt shape (address .cylinder) (address .head) (address .sector) ≡ liesOn (driveOf shape r) t b
     located-sector = rw located-is (there-and-back (block-ready shape r t b located-passes .shaped) (lies-inside b located-passes))
 
-    pub sector-of-address :
-        (result sector : Placed) → SectorOf shape r t b result → ShapeSectorOf shape (address .cylinder) (address .head) (address .sector) sector →
-        result ≡ sector
+    pub sector-of-address : (result sector : Placed) → SectorOf shape r t b result → SectorOfAddress shape address sector → result ≡ sector
     sector-of-address result sector placed promised =
         let fault : sectorOfFault shape (address .cylinder) (address .head) (address .sector) ≡ 0 =
         rw (shape-passes b located-passes, tells-on-drive shape (address .cylinder) (address .head) (address .sector) .told located-on-drive) in
-        placed .answers
-        ∙ (answer-accepted (blockFault shape r t b) NotPlaced (At (liesOn (driveOf shape r) t b)) located-passes
-        ∙ (ap At (sym located-sector)
-        ∙ sym (promised .answers
-        ∙ answer-accepted (sectorOfFault shape (address .cylinder) (address .head) (address .sector)) NotPlaced
-        (At (sectorAt shape (address .cylinder) (address .head) (address .sector))) fault)))
-
-    -- and it names the block again
-    pub address-names-block : (result : Named) → BlockAt shape r t (address .cylinder) (address .head) (address .sector) result → result ≡ Block b
-    address-names-block result names =
-        let fault : blockAtFault shape r t (address .cylinder) (address .head) (address .sector) ≡ 0 =
-        rw (
-          orElse-first (tableFault shape r t) _ located-passes,
-          tells-on-drive shape (address .cylinder) (address .head) (address .sector) .told located-on-drive,
-        ) in
-        names .answers
-        ∙ (answer-accepted (blockAtFault shape r t (address .cylinder) (address .head) (address .sector)) NotNamed
-        (lyingOn (driveOf shape r) t (sectorAt shape (address .cylinder) (address .head) (address .sector))) fault
-        ∙ (ap (lyingOn (driveOf shape r) t) located-sector ∙ lying-of-lies (block-ready shape r t b located-passes .laid) t b))
+        gives-one placed (accepts (λ k. refl) located-passes (promised .answers ∙ rw fault (ap At located-sector)))
 
   -- what is asked by address is what is asked by the address's sector
-  module _ (cylinder head sector : ℕ) where
-    at-is-on : OnDrive shape cylinder head sector → Shaped shape → blockAtFault shape r t cylinder head sector ≡ blockOnFault shape r t (sectorAt shape cylinder head sector)
-    at-is-on there shaped =
-        rw (tells-on-drive shape cylinder head sector .told there, lt-leb (sizeOf shape) (sectorAt shape cylinder head sector) (sector-below shaped there))
+  module _ (address : Address) where
+    abbrev its-sector : ℕ
+    its-sector = sectorAt shape (address .cylinder) (address .head) (address .sector)
+
+    asked-at :
+        Shaped shape → OnDrive shape (address .cylinder) (address .head) (address .sector) → (result : Named) → BlockAtAddress shape r t address result →
+        BlockOn shape r t its-sector result
+    asked-at shaped there result promise =
+        let same : blockAtFault shape r t (address .cylinder) (address .head) (address .sector) ≡ blockOnFault shape r t its-sector =
+        rw (tells-on-drive shape (address .cylinder) (address .head) (address .sector) .told there, lt-leb (sizeOf shape) its-sector (sector-below shaped there)) in
+        rw same at promise
 
     pub block-at-sector :
-        (s : ℕ) → ShapeSectorOf shape cylinder head sector (At s) →
-        (result named : Named) → BlockAt shape r t cylinder head sector result → BlockOn shape r t s named → result ≡ named
+        (s : ℕ) → SectorOfAddress shape address (At s) →
+        (result named : Named) → BlockAtAddress shape r t address result → BlockOn shape r t s named → result ≡ named
     block-at-sector s promise result named promised names =
-        let passes : sectorOfFault shape cylinder head sector ≡ 0 = sym (gives-number promise (λ said. said .0) (λ k. refl) refl) in
-        let is : s ≡ sectorAt shape cylinder head sector = rw passes at (ap (λ (said : ℕ × ℕ). said .1) (promise .says)) in
-        let there = place-shows shape cylinder head sector (orElse-next (shapeFault shape) _ passes) in
-        let shaped = shape-shows shape (orElse-first (shapeFault shape) _ passes) in
-        promised .answers ∙ (rw (at-is-on there shaped) (sym (rw is at (names .answers))))
+        let passes : sectorOfFault shape (address .cylinder) (address .head) (address .sector) ≡ 0 = sym (gives-number promise (λ said. said .0) (λ k. refl) refl) in
+        let is : s ≡ its-sector = rw passes at (ap (λ (said : ℕ × ℕ). said .1) (promise .says)) in
+        let there = place-shows shape (address .cylinder) (address .head) (address .sector) (orElse-next (shapeFault shape) _ passes) in
+        gives-one (asked-at (shape-shows shape (orElse-first (shapeFault shape) _ passes)) there result promised) (rw is at names)
 
-    -- so a block that is named has the address
-    pub named-has-address :
-        (b : ℕ) → BlockAt shape r t cylinder head sector (Block b) → (result : Located) → AddressOf shape r t b result →
-        result ≡ LocatedAt (record { cylinder = cylinder; head = head; sector = sector })
-    named-has-address b promise result located =
-        let s = sectorAt shape cylinder head sector in
-        let lying = lyingOn (driveOf shape r) t s in
-        let passes : blockAtFault shape r t cylinder head sector ≡ 0 =
-        sym (gives-number promise (λ said. said .0) (λ k. refl) (naming-says lying (lying-naming (driveOf shape r) t s))) in
-        let on-drive = place-shows shape cylinder head sector (orElse-next (tableFault shape r t) _ passes) in
-        let shaped = table-ready shape r t (orElse-first (tableFault shape r t) _ passes) .shaped in
-        let there = named-there s b (rw (at-is-on on-drive shaped) at promise) in
-        located-answers b (there .0) result located ∙ rw (there .1) (ap LocatedAt (back-and-there shaped on-drive))
+  -- the address of a block names that block again
+  pub address-names-block :
+      (b : ℕ) (address : Address) → AddressOf shape r t b (LocatedAt address) → (result : Named) → BlockAtAddress shape r t address result → result ≡ Block b
+  address-names-block b address promise result names =
+      let none = located-passes b address promise in
+      let asked = asked-at address (block-ready shape r t b none .shaped) (located-on-drive b address promise) result names in
+      sector-names-block b (its-sector address) (accepts (λ k. refl) none (ap At (located-sector b address promise))) result asked
+
+  -- and a block that an address names has that address
+  pub named-has-address :
+      (b : ℕ) (address : Address) → BlockAtAddress shape r t address (Block b) → (result : Located) → AddressOf shape r t b result → result ≡ LocatedAt address
+  named-has-address b address promise result located =
+      let lying = lyingOn (driveOf shape r) t (its-sector address) in
+      let passes : blockAtFault shape r t (address .cylinder) (address .head) (address .sector) ≡ 0 =
+      sym (gives-number promise (λ said. said .0) (λ k. refl) (naming-says lying (lying-naming (driveOf shape r) t (its-sector address)))) in
+      let on-drive = place-shows shape (address .cylinder) (address .head) (address .sector) (orElse-next (tableFault shape r t) _ passes) in
+      let shaped = table-ready shape r t (orElse-first (tableFault shape r t) _ passes) .shaped in
+      let there = named-there (its-sector address) b (asked-at address shaped on-drive (Block b) promise) in
+      located-answers b (there .0) result located ∙ rw (there .1) (ap LocatedAt (back-and-there shaped on-drive))
 
   -- an accepted replacement alters one descriptor, which was free, and leaves a table that obeys the rules, with every other block where it was
   pub replacement-alters : (b q : ℕ) (after : List ℕ) → Replacement shape r t b (Place q) after → Altered (driveOf shape r) t b q after
@@ -349,7 +339,7 @@ demand2-revectored =
       sector-of-address = sector-of-address;
       block-at-sector = block-at-sector;
       address-names-block = address-names-block;
-      named-has-address = λ shape r t b address. named-has-address shape r t (address .cylinder) (address .head) (address .sector) b;
+      named-has-address = named-has-address;
       replacement-alters-one = replacement-alters-one;
       no-spare-none-free = no-spare-none-free;
       none-free-no-spare = none-free-no-spare;

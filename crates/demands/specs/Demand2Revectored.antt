@@ -1,4 +1,4 @@
--- Demand 2 on a revectored drive, a field for each sentence, of every result that the promises of the calls allow.
+-- Demand 2 on a revectored drive: a field for each sentence, said of whatever results the promises of the calls allow.
 use Prim.Native.Nat.{ℕ, _<_}
 use mathlib.Core.Path.{_≡_}
 use mathlib.Core.List.{List}
@@ -24,6 +24,13 @@ use Rattle.spares.specs.declared.Replaced as Answers
 use Rattle.spares.specs.declared.Replaced.the-variants.{Place, Refused as NotReplaced}
 use Rattle.spares.specs.Promises.{SectorOf, AddressOf, ShiftOf, BlockOn, BlockAt, Replacement}
 
+-- `shape::sector_of` and `block_at` for the three numbers of an address
+abbrev pub SectorOfAddress : Shape → Address → Placed → Type 0
+SectorOfAddress shape address = ShapeSectorOf shape (address .cylinder) (address .head) (address .sector)
+
+abbrev pub BlockAtAddress : Shape → ℕ → List ℕ → Address → Named → Type 0
+BlockAtAddress shape r t address = BlockAt shape r t (address .cylinder) (address .head) (address .sector)
+
 -- the result is a sector that block b lies on, and the block lies on no other
 pub record LiesThere (shape : Shape) (r : ℕ) (t : List ℕ) (b : ℕ) (result : Placed) : Type 0 where
   pub sector : ℕ
@@ -48,7 +55,7 @@ pub record AltersOne (shape : Shape) (r : ℕ) (before : List ℕ) (b q : ℕ) (
   pub others-lie :
       (a : ℕ) → (a ≡ b → ⊥) → (was is : Placed) → SectorOf shape r before a was → SectorOf shape r after a is → is ≡ was
 
--- what a shift of block b is
+-- how a shift leads from the home of block b to where the block lies
 pub record ShiftLeads (shape : Shape) (r : ℕ) (t : List ℕ) (b : ℕ) (shift : ℤ) : Type 0 where
   -- it leads from the cylinder of the block's home to the cylinder that `address_of` answers
   pub leads :
@@ -90,23 +97,21 @@ pub record Demand2Revectored : Type 0 where
   pub address-of-sector :
       (shape : Shape) (r : ℕ) (t : List ℕ) (b s : ℕ) → SectorOf shape r t b (At s) →
       (result address : Located) → AddressOf shape r t b result → ShapeAddressOf shape s address → result ≡ address
-  -- And back: where `address_of` answers an address, `sector_of` answers what `shape::sector_of` answers of it.
+  -- And back: of the address that `address_of` answers, `shape::sector_of` answers what `sector_of` answers.
   pub sector-of-address :
       (shape : Shape) (r : ℕ) (t : List ℕ) (b : ℕ) (address : Address) → AddressOf shape r t b (LocatedAt address) →
-      (result sector : Placed) → SectorOf shape r t b result → ShapeSectorOf shape (address .cylinder) (address .head) (address .sector) sector →
-      result ≡ sector
+      (result sector : Placed) → SectorOf shape r t b result → SectorOfAddress shape address sector → result ≡ sector
   -- `block_at` answers what `block_on` answers of the sector that `shape::sector_of` answers.
   pub block-at-sector :
-      (shape : Shape) (r : ℕ) (t : List ℕ) (cylinder head sector s : ℕ) → ShapeSectorOf shape cylinder head sector (At s) →
-      (result named : Named) → BlockAt shape r t cylinder head sector result → BlockOn shape r t s named → result ≡ named
+      (shape : Shape) (r : ℕ) (t : List ℕ) (address : Address) (s : ℕ) → SectorOfAddress shape address (At s) →
+      (result named : Named) → BlockAtAddress shape r t address result → BlockOn shape r t s named → result ≡ named
   -- The address of a block names that block again.
   pub address-names-block :
       (shape : Shape) (r : ℕ) (t : List ℕ) (b : ℕ) (address : Address) → AddressOf shape r t b (LocatedAt address) →
-      (result : Named) → BlockAt shape r t (address .cylinder) (address .head) (address .sector) result → result ≡ Block b
+      (result : Named) → BlockAtAddress shape r t address result → result ≡ Block b
   -- A block that an address names has that address.
   pub named-has-address :
-      (shape : Shape) (r : ℕ) (t : List ℕ) (b : ℕ) (address : Address) →
-      BlockAt shape r t (address .cylinder) (address .head) (address .sector) (Block b) →
+      (shape : Shape) (r : ℕ) (t : List ℕ) (b : ℕ) (address : Address) → BlockAtAddress shape r t address (Block b) →
       (result : Located) → AddressOf shape r t b result → result ≡ LocatedAt address
   -- A replacement alters one descriptor.
   pub replacement-alters-one :
