@@ -110,13 +110,27 @@ module _ (shape : Shape) (r : ℕ) (t : List ℕ) where
         promise .answers
         ∙ (answer-accepted (blockOnFault shape r t s) NotNamed (lyingOn (driveOf shape r) t s) fault ∙ vacant-told (ready .laid) t vacant)
 
+  -- a block that passes its checks lies on a sector of the drive
+  module _ (b : ℕ) (none : blockFault shape r t b ≡ 0) where
+    lies-inside : liesOn (driveOf shape r) t b < sizeOf shape
+    lies-inside =
+        let ready = block-ready shape r t b none in
+        rw (drive-whole (ready .drives)) at (lies-below (ready .laid) t (ready .obeys) b (block-below shape r t b none))
+
+    shape-passes : shapeFault shape ≡ 0
+    shape-passes = orElse-first (shapeFault shape) _ (orElse-first (driveFault shape r) _ (orElse-first (tableFault shape r t) _ none))
+
+    located-answers : (result : Located) → AddressOf shape r t b result → result ≡ LocatedAt (addressAt shape (liesOn (driveOf shape r) t b))
+    located-answers result promise =
+        promise .answers ∙ answer-accepted (blockFault shape r t b) NotLocated (LocatedAt (addressAt shape (liesOn (driveOf shape r) t b))) none
+
   -- sector to block is the inverse: the sector of a block names that block again
   pub sector-names-block : (b s : ℕ) → SectorOf shape r t b (At s) → (result : Named) → BlockOn shape r t s result → result ≡ Block b
   sector-names-block b s promise result names =
       let none : blockFault shape r t b ≡ 0 = answered-passes b s promise in
       let ready = block-ready shape r t b none in
       let is : s ≡ liesOn (driveOf shape r) t b = answered-is b s promise in
-      let inside : s < sizeOf shape = rw is (rw (drive-whole (ready .drives)) at (lies-below (ready .laid) t (ready .obeys) b (block-below shape r t b none))) in
+      let inside : s < sizeOf shape = rw is (lies-inside b none) in
       let fault : blockOnFault shape r t s ≡ 0 = rw (orElse-first (tableFault shape r t) _ none, lt-leb (sizeOf shape) s inside) in
       names .answers
       ∙ (answer-accepted (blockOnFault shape r t s) NotNamed (lyingOn (driveOf shape r) t s) fault
@@ -158,21 +172,7 @@ module _ (shape : Shape) (r : ℕ) (t : List ℕ) where
         let ready = asked-ready fault in
         vacant-shows (ready .laid) t (ready .obeys) s (asked-inside fault) (asked-is NoBlock promise refl)
 
-  -- a block that passes its checks lies on a sector of the drive
-  module _ (b : ℕ) (none : blockFault shape r t b ≡ 0) where
-    lies-inside : liesOn (driveOf shape r) t b < sizeOf shape
-    lies-inside =
-        let ready = block-ready shape r t b none in
-        rw (drive-whole (ready .drives)) at (lies-below (ready .laid) t (ready .obeys) b (block-below shape r t b none))
-
-    shape-passes : shapeFault shape ≡ 0
-    shape-passes = orElse-first (shapeFault shape) _ (orElse-first (driveFault shape r) _ (orElse-first (tableFault shape r t) _ none))
-
-    located-answers : (result : Located) → AddressOf shape r t b result → result ≡ LocatedAt (addressAt shape (liesOn (driveOf shape r) t b))
-    located-answers result promise =
-        promise .answers ∙ answer-accepted (blockFault shape r t b) NotLocated (LocatedAt (addressAt shape (liesOn (driveOf shape r) t b))) none
-
-  -- its address is that of its sector
+  -- the address of a block is that of its sector
   pub address-of-sector :
       (b s : ℕ) → SectorOf shape r t b (At s) →
       (result address : Located) → AddressOf shape r t b result → ShapeAddressOf shape s address → result ≡ address
