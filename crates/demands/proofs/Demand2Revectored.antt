@@ -1,6 +1,6 @@
 -- Demand 2 on a revectored drive: every block has one sector, its home or else the spare whose descriptor names it, and no other block has that sector. An unusable spare has no block. A replacement changes a single descriptor, and 13 means that every spare is taken.
 -- Assumes nothing.
-use Rattle.paper.proofs.Kept.{gives-number, fills-gives}
+use Rattle.paper.proofs.Kept.{accepts, gives-one, gives-number, fills-gives}
 use Prim.Native.Nat.{ℕ, _*_, _/_, _<_}
 use mathlib.Core.Path.{_≡_, refl, sym, _∙_, ap}
 use mathlib.Core.List.{List}
@@ -19,32 +19,41 @@ use Rattle.paper.proofs.Chain.{orElse-first, orElse-next, answer-accepted}
 use Rattle.paper.proofs.Rows.{below-shows, tells-lt}
 use Rattle.shape.specs.declared.Shape.{Shape}
 use Rattle.shape.specs.declared.Address.{Address}
-use Rattle.shape.specs.declared.Located.the-variants.{At as LocatedAt}
-use Rattle.shape.specs.Shapes.{sizeOf}
-use Rattle.shape.specs.Addresses.{OnDrive, sectorAt, addressAt}
-use Rattle.shape.proofs.Inverse.{there-and-back, address-on-drive}
-use Rattle.shape.proofs.Exact.{tells-on-drive}
-use Rattle.layout.specs.Layouts.{driveOf, sectorsPerTrack, spareSector, homeCylinder}
+use Rattle.shape.specs.declared.Located.{Located}
+use Rattle.shape.specs.declared.Located.the-variants.{At as LocatedAt, Refused as NotLocated}
+use Rattle.shape.specs.Shapes.{Shaped, sizeOf, shapeFault}
+use Rattle.shape.specs.Addresses.{OnDrive, sectorAt, addressAt, sectorOfFault, addressOfFault}
+use Rattle.shape.specs.Promises.{AddressOf as ShapeAddressOf}
+use Rattle.shape.proofs.Bounds.{sector-below}
+use Rattle.shape.proofs.Inverse.{there-and-back, back-and-there, address-on-drive}
+use Rattle.shape.proofs.Exact.{tells-on-drive, place-shows, shape-shows}
+use Rattle.layout.specs.declared.Drive.{Drive}
+use Rattle.layout.specs.Layouts.{driveOf, driveFault, sectorsPerTrack, homeSector, spareSector, homeCylinder}
 use Rattle.layout.specs.Steps.{Laid}
 use Rattle.layout.specs.Descriptors.{unusable, codeOf, Names}
-use Rattle.layout.proofs.Layings.{drive-whole}
-use Rattle.layout.proofs.Sectors.{home-track, spare-track}
+use Rattle.layout.proofs.Layings.{track-whole, drive-whole}
+use Rattle.layout.proofs.Sectors.{home-track, spare-track, home-below, spare-below, home-no-spare}
 use Rattle.layout.proofs.Words.{tells-names}
-use Rattle.table.specs.Rules.{tableFault, blockFault}
-use Rattle.table.specs.Lookup.{Replaced, isReplaced, placeOf, liesOn, lyingOn, Resides, Vacant}
-use Rattle.table.proofs.Lookups.{place-once, lies-shows, lies-only, lies-apart, none-on-unusable, lying-of-lies, vacant-told, lies-below, lies-of-lying, vacant-shows}
+use Rattle.table.specs.Rules.{tableFault, blockFault, TableJudged, BlockJudged}
+use Rattle.table.specs.Lookup.{Replaced, isReplaced, placeOf, liesOn, lyingOn, Resides, Vacant, home-left, spare-unused}
+use Rattle.table.proofs.Lookups.{tells-replaced, place-once, lies-shows, lies-only, lies-apart, none-on-unusable, lying-of-lies, vacant-told, lies-below, lies-of-lying, vacant-shows}
 use Rattle.replacing.specs.Replacing.{NoneFree, Altered, spareFor}
 use Rattle.spares.specs.Spares.{shiftOf, blockOnFault, blockAtFault, replaceFault}
-use Rattle.spares.specs.Promises.{saidReplaced, SectorOf, AddressOf, ShiftOf, BlockOn, BlockAt, Replacement}
+use Rattle.spares.specs.Promises.{SectorOf, AddressOf, ShiftOf, BlockOn, Replacement}
 use Rattle.spares.specs.declared.Shifted.the-variants.{By}
 use Rattle.spares.specs.declared.Replaced.{Replaced as ReplaceAnswer}
 use Rattle.spares.specs.declared.Replaced.the-variants.{Place, Refused as NotReplaced}
 use Rattle.spares.proofs.Exact.{sector-within}
-use Rattle.table.proofs.Exact.{Ready, table-ready, block-ready, block-below}
-use Rattle.spares.proofs.Accepted.{replace-alters, no-spare-shows, no-spare-told}
+use Rattle.table.proofs.Exact.{Ready, table-ready, table-exactly, block-ready, block-below, block-exactly}
+use Rattle.spares.proofs.Accepted.{replace-block, after-passes, replace-alters, no-spare-shows, no-spare-told}
 use Rattle.spares.proofs.Shifts.{shift-at-home, shift-leads, shift-answered}
 use Rattle.demands.proofs.ByKind.{naming-says, lying-naming}
-use Rattle.demands.specs.Relations.{Leads}
+use Rattle.demands.specs.Demand2Revectored.{SectorOfAddress, BlockAtAddress, LiesThere, AltersOne, ShiftLeads, Demand2Revectored}
+
+-- a vacant sector is one of the drive's
+vacant-inside : {drive : Drive} {t : List ℕ} {s : ℕ} → Laid drive → Vacant drive t s → s < drive .tracks * sectorsPerTrack drive
+vacant-inside laid (home-left b below same replaced) = rw same (home-below laid below)
+vacant-inside laid (spare-unused q below same unused) = rw same (spare-below laid below)
 
 module _ (shape : Shape) (r : ℕ) (t : List ℕ) where
   answered-passes : (b s : ℕ) → SectorOf shape r t b (At s) → blockFault shape r t b ≡ 0
@@ -63,25 +72,57 @@ module _ (shape : Shape) (r : ℕ) (t : List ℕ) where
       lies-apart (block-ready shape r t a (answered-passes a s first) .laid) t a b (sym (answered-is a s first) ∙ answered-is b s second)
 
   -- none lies on a spare marked unusable
-  pub never-on-unusable : (b s q : ℕ) → SectorOf shape r t b (At s) → codeOf (getD t q 0) ≡ unusable → s ≡ spareSector (driveOf shape r) q → ⊥
-  never-on-unusable b s q promise marked on =
-      none-on-unusable (block-ready shape r t b (answered-passes b s promise) .laid) t b q marked (sym (answered-is b s promise) ∙ on)
+  pub never-on-unusable : (b q : ℕ) → codeOf (getD t q 0) ≡ unusable → SectorOf shape r t b (At (spareSector (driveOf shape r) q)) → ⊥
+  never-on-unusable b q marked promise =
+      let on = spareSector (driveOf shape r) q in
+      none-on-unusable (block-ready shape r t b (answered-passes b on promise) .laid) t b q marked (sym (answered-is b on promise))
 
-  module _ (passes : tableFault shape r t ≡ 0) where
-    -- of a table that passes, one descriptor at most names a block
+  -- a table that passes
+  module _ (judged : TableJudged shape r t 0) where
+    passes : tableFault shape r t ≡ 0
+    passes = table-exactly shape r t .only 0 judged
+
+    ready : Ready shape r t
+    ready = table-ready shape r t passes
+
+    -- one descriptor at most names a block
     pub one-descriptor : (b p q : ℕ) → p < length t → q < length t → Names (getD t p 0) b → Names (getD t q 0) b → p ≡ q
     one-descriptor b p q in-p in-q names-p names-q =
-        let obeys = table-ready shape r t passes .obeys in
+        let obeys = ready .obeys in
         sym (place-once obeys p b in-p (tells-names (getD t p 0) b .told names-p)) ∙ place-once obeys q b in-q (tells-names (getD t q 0) b .told names-q)
 
-    -- where the table passes and the drive has the block, the sector that the block lies on is answered
-    pub lies-answered :
-        (b s : ℕ) → b < driveOf shape r .blocks → Resides (driveOf shape r) t b s → (result : Placed) → SectorOf shape r t b result → result ≡ At s
-    lies-answered b s below lies result promise =
+    -- each block is answered, with the one sector that it lies on
+    pub every-block-answered : (b : ℕ) → b < driveOf shape r .blocks → (result : Placed) → SectorOf shape r t b result → LiesThere shape r t b result
+    every-block-answered b below result promise =
         let fault : blockFault shape r t b ≡ 0 = rw (passes, lt-leb (driveOf shape r .blocks) b below) in
+        record {
+          sector = liesOn (driveOf shape r) t b;
+          answered = promise .answers ∙ answer-accepted (blockFault shape r t b) NotPlaced (At (liesOn (driveOf shape r) t b)) fault;
+          resides = lies-shows (driveOf shape r) t b;
+          nowhere-else = λ s lies. sym (lies-only (driveOf shape r) t b (ready .obeys) lies);
+        }
+
+    -- a vacant sector has no block
+    pub vacant-has-none : (s : ℕ) → Vacant (driveOf shape r) t s → (result : Named) → BlockOn shape r t s result → result ≡ NoBlock
+    vacant-has-none s vacant result promise =
+        let inside : s < sizeOf shape = rw (drive-whole (ready .drives)) at (vacant-inside (ready .laid) vacant) in
+        let fault : blockOnFault shape r t s ≡ 0 = rw (passes, lt-leb (sizeOf shape) s inside) in
         promise .answers
-        ∙ (answer-accepted (blockFault shape r t b) NotPlaced (At (liesOn (driveOf shape r) t b)) fault
-        ∙ ap At (lies-only (driveOf shape r) t b (table-ready shape r t passes .obeys) lies))
+        ∙ (answer-accepted (blockOnFault shape r t s) NotNamed (lyingOn (driveOf shape r) t s) fault ∙ vacant-told (ready .laid) t vacant)
+
+  -- a block that passes its checks lies on a sector of the drive
+  module _ (b : ℕ) (none : blockFault shape r t b ≡ 0) where
+    lies-inside : liesOn (driveOf shape r) t b < sizeOf shape
+    lies-inside =
+        let ready = block-ready shape r t b none in
+        rw (drive-whole (ready .drives)) at (lies-below (ready .laid) t (ready .obeys) b (block-below shape r t b none))
+
+    shape-passes : shapeFault shape ≡ 0
+    shape-passes = orElse-first (shapeFault shape) _ (orElse-first (driveFault shape r) _ (orElse-first (tableFault shape r t) _ none))
+
+    located-answers : (result : Located) → AddressOf shape r t b result → result ≡ LocatedAt (addressAt shape (liesOn (driveOf shape r) t b))
+    located-answers result promise =
+        promise .answers ∙ answer-accepted (blockFault shape r t b) NotLocated (LocatedAt (addressAt shape (liesOn (driveOf shape r) t b))) none
 
   -- sector to block is the inverse: the sector of a block names that block again
   pub sector-names-block : (b s : ℕ) → SectorOf shape r t b (At s) → (result : Named) → BlockOn shape r t s result → result ≡ Block b
@@ -89,7 +130,7 @@ module _ (shape : Shape) (r : ℕ) (t : List ℕ) where
       let none : blockFault shape r t b ≡ 0 = answered-passes b s promise in
       let ready = block-ready shape r t b none in
       let is : s ≡ liesOn (driveOf shape r) t b = answered-is b s promise in
-      let inside : s < sizeOf shape = rw is (rw (drive-whole (ready .drives)) at (lies-below (ready .laid) t (ready .obeys) b (block-below shape r t b none))) in
+      let inside : s < sizeOf shape = rw is (lies-inside b none) in
       let fault : blockOnFault shape r t s ≡ 0 = rw (orElse-first (tableFault shape r t) _ none, lt-leb (sizeOf shape) s inside) in
       names .answers
       ∙ (answer-accepted (blockOnFault shape r t s) NotNamed (lyingOn (driveOf shape r) t s) fault
@@ -112,14 +153,17 @@ module _ (shape : Shape) (r : ℕ) (t : List ℕ) where
         sector-within (asked-ready fault .drives) (below-shows (sizeOf shape) s noSuchSector (omega arith) (orElse-next (tableFault shape r t) _ fault))
 
     -- a block that is named on a sector lies there
-    pub named-lies : (b : ℕ) → BlockOn shape r t s (Block b) → (result : Placed) → SectorOf shape r t b result → result ≡ At s
-    named-lies b promise result placed =
+    named-there : (b : ℕ) → BlockOn shape r t s (Block b) → (blockFault shape r t b ≡ 0) × (liesOn (driveOf shape r) t b ≡ s)
+    named-there b promise =
         let fault : blockOnFault shape r t s ≡ 0 = asked-passes (Block b) promise refl in
         let ready = asked-ready fault in
         let lies = lies-of-lying (ready .laid) t (ready .obeys) s b (asked-inside fault) (asked-is (Block b) promise refl) in
-        let none : blockFault shape r t b ≡ 0 = rw (orElse-first (tableFault shape r t) _ fault, lt-leb (driveOf shape r .blocks) b (lies .0)) in
-        placed .answers
-        ∙ (answer-accepted (blockFault shape r t b) NotPlaced (At (liesOn (driveOf shape r) t b)) none ∙ ap At (lies .1))
+        (rw (orElse-first (tableFault shape r t) _ fault, lt-leb (driveOf shape r .blocks) b (lies .0)), lies .1)
+
+    pub named-lies : (b : ℕ) → BlockOn shape r t s (Block b) → (result : Placed) → SectorOf shape r t b result → result ≡ At s
+    named-lies b promise result placed =
+        let there = named-there b promise in
+        placed .answers ∙ (answer-accepted (blockFault shape r t b) NotPlaced (At (liesOn (driveOf shape r) t b)) (there .0) ∙ ap At (there .1))
 
     -- "no block" means a home whose block has moved away, or a spare that holds none
     pub none-is-vacant : BlockOn shape r t s NoBlock → Vacant (driveOf shape r) t s
@@ -128,47 +172,78 @@ module _ (shape : Shape) (r : ℕ) (t : List ℕ) where
         let ready = asked-ready fault in
         vacant-shows (ready .laid) t (ready .obeys) s (asked-inside fault) (asked-is NoBlock promise refl)
 
-    -- and for these always
-    pub vacant-has-none :
-        tableFault shape r t ≡ 0 → s < sizeOf shape → Vacant (driveOf shape r) t s → (result : Named) → BlockOn shape r t s result → result ≡ NoBlock
-    vacant-has-none passes inside vacant result promise =
-        let fault : blockOnFault shape r t s ≡ 0 = rw (passes, lt-leb (sizeOf shape) s inside) in
-        promise .answers
-        ∙ (answer-accepted (blockOnFault shape r t s) NotNamed (lyingOn (driveOf shape r) t s) fault
-        ∙ vacant-told (table-ready shape r t passes .laid) t vacant)
+  -- the address of a block is that of its sector
+  pub address-of-sector :
+      (b s : ℕ) → SectorOf shape r t b (At s) →
+      (result address : Located) → AddressOf shape r t b result → ShapeAddressOf shape s address → result ≡ address
+  address-of-sector b s promise result address located promised =
+      let none = answered-passes b s promise in
+      let is = answered-is b s promise in
+      let inside : s < sizeOf shape = rw is (lies-inside b none) in
+      let fault : addressOfFault shape s ≡ 0 = rw (shape-passes b none, lt-leb (sizeOf shape) s inside) in
+      gives-one located (accepts (λ k. refl) none (promised .answers ∙ rw fault (ap (λ (sector : ℕ). LocatedAt (addressAt shape sector)) is)))
 
-  -- by cylinder, head and sector: the address that is answered is on the drive and is that of the sector that the block lies on
-  pub address-lies :
-      (b : ℕ) (address : Address) → AddressOf shape r t b (LocatedAt address) →
-      OnDrive shape (address .cylinder) (address .head) (address .sector)
-      × Resides (driveOf shape r) t b (sectorAt shape (address .cylinder) (address .head) (address .sector))
-  address-lies b address promise =
-      let none : blockFault shape r t b ≡ 0 = sym (gives-number promise (λ said. said .0) (λ k. refl) refl) in
-      let ready = block-ready shape r t b none in
-      let inside : liesOn (driveOf shape r) t b < sizeOf shape = rw (drive-whole (ready .drives)) at (lies-below (ready .laid) t (ready .obeys) b (block-below shape r t b none)) in
-      let cylinder : address .cylinder ≡ addressAt shape (liesOn (driveOf shape r) t b) .cylinder = rw none at (ap (λ (said : ℕ × ℕ × ℕ × ℕ). said .1) (promise .says)) in
-      let head : address .head ≡ addressAt shape (liesOn (driveOf shape r) t b) .head = rw none at (ap (λ (said : ℕ × ℕ × ℕ × ℕ). said .2) (promise .says)) in
-      let sector : address .sector ≡ addressAt shape (liesOn (driveOf shape r) t b) .sector = rw none at (ap (λ (said : ℕ × ℕ × ℕ × ℕ). said .3) (promise .says)) in (
-        rw (cylinder, head, sector) (address-on-drive (ready .shaped) inside),
-        rw (cylinder, head, sector) (rw (there-and-back (ready .shaped) inside) (lies-shows (driveOf shape r) t b)),
-      )
+  module _ (b : ℕ) (address : Address) (promise : AddressOf shape r t b (LocatedAt address)) where
+    located-passes : blockFault shape r t b ≡ 0
+    located-passes = sym (gives-number promise (λ said. said .0) (λ k. refl) refl)
 
-  -- and that address names the block again
+    located-is : address ≡ addressAt shape (liesOn (driveOf shape r) t b)
+    located-is = let same : LocatedAt address ≡ LocatedAt (addressAt shape (liesOn (driveOf shape r) t b)) = located-answers b located-passes (LocatedAt address) promise in cc
+
+    -- the address that is answered is on the drive, and its sector is the one that the block lies on
+    located-on-drive : OnDrive shape (address .cylinder) (address .head) (address .sector)
+    located-on-drive = rw located-is (address-on-drive (block-ready shape r t b located-passes .shaped) (lies-inside b located-passes))
+
+    located-sector : sectorAt shape (address .cylinder) (address .head) (address .sector) ≡ liesOn (driveOf shape r) t b
+    located-sector = rw located-is (there-and-back (block-ready shape r t b located-passes .shaped) (lies-inside b located-passes))
+
+    pub sector-of-address : (result sector : Placed) → SectorOf shape r t b result → SectorOfAddress shape address sector → result ≡ sector
+    sector-of-address result sector placed promised =
+        let fault : sectorOfFault shape (address .cylinder) (address .head) (address .sector) ≡ 0 =
+        rw (shape-passes b located-passes, tells-on-drive shape (address .cylinder) (address .head) (address .sector) .told located-on-drive) in
+        gives-one placed (accepts (λ k. refl) located-passes (promised .answers ∙ rw fault (ap At located-sector)))
+
+  -- what is asked by address is what is asked by the address's sector
+  module _ (address : Address) where
+    abbrev its-sector : ℕ
+    its-sector = sectorAt shape (address .cylinder) (address .head) (address .sector)
+
+    asked-at :
+        Shaped shape → OnDrive shape (address .cylinder) (address .head) (address .sector) → (result : Named) → BlockAtAddress shape r t address result →
+        BlockOn shape r t its-sector result
+    asked-at shaped there result promise =
+        let same : blockAtFault shape r t (address .cylinder) (address .head) (address .sector) ≡ blockOnFault shape r t its-sector =
+        rw (tells-on-drive shape (address .cylinder) (address .head) (address .sector) .told there, lt-leb (sizeOf shape) its-sector (sector-below shaped there)) in
+        rw same at promise
+
+    pub block-at-sector :
+        (s : ℕ) → SectorOfAddress shape address (At s) →
+        (result named : Named) → BlockAtAddress shape r t address result → BlockOn shape r t s named → result ≡ named
+    block-at-sector s promise result named promised names =
+        let passes : sectorOfFault shape (address .cylinder) (address .head) (address .sector) ≡ 0 = sym (gives-number promise (λ said. said .0) (λ k. refl) refl) in
+        let is : s ≡ its-sector = rw passes at (ap (λ (said : ℕ × ℕ). said .1) (promise .says)) in
+        let there = place-shows shape (address .cylinder) (address .head) (address .sector) (orElse-next (shapeFault shape) _ passes) in
+        gives-one (asked-at (shape-shows shape (orElse-first (shapeFault shape) _ passes)) there result promised) (rw is at names)
+
+  -- the address of a block names that block again
   pub address-names-block :
-      (b : ℕ) (address : Address) → AddressOf shape r t b (LocatedAt address) → (result : Named) →
-      BlockAt shape r t (address .cylinder) (address .head) (address .sector) result → result ≡ Block b
+      (b : ℕ) (address : Address) → AddressOf shape r t b (LocatedAt address) → (result : Named) → BlockAtAddress shape r t address result → result ≡ Block b
   address-names-block b address promise result names =
-      let none : blockFault shape r t b ≡ 0 = sym (gives-number promise (λ said. said .0) (λ k. refl) refl) in
-      let ready = block-ready shape r t b none in
-      let there = address-lies b address promise in
-      let is : liesOn (driveOf shape r) t b ≡ sectorAt shape (address .cylinder) (address .head) (address .sector) =
-      lies-only (driveOf shape r) t b (ready .obeys) (there .1) in
-      let fault : blockAtFault shape r t (address .cylinder) (address .head) (address .sector) ≡ 0 =
-      rw (orElse-first (tableFault shape r t) _ none, tells-on-drive shape (address .cylinder) (address .head) (address .sector) .told (there .0)) in
-      names .answers
-      ∙ (answer-accepted (blockAtFault shape r t (address .cylinder) (address .head) (address .sector)) NotNamed
-      (lyingOn (driveOf shape r) t (sectorAt shape (address .cylinder) (address .head) (address .sector))) fault
-      ∙ (ap (lyingOn (driveOf shape r) t) (sym is) ∙ lying-of-lies (ready .laid) t b))
+      let none = located-passes b address promise in
+      let asked = asked-at address (block-ready shape r t b none .shaped) (located-on-drive b address promise) result names in
+      sector-names-block b (its-sector address) (accepts (λ k. refl) none (ap At (located-sector b address promise))) result asked
+
+  -- and a block that an address names has that address
+  pub named-has-address :
+      (b : ℕ) (address : Address) → BlockAtAddress shape r t address (Block b) → (result : Located) → AddressOf shape r t b result → result ≡ LocatedAt address
+  named-has-address b address promise result located =
+      let lying = lyingOn (driveOf shape r) t (its-sector address) in
+      let passes : blockAtFault shape r t (address .cylinder) (address .head) (address .sector) ≡ 0 =
+      sym (gives-number promise (λ said. said .0) (λ k. refl) (naming-says lying (lying-naming (driveOf shape r) t (its-sector address)))) in
+      let on-drive = place-shows shape (address .cylinder) (address .head) (address .sector) (orElse-next (tableFault shape r t) _ passes) in
+      let shaped = table-ready shape r t (orElse-first (tableFault shape r t) _ passes) .shaped in
+      let there = named-there (its-sector address) b (asked-at address shaped on-drive (Block b) promise) in
+      located-answers b (there .0) result located ∙ rw (there .1) (ap LocatedAt (back-and-there shaped on-drive))
 
   -- an accepted replacement alters one descriptor, which was free, and leaves a table that obeys the rules, with every other block where it was
   pub replacement-alters : (b q : ℕ) (after : List ℕ) → Replacement shape r t b (Place q) after → Altered (driveOf shape r) t b q after
@@ -177,34 +252,96 @@ module _ (shape : Shape) (r : ℕ) (t : List ℕ) where
       let place : q ≡ spareFor (driveOf shape r) t b = rw accepted at (ap (λ (said : ℕ × ℕ). said .1) (promise .says)) in
       rw (place, promise .holds) (replace-alters shape r t b accepted)
 
+  -- said of the calls: the block lies on its spare, and every other block where it lay
+  pub replacement-alters-one : (b q : ℕ) (after : List ℕ) → Replacement shape r t b (Place q) after → AltersOne shape r t b q after
+  replacement-alters-one b q after promise =
+      record {
+        in-table = altered .in-table;
+        was-free = altered .was-free;
+        searched-first = altered .searched-first;
+        names-block = altered .names-block;
+        others-stand = altered .others-stand;
+        same-length = altered .same-length;
+        breaks-none = altered .breaks-none;
+        lies = λ result placed. placed .answers ∙ answer-accepted (blockFault shape r after b) NotPlaced (At (liesOn (driveOf shape r) after b)) (same-fault b ∙ block) ∙ ap At (altered .lies);
+        others-lie = λ a other was is first then. then .answers ∙ rw (same-fault a, altered .others-lie a other) (sym (first .answers));
+      }
+    where
+      altered : Altered (driveOf shape r) t b q after
+      altered = replacement-alters b q after promise
+
+      block : blockFault shape r t b ≡ 0
+      block = replace-block shape r t b (sym (gives-number (fills-gives promise) (λ said. said .0) (λ k. refl) refl))
+
+      same-fault : (a : ℕ) → blockFault shape r after a ≡ blockFault shape r t a
+      same-fault a =
+          let before : tableFault shape r t ≡ 0 = orElse-first (tableFault shape r t) _ block in
+          let table : tableFault shape r after ≡ 0 = rw (promise .holds) (after-passes shape r t b before) in
+          rw (table, before)
+
   -- it is refused for want of a spare only when none is free
   pub no-spare-none-free : (b : ℕ) (after : List ℕ) → Replacement shape r t b (NotReplaced noSpare) after → NoneFree t
   no-spare-none-free b after promise = no-spare-shows shape r t b (sym (gives-number (fills-gives promise) (λ said. said .0) (λ k. refl) refl)) .1 .1
 
   -- and exactly then, where 1, 11, 5 and 12 do not refuse
   pub none-free-no-spare :
-      (b : ℕ) → blockFault shape r t b ≡ 0 → (Replaced t b → ⊥) → NoneFree t → (result : ReplaceAnswer) (after : List ℕ) →
-      Replacement shape r t b result after → saidReplaced result .0 ≡ noSpare
-  none-free-no-spare b none at-home none-free result after promise =
-      gives-number (fills-gives promise) (λ said. said .0) (λ k. refl) refl ∙ no-spare-told shape r t b none at-home none-free
+      (b : ℕ) → BlockJudged shape r t b 0 → (Replaced t b → ⊥) → NoneFree t → (result : ReplaceAnswer) (after : List ℕ) →
+      Replacement shape r t b result after → result ≡ NotReplaced noSpare
+  none-free-no-spare b judged at-home none-free result after promise =
+      promise .answers ∙ rw (no-spare-told shape r t b (block-exactly shape r t b .only 0 judged) at-home none-free)
 
-  -- the shift leads from the cylinder of the home to the cylinder that the block lies on, and is less than C to either side
-  pub shift-leads-there : (b : ℕ) (shift : ℤ) → ShiftOf shape r t b (By shift) → Leads (driveOf shape r) t b (shape .cylinders) shift
+  -- the shift leads from the cylinder of the home to that of the address, is less than C to either side, and 0 at home
+  pub shift-leads-there : (b : ℕ) (shift : ℤ) → ShiftOf shape r t b (By shift) → ShiftLeads shape r t b shift
   shift-leads-there b shift promise =
-      let none : blockFault shape r t b ≡ 0 = sym (gives-number promise (λ said. said .0) (λ k. refl) refl) in
-      let is : shift ≡ shiftOf (driveOf shape r) t b = rw none at (ap (λ (said : ℕ × ℤ). said .1) (promise .says)) in
-      rw is (record { leads = leads (block-ready shape r t b none .laid); within = shift-answered shape r t b none })
+      rw is (record { leads = leads; within = shift-answered shape r t b none; none-at-home = λ home. shift-at-home (driveOf shape r) t b (stays home) })
     where
-      leads : Laid (driveOf shape r) → pos (homeCylinder (driveOf shape r) b) +ℤ shiftOf (driveOf shape r) t b ≡ pos (liesOn (driveOf shape r) t b / sectorsPerTrack (driveOf shape r) / shape .heads)
-      leads laid =
+      none : blockFault shape r t b ≡ 0
+      none = sym (gives-number promise (λ said. said .0) (λ k. refl) refl)
+
+      is : shift ≡ shiftOf (driveOf shape r) t b
+      is = rw none at (ap (λ (said : ℕ × ℤ). said .1) (promise .says))
+
+      laid : Laid (driveOf shape r)
+      laid = block-ready shape r t b none .laid
+
+      goes : pos (homeCylinder (driveOf shape r) b) +ℤ shiftOf (driveOf shape r) t b ≡ pos (liesOn (driveOf shape r) t b / sectorsPerTrack (driveOf shape r) / shape .heads)
+      goes =
           byBool (isReplaced t b)
           (λ e.
           shift-leads (driveOf shape r) t b (tells-lt (placeOf t b) (length t) .holds e)
           ∙ rw e (rw (spare-track laid (placeOf t b))))
           (λ e. rw e (rw (home-track laid b) (+ℤ-idr (pos (homeCylinder (driveOf shape r) b)))))
 
-  -- a block that has not moved has shift 0
-  pub shift-0-at-home : (b : ℕ) (shift : ℤ) → ShiftOf shape r t b (By shift) → (Replaced t b → ⊥) → shift ≡ pos 0
-  shift-0-at-home b shift promise at-home =
-      let none : blockFault shape r t b ≡ 0 = sym (gives-number promise (λ said. said .0) (λ k. refl) refl) in
-      rw none at (ap (λ (said : ℕ × ℤ). said .1) (promise .says)) ∙ shift-at-home (driveOf shape r) t b at-home
+      leads : (address : Address) → AddressOf shape r t b (LocatedAt address) → pos (homeCylinder (driveOf shape r) b) +ℤ shiftOf (driveOf shape r) t b ≡ pos (address .cylinder)
+      leads address located =
+          goes
+          ∙ (ap (λ (long : ℕ). pos (liesOn (driveOf shape r) t b / long / shape .heads)) (track-whole (block-ready shape r t b none .drives))
+          ∙ ap (λ (there : Address). pos (there .cylinder)) (sym (located-is b address located)))
+
+      stays : SectorOf shape r t b (At (homeSector (driveOf shape r) b)) → Replaced t b → ⊥
+      stays home replaced =
+          let lies = answered-is b (homeSector (driveOf shape r) b) home in
+          home-no-spare laid b (placeOf t b) (lies ∙ rw (tells-replaced t b .told replaced))
+
+pub demand2-revectored : Demand2Revectored
+demand2-revectored =
+    record {
+      home-or-spare = answered-lies;
+      one-descriptor = λ shape r t b p q judged. one-descriptor shape r t judged b p q;
+      every-block-answered = λ shape r t b judged. every-block-answered shape r t judged b;
+      never-share = never-share;
+      never-on-unusable = never-on-unusable;
+      sector-names-block = sector-names-block;
+      named-lies = λ shape r t b s. named-lies shape r t s b;
+      none-is-vacant = none-is-vacant;
+      vacant-has-none = λ shape r t s judged. vacant-has-none shape r t judged s;
+      address-of-sector = address-of-sector;
+      sector-of-address = sector-of-address;
+      block-at-sector = block-at-sector;
+      address-names-block = address-names-block;
+      named-has-address = named-has-address;
+      replacement-alters-one = replacement-alters-one;
+      no-spare-none-free = no-spare-none-free;
+      none-free-no-spare = none-free-no-spare;
+      shift-leads-there = shift-leads-there;
+    }

@@ -5,3 +5,4 @@ pub mod Demand2Skipped
 pub mod Inputs
 pub mod Rows
 pub mod Incident
+pub mod Demand2Revectored

@@ -1,0 +1,129 @@
+-- Demand 2 on a revectored drive: a field for each sentence, said of whatever results the promises of the calls allow.
+use Prim.Native.Nat.{ℕ, _<_}
+use mathlib.Core.Path.{_≡_}
+use mathlib.Core.List.{List}
+use lib.IntN.{ℤ, pos, natAbs, _+ℤ_}
+use lib.ListN.{length, getD}
+use Rattle.paper.specs.Refusals.{noSpare}
+use Rattle.paper.specs.declared.Placed.{Placed}
+use Rattle.paper.specs.declared.Placed.the-variants.{At}
+use Rattle.paper.specs.declared.Named.{Named}
+use Rattle.paper.specs.declared.Named.the-variants.{Block, NoBlock}
+use Rattle.shape.specs.declared.Shape.{Shape}
+use Rattle.shape.specs.declared.Address.{Address}
+use Rattle.shape.specs.declared.Located.{Located}
+use Rattle.shape.specs.declared.Located.the-variants.{At as LocatedAt}
+use Rattle.shape.specs.Promises.{SectorOf as ShapeSectorOf, AddressOf as ShapeAddressOf}
+use Rattle.layout.specs.Layouts.{driveOf, homeSector, spareSector, homeCylinder}
+use Rattle.layout.specs.Descriptors.{free, unusable, codeOf, Names}
+use Rattle.table.specs.Rules.{Breaks, TableJudged, BlockJudged}
+use Rattle.table.specs.Lookup.{Replaced, Resides, Vacant}
+use Rattle.replacing.specs.Replacing.{NoneFree, ComesFirst}
+use Rattle.spares.specs.declared.Shifted.the-variants.{By}
+use Rattle.spares.specs.declared.Replaced as Answers
+use Rattle.spares.specs.declared.Replaced.the-variants.{Place, Refused as NotReplaced}
+use Rattle.spares.specs.Promises.{SectorOf, AddressOf, ShiftOf, BlockOn, BlockAt, Replacement}
+
+-- `shape::sector_of` and `block_at` for the three numbers of an address
+abbrev pub SectorOfAddress : Shape → Address → Placed → Type 0
+SectorOfAddress shape address = ShapeSectorOf shape (address .cylinder) (address .head) (address .sector)
+
+abbrev pub BlockAtAddress : Shape → ℕ → List ℕ → Address → Named → Type 0
+BlockAtAddress shape r t address = BlockAt shape r t (address .cylinder) (address .head) (address .sector)
+
+-- the result is a sector that block b lies on, and the block lies on no other
+pub record LiesThere (shape : Shape) (r : ℕ) (t : List ℕ) (b : ℕ) (result : Placed) : Type 0 where
+  pub sector : ℕ
+  pub answered : result ≡ At sector
+  pub resides : Resides (driveOf shape r) t b sector
+  pub nowhere-else : (s : ℕ) → Resides (driveOf shape r) t b s → s ≡ sector
+
+-- what a replacement that gives block b the spare q does to the table
+pub record AltersOne (shape : Shape) (r : ℕ) (before : List ℕ) (b q : ℕ) (after : List ℕ) : Type 0 where
+  -- place q of the table was free, and no place before it in the search order was
+  pub in-table : q < length before
+  pub was-free : codeOf (getD before q 0) ≡ free
+  pub searched-first : ComesFirst (driveOf shape r) before b q
+  -- it names the block now, and every other place keeps its descriptor
+  pub names-block : Names (getD after q 0) b
+  pub others-stand : (p : ℕ) → (p ≡ q → ⊥) → getD after p 0 ≡ getD before p 0
+  -- the table is as long as it was, and breaks no rule
+  pub same-length : length after ≡ length before
+  pub breaks-none : Breaks (driveOf shape r) after → ⊥
+  -- the block lies on spare q now, and every other block where it lay
+  pub lies : (result : Placed) → SectorOf shape r after b result → result ≡ At (spareSector (driveOf shape r) q)
+  pub others-lie :
+      (a : ℕ) → (a ≡ b → ⊥) → (was is : Placed) → SectorOf shape r before a was → SectorOf shape r after a is → is ≡ was
+
+-- how a shift leads from the home of block b to where the block lies
+pub record ShiftLeads (shape : Shape) (r : ℕ) (t : List ℕ) (b : ℕ) (shift : ℤ) : Type 0 where
+  -- it leads from the cylinder of the block's home to the cylinder that `address_of` answers
+  pub leads :
+      (address : Address) → AddressOf shape r t b (LocatedAt address) → pos (homeCylinder (driveOf shape r) b) +ℤ shift ≡ pos (address .cylinder)
+  -- it is less than C to either side
+  pub within : natAbs shift < shape .cylinders
+  -- and 0 for a block at home
+  pub none-at-home : SectorOf shape r t b (At (homeSector (driveOf shape r) b)) → shift ≡ pos 0
+
+pub record Demand2Revectored : Type 0 where
+  -- A block lies at home, or on the spare whose descriptor names it.
+  pub home-or-spare : (shape : Shape) (r : ℕ) (t : List ℕ) (b s : ℕ) → SectorOf shape r t b (At s) → Resides (driveOf shape r) t b s
+  -- Of a table that passes, one descriptor at most names a block.
+  pub one-descriptor :
+      (shape : Shape) (r : ℕ) (t : List ℕ) (b p q : ℕ) → TableJudged shape r t 0 →
+      p < length t → q < length t → Names (getD t p 0) b → Names (getD t q 0) b → p ≡ q
+  -- Every block of such a table is answered, with the one sector that it lies on.
+  pub every-block-answered :
+      (shape : Shape) (r : ℕ) (t : List ℕ) (b : ℕ) → TableJudged shape r t 0 → b < driveOf shape r .blocks →
+      (result : Placed) → SectorOf shape r t b result → LiesThere shape r t b result
+  -- Two blocks never share a sector.
+  pub never-share : (shape : Shape) (r : ℕ) (t : List ℕ) (a b s : ℕ) → SectorOf shape r t a (At s) → SectorOf shape r t b (At s) → a ≡ b
+  -- None lies on a spare that is marked unusable.
+  pub never-on-unusable :
+      (shape : Shape) (r : ℕ) (t : List ℕ) (b q : ℕ) → codeOf (getD t q 0) ≡ unusable → SectorOf shape r t b (At (spareSector (driveOf shape r) q)) → ⊥
+  -- The sector of a block names that block again.
+  pub sector-names-block :
+      (shape : Shape) (r : ℕ) (t : List ℕ) (b s : ℕ) → SectorOf shape r t b (At s) → (result : Named) → BlockOn shape r t s result → result ≡ Block b
+  -- A block that a sector names lies there.
+  pub named-lies :
+      (shape : Shape) (r : ℕ) (t : List ℕ) (b s : ℕ) → BlockOn shape r t s (Block b) → (result : Placed) → SectorOf shape r t b result → result ≡ At s
+  -- "No block" is answered for the home of a replaced block and for a spare that is not allocated, and for no other sector.
+  pub none-is-vacant : (shape : Shape) (r : ℕ) (t : List ℕ) (s : ℕ) → BlockOn shape r t s NoBlock → Vacant (driveOf shape r) t s
+  -- For these it is always answered, where the table passes.
+  pub vacant-has-none :
+      (shape : Shape) (r : ℕ) (t : List ℕ) (s : ℕ) → TableJudged shape r t 0 → Vacant (driveOf shape r) t s →
+      (result : Named) → BlockOn shape r t s result → result ≡ NoBlock
+  -- `address_of` answers what `shape::address_of` answers of the sector that `sector_of` answers.
+  pub address-of-sector :
+      (shape : Shape) (r : ℕ) (t : List ℕ) (b s : ℕ) → SectorOf shape r t b (At s) →
+      (result address : Located) → AddressOf shape r t b result → ShapeAddressOf shape s address → result ≡ address
+  -- And back: of the address that `address_of` answers, `shape::sector_of` answers what `sector_of` answers.
+  pub sector-of-address :
+      (shape : Shape) (r : ℕ) (t : List ℕ) (b : ℕ) (address : Address) → AddressOf shape r t b (LocatedAt address) →
+      (result sector : Placed) → SectorOf shape r t b result → SectorOfAddress shape address sector → result ≡ sector
+  -- `block_at` answers what `block_on` answers of the sector that `shape::sector_of` answers.
+  pub block-at-sector :
+      (shape : Shape) (r : ℕ) (t : List ℕ) (address : Address) (s : ℕ) → SectorOfAddress shape address (At s) →
+      (result named : Named) → BlockAtAddress shape r t address result → BlockOn shape r t s named → result ≡ named
+  -- The address of a block names that block again.
+  pub address-names-block :
+      (shape : Shape) (r : ℕ) (t : List ℕ) (b : ℕ) (address : Address) → AddressOf shape r t b (LocatedAt address) →
+      (result : Named) → BlockAtAddress shape r t address result → result ≡ Block b
+  -- A block that an address names has that address.
+  pub named-has-address :
+      (shape : Shape) (r : ℕ) (t : List ℕ) (b : ℕ) (address : Address) → BlockAtAddress shape r t address (Block b) →
+      (result : Located) → AddressOf shape r t b result → result ≡ LocatedAt address
+  -- A replacement alters one descriptor.
+  pub replacement-alters-one :
+      (shape : Shape) (r : ℕ) (t : List ℕ) (b q : ℕ) (after : List ℕ) → Replacement shape r t b (Place q) after → AltersOne shape r t b q after
+  -- It is refused for want of a spare only when none is free.
+  pub no-spare-none-free :
+      (shape : Shape) (r : ℕ) (t : List ℕ) (b : ℕ) (after : List ℕ) → Replacement shape r t b (NotReplaced noSpare) after → NoneFree t
+  -- And always then, where 1, 11, 5 and 12 do not refuse it.
+  pub none-free-no-spare :
+      (shape : Shape) (r : ℕ) (t : List ℕ) (b : ℕ) → BlockJudged shape r t b 0 → (Replaced t b → ⊥) → NoneFree t →
+      (result : Answers.Replaced) (after : List ℕ) → Replacement shape r t b result after → result ≡ NotReplaced noSpare
+  -- The shift leads from the cylinder of a block's home to the cylinder that the block lies on.
+  pub shift-leads-there :
+      (shape : Shape) (r : ℕ) (t : List ℕ) (b : ℕ) (shift : ℤ) → ShiftOf shape r t b (By shift) → ShiftLeads shape r t b shift
+  -- Here follow the reads of a block (`ReadsInPlace`) and the census over a history of calls (`CensusLaw`).
