@@ -3,3 +3,5 @@ pub mod Numbered
 pub mod Inputs
 pub mod Rows
 pub mod Incident
+pub mod Histories
+pub mod Reads
