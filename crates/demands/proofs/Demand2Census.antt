@@ -1,92 +1,125 @@
--- A census counts the places of each code. Whatever calls follow a first table, the spares that it counts as free are those that neither the list of bad sectors nor an accepted replacement has taken.
+-- A census counts the places of each code. A first table has as many free places as the list of bad sectors leaves, an accepted replacement takes one of them, and no other call takes any.
 -- Assumes nothing.
-use Rattle.paper.proofs.Kept.{gives-number, fills-gives}
 use Prim.Native.Nat.{ℕ, _+_, _-_, _≤_}
 use mathlib.Core.Path.{_≡_, sym, _∙_, ap, refl}
 use mathlib.Core.List.{List}
 use native.Mathlib.Omega.{arith}
 use lib.ListN.{length, take}
+use Rattle.paper.proofs.Cases.{byFault}
+use Rattle.paper.proofs.Chain.{orElse-first}
+use Rattle.paper.proofs.Kept.{gives-number, fills-gives, fills-refused}
 use Rattle.paper.specs.declared.Written.the-variants.{Length}
 use Rattle.seek.proofs.Counts.{count-le}
 use Rattle.shape.specs.declared.Shape.{Shape}
-use Rattle.layout.specs.Layouts.{driveOf}
+use Rattle.layout.specs.Layouts.{driveOf, driveFault}
 use Rattle.layout.specs.Descriptors.{free}
 use Rattle.layout.specs.declared.Drive.{Drive}
 use Rattle.table.specs.Rules.{tableFault}
 use Rattle.table.specs.Places.{tableLength}
 use Rattle.table.specs.Counting.{codeCount}
 use Rattle.table.specs.declared.Census.{Census}
+use Rattle.table.proofs.Exact.{table-passes}
 use Rattle.first_table.specs.Marks.{isBadSpare, badSpares, badHomes, goodSpares}
 use Rattle.first_table.specs.Tables.{firstTable, firstTableFault}
 use Rattle.first_table.specs.Promises.{FirstTable}
-use Rattle.first_table.proofs.Exact.{first-shows, first-made}
-use Rattle.spares.specs.Promises.{saidCounted, CensusOf}
-use Rattle.spares.specs.History.{Call, afterAll, accepted}
-use Rattle.spares.specs.declared.Counted.{Counted}
-use Rattle.spares.specs.declared.Counted.the-variants.{Counts as Census-of}
-use Rattle.spares.proofs.Accepted.{census-whole}
-use Rattle.spares.proofs.Histories.{history-passes, history-frees, first-passes, census-law}
+use Rattle.first_table.proofs.Exact.{first-obeys, first-shows, first-made}
+use Rattle.replacing.specs.Replacing.{spareFor}
+use Rattle.spares.specs.Spares.{replaceFault}
+use Rattle.spares.specs.Promises.{Replacement, CensusOf}
+use Rattle.spares.specs.declared.Replaced.the-variants.{Place, Refused as NotReplaced}
+use Rattle.spares.specs.declared.Counted.the-variants.{Counts as Counted-as}
+use Rattle.spares.proofs.Accepted.{census-whole, replace-block, replace-free-less, after-passes}
 use Rattle.demands.specs.Relations.{Counts}
+use Rattle.demands.specs.Histories.{History, made, replaced, refused, CensusLaw}
 use Rattle.demands.proofs.Rooms.{first-table-hands}
 
--- a census that is answered counts each code of the table
-pub census-counts : (shape : Shape) (r : ℕ) (t : List ℕ) (census : Census) → CensusOf shape r t (Census-of census) → Counts t census
-census-counts shape r t census promise =
-    let passes : tableFault shape r t ≡ 0 = sym (gives-number promise (λ said. said .0) (λ k. refl) refl) in
-    record {
-      are-free = rw passes at (ap (λ (said : ℕ × ℕ × ℕ × ℕ × ℕ × ℕ). said .1) (promise .says));
-      are-primary = rw passes at (ap (λ (said : ℕ × ℕ × ℕ × ℕ × ℕ × ℕ). said .2) (promise .says));
-      are-elsewhere = rw passes at (ap (λ (said : ℕ × ℕ × ℕ × ℕ × ℕ × ℕ). said .3) (promise .says));
-      are-unusable = rw passes at (ap (λ (said : ℕ × ℕ × ℕ × ℕ × ℕ × ℕ). said .4) (promise .says));
-      are-null = rw passes at (ap (λ (said : ℕ × ℕ × ℕ × ℕ × ℕ × ℕ). said .5) (promise .says));
-    }
+module _ (shape : Shape) (r : ℕ) (t : List ℕ) (census : Census) (promise : CensusOf shape r t (Counted-as census)) where
+  passes : tableFault shape r t ≡ 0
+  passes = sym (gives-number promise (λ said. said .0) (λ k. refl) refl)
 
--- and leaves no place out
-pub census-leaves-none-out :
-    (shape : Shape) (r : ℕ) (t : List ℕ) (census : Census) → CensusOf shape r t (Census-of census) →
-    census .free + (census .primary + (census .elsewhere + (census .unusable + census .null))) ≡ tableLength (driveOf shape r)
-census-leaves-none-out shape r t census promise =
-    let passes : tableFault shape r t ≡ 0 = sym (gives-number promise (λ said. said .0) (λ k. refl) refl) in
-    let counts : Counts t census = census-counts shape r t census promise in
-    rw (counts .are-free, counts .are-primary, counts .are-elsewhere, counts .are-unusable, counts .are-null) (census-whole shape r t passes)
+  -- a census that is answered counts each code of the table
+  pub census-counts : Counts t census
+  census-counts =
+      record {
+        are-free = rw passes at (ap (λ (said : ℕ × ℕ × ℕ × ℕ × ℕ × ℕ). said .1) (promise .says));
+        are-primary = rw passes at (ap (λ (said : ℕ × ℕ × ℕ × ℕ × ℕ × ℕ). said .2) (promise .says));
+        are-elsewhere = rw passes at (ap (λ (said : ℕ × ℕ × ℕ × ℕ × ℕ × ℕ). said .3) (promise .says));
+        are-unusable = rw passes at (ap (λ (said : ℕ × ℕ × ℕ × ℕ × ℕ × ℕ). said .4) (promise .says));
+        are-null = rw passes at (ap (λ (said : ℕ × ℕ × ℕ × ℕ × ℕ × ℕ). said .5) (promise .says));
+      }
+
+  -- and leaves no place out
+  pub census-leaves-none-out : census .free + (census .primary + (census .elsewhere + (census .unusable + census .null))) ≡ tableLength (driveOf shape r)
+  census-leaves-none-out =
+      let counts = census-counts in
+      rw (counts .are-free, counts .are-primary, counts .are-elsewhere, counts .are-unusable, counts .are-null) (census-whole shape r t passes)
 
 spares-hold : (g : Drive) (list : List ℕ) → badSpares g list ≤ g .spares
 unfolding badSpares
 spares-hold g list = count-le (isBadSpare g list) (g .spares)
 
-module _ (shape : Shape) (r : ℕ) (list room : List ℕ) (long : ℕ) (after : List ℕ) (made : FirstTable shape r list room (Length long) after) where
+-- what a first table shows: it passes, and has the free places that the list leaves
+module _ (shape : Shape) (r : ℕ) (list room : List ℕ) (long : ℕ) (after : List ℕ) (first : FirstTable shape r list room (Length long) after) where
   first-fault : firstTableFault shape r list room ≡ 0
-  first-fault = sym (gives-number (fills-gives made) (λ said. said .0) (λ k. refl) refl)
+  first-fault = sym (gives-number (fills-gives first) (λ said. said .0) (λ k. refl) refl)
 
   first-is : take long after ≡ firstTable (driveOf shape r) list
-  first-is = first-table-hands shape r list room long after made .0 .first
+  first-is = first-table-hands shape r list room long after first .0 .first
 
-  module _ (calls : List Call) where
-    -- after any history of calls, accepted or refused, the table passes and a census is answered
-    pub census-answered : (result : Counted) → CensusOf shape r (afterAll shape r (take long after) calls) result → saidCounted result .0 ≡ 0
-    census-answered result promise =
-        gives-number promise (λ said. said .0) (λ k. refl) refl
-        ∙ history-passes shape r (take long after) calls (rw first-is (first-passes shape r list room first-fault))
+  first-passes : tableFault shape r (take long after) ≡ 0
+  first-passes =
+      rw first-is
+      (table-passes shape r (firstTable (driveOf shape r) list) (orElse-first (driveFault shape r) _ first-fault) (first-obeys shape r list room first-fault))
 
-    -- of the spares, the bad ones, those of the bad homes and those of the accepted calls are free no more
-    pub free-places :
-        (census : Census) → CensusOf shape r (afterAll shape r (take long after) calls) (Census-of census) →
-        census .free
-        ≡ driveOf shape r .spares - badSpares (driveOf shape r) list - length (badHomes (driveOf shape r) list)
-        - accepted shape r (take long after) calls
-    free-places census promise =
-        census-counts shape r (afterAll shape r (take long after) calls) census promise .are-free
-        ∙ rw first-is (census-law shape r list room first-fault calls)
+  first-frees : codeCount (take long after) free + (length (badHomes (driveOf shape r) list) + badSpares (driveOf shape r) list) ≡ driveOf shape r .spares
+  first-frees =
+      rw first-is
+      (omega (arith, first-made shape r list room first-fault .free-left, first-shows shape r list room first-fault .enough, spares-hold (driveOf shape r) list))
 
-    -- and no difference falls below 0: the four numbers make up the spares
-    pub places-make-up-spares :
-        (census : Census) → CensusOf shape r (afterAll shape r (take long after) calls) (Census-of census) →
-        census .free + (accepted shape r (take long after) calls + (length (badHomes (driveOf shape r) list) + badSpares (driveOf shape r) list))
-        ≡ driveOf shape r .spares
-    places-make-up-spares census promise =
-        let free-first : codeCount (firstTable (driveOf shape r) list) free ≡ goodSpares (driveOf shape r) list - length (badHomes (driveOf shape r) list) =
-        first-made shape r list room first-fault .free-left in
-        let frees = history-frees shape r (firstTable (driveOf shape r) list) calls in
-        let is : census .free ≡ codeCount (afterAll shape r (firstTable (driveOf shape r) list) calls) free =
-        rw first-is at (census-counts shape r (afterAll shape r (take long after) calls) census promise .are-free) in
-        rw first-is (omega (arith, is, frees, free-first, first-shows shape r list room first-fault .enough, spares-hold (driveOf shape r) list))
+-- what a replacement shows: an accepted one leaves a table that passes, with one free place less
+module _ (shape : Shape) (r : ℕ) (t : List ℕ) (b : ℕ) (after : List ℕ) where
+  module _ (q : ℕ) (step : Replacement shape r t b (Place q) after) where
+    accepted : replaceFault shape r t b ≡ 0
+    accepted = sym (gives-number (fills-gives step) (λ said. said .0) (λ k. refl) refl)
+
+    pub step-passes : tableFault shape r after ≡ 0
+    step-passes = rw (step .holds) (after-passes shape r t b (orElse-first (tableFault shape r t) _ (replace-block shape r t b accepted)))
+
+    step-frees : codeCount after free + 1 ≡ codeCount t free
+    step-frees = rw (step .holds) (replace-free-less shape r t b accepted)
+
+  -- and a refused one leaves the table as it was
+  step-leaves : (fault : ℕ) → Replacement shape r t b (NotReplaced fault) after → after ≡ t
+  step-leaves fault step =
+      byFault (replaceFault shape r t b)
+      (λ none.
+      let clash : NotReplaced fault ≡ Place (spareFor (driveOf shape r) t b) = rw none at (step .answers) in
+      let z : _≡_ {A = ℕ} 0 1 = cc in
+      absurd (omega arith))
+      (λ some. fills-refused step some)
+
+module _ {shape : Shape} {r : ℕ} {list : List ℕ} where
+  history-passes : {k : ℕ} {last : Shape} {last-r : ℕ} {t : List ℕ} → History shape r list k last last-r t → tableFault last last-r t ≡ 0
+  history-passes (made room after long first) = first-passes shape r list room long after first
+  history-passes (replaced {t} history asked asked-r b q after step) = step-passes asked asked-r t b after q step
+  history-passes (refused {t} history asked asked-r b fault after step) = rw (step-leaves asked asked-r t b after fault step) (history-passes history)
+
+  history-frees :
+      {k : ℕ} {last : Shape} {last-r : ℕ} {t : List ℕ} → History shape r list k last last-r t →
+      codeCount t free + (k + (length (badHomes (driveOf shape r) list) + badSpares (driveOf shape r) list)) ≡ driveOf shape r .spares
+  history-frees (made room after long first) = omega (arith, first-frees shape r list room long after first)
+  history-frees (replaced {t} history asked asked-r b q after step) = omega (arith, history-frees history, step-frees asked asked-r t b after q step)
+  history-frees (refused {t} history asked asked-r b fault after step) = rw (step-leaves asked asked-r t b after fault step) (history-frees history)
+
+pub census-law : CensusLaw
+census-law =
+    record {
+      counts-codes = census-counts;
+      leaves-none-out = census-leaves-none-out;
+      answered = λ shape last r last-r k list t history result promise.
+          gives-number promise (λ said. said .0) (λ k. refl) refl ∙ history-passes history;
+      free-left = λ shape last r last-r k list t history asked asked-r census promise.
+          omega (arith, census-counts asked asked-r t census promise .are-free, history-frees history);
+      make-up-spares = λ shape last r last-r k list t history asked asked-r census promise.
+          rw (census-counts asked asked-r t census promise .are-free) (history-frees history);
+    }

@@ -37,7 +37,7 @@ use Rattle.first_table.specs.Marks.{passing, badSpares, badHomes, marked}
 use Rattle.first_table.specs.Tables.{replacedAll, firstTable, spareFault, firstTableFault as startFault}
 use Rattle.first_table.proofs.Exact.{spares-judge}
 use Rattle.spares.specs.Spares as Spares
-use Rattle.spares.specs.History.{tableAfter}
+use Rattle.spares.proofs.Accepted.{tableAfter}
 use Rattle.image.specs.Code.{wordsOf, rotated, codeAfter, codeFrom, dataCode, carried}
 use Rattle.image.specs.Image.{storedIn, imageOf, writeFault}
 use Rattle.image.proofs.Exact.{length-passes}

@@ -6,6 +6,7 @@ pub mod Jobs
 pub mod Demand2Skipped
 pub mod Demand2Revectored
 pub mod Demand2Census
+pub mod ReadsInPlace
 pub mod Demand3
 pub mod ThereAndBack
 pub mod Examples

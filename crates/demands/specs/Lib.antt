@@ -6,3 +6,5 @@ pub mod Inputs
 pub mod Rows
 pub mod Incident
 pub mod Demand2Revectored
+pub mod Histories
+pub mod Reads

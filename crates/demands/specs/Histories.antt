@@ -1,0 +1,54 @@
+-- Document 01, "Descriptors and spares": what a census says of any table, and of one after a history of calls.
+use Prim.Native.Nat.{ℕ, suc, _+_, _-_}
+use mathlib.Core.Path.{_≡_}
+use mathlib.Core.List.{List}
+use lib.ListN.{length, take}
+use Rattle.paper.specs.declared.Written.the-variants.{Length}
+use Rattle.shape.specs.declared.Shape.{Shape}
+use Rattle.layout.specs.Layouts.{driveOf}
+use Rattle.table.specs.Places.{tableLength}
+use Rattle.table.specs.declared.Census.{Census}
+use Rattle.first_table.specs.Marks.{badSpares, badHomes}
+use Rattle.first_table.specs.Promises.{FirstTable}
+use Rattle.spares.specs.Promises.{Replacement, CensusOf, saidCounted}
+use Rattle.spares.specs.declared.Replaced.the-variants.{Place, Refused as NotReplaced}
+use Rattle.spares.specs.declared.Counted.{Counted}
+use Rattle.spares.specs.declared.Counted.the-variants.{Counts as Counted-as}
+use Rattle.demands.specs.Relations.{Counts}
+
+-- a history of calls, each with a shape and r of its own: a first table of this shape, r and list, then k accepted replacements and any refused ones; it ends in a table, last written with some shape and r. A call that only reads leaves the table as it is and is no step
+pub data History (shape : Shape) (r : ℕ) (list : List ℕ) : ℕ → Shape → ℕ → List ℕ → Type 0 where
+  made :
+      (room after : List ℕ) (long : ℕ) → FirstTable shape r list room (Length long) after →
+      History shape r list 0 shape r (take long after)
+  replaced :
+      {k last-r : ℕ} {last : Shape} {t : List ℕ} → History shape r list k last last-r t →
+      (asked : Shape) (asked-r b q : ℕ) (after : List ℕ) → Replacement asked asked-r t b (Place q) after →
+      History shape r list (suc k) asked asked-r after
+  refused :
+      {k last-r : ℕ} {last : Shape} {t : List ℕ} → History shape r list k last last-r t →
+      (asked : Shape) (asked-r b fault : ℕ) (after : List ℕ) → Replacement asked asked-r t b (NotReplaced fault) after →
+      History shape r list k last last-r after
+
+-- the census
+pub record CensusLaw : Type 0 where
+  -- a census that is answered counts each code of the table
+  pub counts-codes : (shape : Shape) (r : ℕ) (t : List ℕ) (census : Census) → CensusOf shape r t (Counted-as census) → Counts t census
+  -- and leaves no place out
+  pub leaves-none-out :
+      (shape : Shape) (r : ℕ) (t : List ℕ) (census : Census) → CensusOf shape r t (Counted-as census) →
+      census .free + (census .primary + (census .elsewhere + (census .unusable + census .null))) ≡ tableLength (driveOf shape r)
+  -- after any calls a census is answered, with the shape and r that the table was last written with
+  pub answered :
+      (shape last : Shape) (r last-r k : ℕ) (list t : List ℕ) → History shape r list k last last-r t →
+      (result : Counted) → CensusOf last last-r t result → saidCounted result .0 ≡ 0
+  -- and whatever shape and r a census is answered for: free = spares − bad spares − bad home blocks − accepted replacements
+  pub free-left :
+      (shape last : Shape) (r last-r k : ℕ) (list t : List ℕ) → History shape r list k last last-r t →
+      (asked : Shape) (asked-r : ℕ) (census : Census) → CensusOf asked asked-r t (Counted-as census) →
+      census .free ≡ driveOf shape r .spares - badSpares (driveOf shape r) list - length (badHomes (driveOf shape r) list) - k
+  -- no difference falls below 0: the four numbers make up the spares
+  pub make-up-spares :
+      (shape last : Shape) (r last-r k : ℕ) (list t : List ℕ) → History shape r list k last last-r t →
+      (asked : Shape) (asked-r : ℕ) (census : Census) → CensusOf asked asked-r t (Counted-as census) →
+      census .free + (k + (length (badHomes (driveOf shape r) list) + badSpares (driveOf shape r) list)) ≡ driveOf shape r .spares
