@@ -3,3 +3,4 @@ pub mod Numbered
 pub mod Inputs
 pub mod Rows
 pub mod Incident
+pub mod Demand3
