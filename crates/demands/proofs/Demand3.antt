@@ -2,16 +2,15 @@
 -- Assumes nothing.
 use Prim.Native.Nat.{ℕ, zero, suc, _<_, _≤_}
 use mathlib.Core.Path.{_≡_, refl, sym, _∙_, ap}
-use mathlib.Core.Bool.{true, false, not, _&&_, _||_, true≢false}
+use mathlib.Core.Bool.{true, false, not, _&&_, true≢false}
 use mathlib.Core.Logic.{_⊎_, inl, inr}
 use mathlib.Core.List.{List}
 use native.Mathlib.Omega.{arith}
 use lib.ListN.{length, take}
 use borrow.Author.Tests.{lt-leb}
-use Rattle.paper.specs.Limits.{unitsMost, optionMost, Within}
+use Rattle.paper.specs.Limits.{unitsMost, optionMost}
 use Rattle.paper.specs.Refusals.{noRoom}
 use Rattle.paper.specs.Conditions.{NoRoom}
-use Rattle.paper.specs.declared.Placed.{Placed}
 use Rattle.paper.specs.declared.Placed.the-variants.{At}
 use Rattle.paper.proofs.Cases.{byBool}
 use Rattle.paper.proofs.Chain.{answer-accepted, answer-refused}
@@ -27,7 +26,7 @@ use Rattle.skip.specs.Translation.{blocks, sectorOfFault}
 use Rattle.skip.specs.Promises.{SectorOf}
 use Rattle.skip.proofs.Lying.{place-lies, named-place}
 use Rattle.skip.proofs.Walks.{goods-are-blocks}
-use Rattle.skip.proofs.Shown.{block-proper, block-below}
+use Rattle.skip.proofs.Shown.{block-below}
 use Rattle.skip.proofs.Nights.{rising-sectors, inside-sectors, in-sectors}
 use Rattle.format.specs.Options.{inBlocks, meaning}
 use Rattle.format.specs.Spaces.{listOf, newGrown, newList, newSpace, formatFault}
@@ -95,78 +94,82 @@ scans : (space option : ℕ) → ScanNight space option → Scans space option
 scans space option (inl pair) = rw (pair .0, pair .1) option-1-in-space-3
 scans space option (inr pair) = rw (pair .0, pair .1) option-3-in-space-2
 
-module _ (n : ℕ) (p g : List ℕ) (space option : ℕ) (d g' new : List ℕ) (next : ℕ) (night : Night n p g space option d g' new next) where
+module _ {n : ℕ} {p g : List ℕ} {space option : ℕ} {d g' new : List ℕ} {next : ℕ} (night : Night n p g space option d g' new next) where
   abbrev used : List ℕ
   used = listOf space p g
 
   scanned : Scans space option
   scanned = scans space option (night .pair)
 
-  pub night-fits : Fitting n p g space option d
-  night-fits = format-shows n p g space option d (night .grown) (night .list) (done-passes n p g space option d (night .grown) (night .list) (night .accepted))
+  fits-in : Fitting n p g space option d
+  fits-in = format-shows n p g space option d (night .grown) (night .list) (done-passes n p g space option d (night .grown) (night .list) (night .accepted))
 
-  night-hands :
+  hands :
       Handed (newGrown n p g space option d) (night .grown) (night .grownLong) (night .grownAfter)
       × (Handed (newList n p g space option d) (night .list) (night .listLong) (night .listAfter) × (next ≡ newSpace space option))
-  night-hands =
+  hands =
       format-hands n p g space option d (night .grown) (night .list) (night .grownLong) (night .listLong) next (night .grownAfter) (night .listAfter) (night .accepted)
 
-  night-grown : g' ≡ newGrown n p g space option d
-  night-grown = night .answers-grown ∙ night-hands .0 .first
+  grown-made : g' ≡ newGrown n p g space option d
+  grown-made = night .answers-grown ∙ hands .0 .first
 
-  night-list : new ≡ newList n p g space option d
-  night-list = night .answers-list ∙ night-hands .1 .0 .first
+  list-made : new ≡ newList n p g space option d
+  list-made = night .answers-list ∙ hands .1 .0 .first
 
-  night-space : next ≡ space
-  night-space = night-hands .1 .1 ∙ scanned .same-space
+  space-stays : next ≡ space
+  space-stays = hands .1 .1 ∙ scanned .same-space
+
+  tomorrow : listOf next p g' ≡ new
+  tomorrow = rw (grown-made, list-made, hands .1 .1)
 
   few : n ≤ unitsMost
-  few = night-fits .supplied .size .1
+  few = fits-in .supplied .size .1
 
-  old-proper : Proper n used
-  old-proper = A-proper n p g space option d scanned night-fits
+  used-proper : Proper n used
+  used-proper = A-proper n p g space option d scanned fits-in
 
   named-proper : Proper (blocks n used) d
-  named-proper = d-proper n p g space option d scanned night-fits
+  named-proper = d-proper n p g space option d scanned fits-in
 
   made-proper : Proper n new
-  made-proper = rw night-list (new-proper n p g space option d scanned night-fits)
+  made-proper = rw list-made (new-proper n p g space option d scanned fits-in)
 
   made-blocks : blocks n new ≡ blocks (blocks n used) d
-  made-blocks = ap (blocks n) night-list ∙ new-blocks n p g space option d scanned night-fits
+  made-blocks = ap (blocks n) list-made ∙ new-blocks n p g space option d scanned fits-in
 
   -- each new block lies where you arrive by skipping the named blocks in the old numbering and following the old map
   pub new-block-place : (b : ℕ) → Arrives n used d new b
-  new-block-place b = ap (λ (l : List ℕ). place (isIn l) n b) night-list ∙ scan-places n p g space option d scanned night-fits b
+  new-block-place b = ap (λ (l : List ℕ). place (isIn l) n b) list-made ∙ scan-places n p g space option d scanned fits-in b
 
-  one-night-holds : OneNight n p g space used d g' new next
-  one-night-holds =
+  one-night : OneNight n p g space used d g' new next
+  one-night =
       record {
         arrives = λ b s way result promise.
-            let passes : sectorOfFault (blocks n used) d b ≡ 0 = answered-passes (blocks n used) d b (way .skips) in
             gives-one promise
             (answers n new b few made-proper
-            (rw made-blocks (block-below (blocks n used) d b passes))
+            (rw made-blocks (block-below (blocks n used) d b (answered-passes (blocks n used) d b (way .skips))))
             (new-block-place b ∙ (ap (place (isIn used) n) (answered-place (blocks n used) d b (way .skips)) ∙ answered-place n used (way .old) (way .follows))));
         came = λ b s promise.
             let below : b < blocks (blocks n used) d = rw made-blocks at (block-below n new b (answered-passes n new b promise)) in
-            let lies : Lies (isIn d) (blocks n used) b (place (isIn d) (blocks n used) b) = block-lies (blocks n used) d b named-proper below in
             record {
               old = place (isIn d) (blocks n used) b;
               skips = answers (blocks n used) d b (omega (arith, few)) named-proper below refl;
-              follows = answers n used (place (isIn d) (blocks n used) b) few old-proper (lies .inside) (sym (new-block-place b) ∙ answered-place n new b promise);
+              follows =
+                  answers n used (place (isIn d) (blocks n used) b) few used-proper
+                  (block-lies (blocks n used) d b named-proper below .inside)
+                  (sym (new-block-place b) ∙ answered-place n new b promise);
             };
         grown-gains =
-            rw (night-grown ∙ grown-is n p g space option d scanned)
-            (gains n used few old-proper d (named-proper .rising) (named-proper .inside) g (night-fits .supplied .proper-g .rising));
+            rw (grown-made ∙ grown-is n p g space option d scanned)
+            (gains n used few used-proper d (named-proper .rising) (named-proper .inside) g (fits-in .supplied .proper-g .rising));
         list-gains =
-            rw (night-list ∙ list-is n p g space option d scanned night-fits)
-            (gains n used few old-proper d (named-proper .rising) (named-proper .inside) used (old-proper .rising));
-        same-space = night-space;
-        in-use = rw (night-grown, night-list, night-hands .1 .1);
+            rw (list-made ∙ list-is n p g space option d scanned fits-in)
+            (gains n used few used-proper d (named-proper .rising) (named-proper .inside) used (used-proper .rising));
+        same-space = space-stays;
+        in-use = tomorrow;
       }
 
--- in a space one option scans
+-- in one space one option scans
 one-option : (space option option' : ℕ) → ScanNight space option → ScanNight space option' → option' ≡ option
 one-option space option option' (inl first) (inl second) = second .1 ∙ sym (first .1)
 one-option space option option' (inl first) (inr second) = absurd (omega (arith, first .0, second .0))
@@ -175,108 +178,81 @@ one-option space option option' (inr first) (inr second) = second .1 ∙ sym (fi
 
 -- the next night: the same maker's list, the grown list and the space that this night answered
 module _
-    (n : ℕ)
-    (p g : List ℕ)
-    (space option : ℕ)
-    (d g' new : List ℕ)
-    (next : ℕ)
-    (night : Night n p g space option d g' new next)
-    (option' : ℕ)
-    (e g'' last : List ℕ)
-    (end : ℕ)
-    (night' : Night n p g' next option' e g'' last end)
+    {n : ℕ}
+    {p g : List ℕ}
+    {space option : ℕ}
+    {d g' new : List ℕ}
+    {next : ℕ}
+    (first : Night n p g space option d g' new next)
+    {option' : ℕ}
+    {e g'' last : List ℕ}
+    {end : ℕ}
+    (second : Night n p g' next option' e g'' last end)
   where
     -- the joined list, named in the numbers that the first list is written in
     abbrev both : List ℕ
     both = joined (blocks n (listOf space p g)) d e
 
-    scanned-first : Scans space option
-    scanned-first = scans space option (night .pair)
+    option-stays : option' ≡ option
+    option-stays = one-option space option option' (first .pair) (rw (space-stays first) at (second .pair))
 
-    first-fits : Fitting n p g space option d
-    first-fits = night-fits n p g space option d g' new next night
-
-    pub same-option : option' ≡ option
-    same-option = one-option space option option' (night .pair) (rw (night-space n p g space option d g' new next night) at (night' .pair))
-
+    -- the second night, over what Format makes of the first
     second-fits : Fitting n p (newGrown n p g space option d) space option e
-    second-fits =
-        rw (night-grown n p g space option d g' new next night, night-space n p g space option d g' new next night, same-option)
-        at (night-fits n p g' next option' e g'' last end night')
+    second-fits = rw (grown-made first, space-stays first, option-stays) at (fits-in second)
 
     both-fits : Fitting n p g space option both
-    both-fits = joined-fits n p g space option d e scanned-first first-fits second-fits
+    both-fits = joined-fits n p g space option d e (scanned first) (fits-in first) second-fits
 
     both-grown : g'' ≡ newGrown n p g space option both
     both-grown =
-        night-grown n p g' next option' e g'' last end night'
-        ∙ (rw (night-grown n p g space option d g' new next night, night-space n p g space option d g' new next night, same-option)
-        (nights-grown n p g space option d e scanned-first first-fits second-fits))
+        grown-made second
+        ∙ rw (grown-made first, space-stays first, option-stays) (nights-grown n p g space option d e (scanned first) (fits-in first) second-fits)
 
     both-list : last ≡ newList n p g space option both
     both-list =
-        night-list n p g' next option' e g'' last end night'
-        ∙ (rw (night-grown n p g space option d g' new next night, night-space n p g space option d g' new next night, same-option)
-        (nights-list n p g space option d e scanned-first first-fits second-fits))
+        list-made second
+        ∙ rw (grown-made first, space-stays first, option-stays) (nights-list n p g space option d e (scanned first) (fits-in first) second-fits)
 
     both-space : end ≡ newSpace space option
-    both-space =
-        night-space n p g' next option' e g'' last end night'
-        ∙ (night-space n p g space option d g' new next night ∙ sym (scanned-first .same-space))
+    both-space = space-stays second ∙ (space-stays first ∙ sym (scanned first .same-space))
 
     -- the second list, in the blocks that the first leaves
     second-inside : Inside (blocks (blocks n (listOf space p g)) d) e
-    second-inside =
-        rw (one-night-holds n p g space option d g' new next night .in-use ∙ refl, made-blocks n p g space option d g' new next night)
-        at (named-proper n p g' next option' e g'' last end night' .inside)
+    second-inside = rw (tomorrow first, made-blocks first) at (named-proper second .inside)
 
     module _
         (grown list : List ℕ)
         (result : Formatted)
         (grownAfter listAfter : List ℕ)
-        (joined-night : Formats n p g space option both grown list result grownAfter listAfter)
+        (promise : Formats n p g space option both grown list result grownAfter listAfter)
       where
-        room-passes : length g'' ≤ length grown → length last ≤ length list → formatFault n p g space option both grown list ≡ 0
-        room-passes room-grown room-list =
-            format-passes n p g space option both grown list both-fits (rw both-grown at room-grown) (rw both-list at room-list)
+        module _ (room-grown : length g'' ≤ length grown) (room-list : length last ≤ length list) where
+          both-done : result ≡ Done (length g'') (length last) end
+          both-done =
+              promise .answers
+              ∙ (answer-accepted _ Refused _ (format-passes n p g space option both grown list both-fits (rw both-grown at room-grown) (rw both-list at room-list))
+              ∙ sym (rw (both-grown, both-list, both-space)))
 
-        room-answer : length g'' ≤ length grown → length last ≤ length list → result ≡ Done (length g'') (length last) end
-        room-answer room-grown room-list =
-            joined-night .answers
-            ∙ (answer-accepted _ Refused _ (room-passes room-grown room-list) ∙ sym (rw (both-grown, both-list, both-space)))
+          both-hands : (take (length g'') grownAfter ≡ g'') × (take (length last) listAfter ≡ last)
+          both-hands =
+              let handed = format-hands n p g space option both grown list (length g'') (length last) end grownAfter listAfter (rw both-done at promise) in
+              (handed .0 .first ∙ sym both-grown, handed .1 .0 .first ∙ sym both-list)
 
-        room-lists :
-            length g'' ≤ length grown → length last ≤ length list → (take (length g'') grownAfter ≡ g'') × (take (length last) listAfter ≡ last)
-        room-lists room-grown room-list =
-            let hands =
-            format-hands n p g space option both grown list (length g'') (length last) end grownAfter listAfter
-            (rw (room-answer room-grown room-list) at joined-night) in
-            (hands .0 .first ∙ sym both-grown, hands .1 .0 .first ∙ sym both-list)
+        both-refused : NoRoom (length g'') grown ⊎ NoRoom (length last) list → result ≡ Refused noRoom
+        both-refused lacks =
+            let fault : formatFault n p g space option both grown list ≡ noRoom = format-lacks-room n p g space option both grown list both-fits (rw (both-grown, both-list) at lacks) in
+            promise .answers ∙ (answer-refused _ Refused _ (λ none. absurd (omega (arith, fault, none))) ∙ ap Refused fault)
 
-        room-lacks : NoRoom (length g'') grown ⊎ NoRoom (length last) list → result ≡ Refused noRoom
-        room-lacks lacks =
-            let fault : formatFault n p g space option both grown list ≡ noRoom =
-            format-lacks-room n p g space option both grown list both-fits (rw (both-grown, both-list) at lacks) in
-            joined-night .answers
-            ∙ (answer-refused _ Refused _ (λ none. absurd (omega (arith, fault, none))) ∙ ap Refused fault)
-
-    two-nights-hold : TwoNights n p g space option (listOf space p g) d option' e both g'' last end
-    two-nights-hold =
+    two-nights : TwoNights n p g space option (listOf space p g) d option' e both g'' last end
+    two-nights =
         record {
-          same-option = same-option;
-          joins =
-              gains (blocks n (listOf space p g)) d
-              (omega (arith, few n p g space option d g' new next night))
-              (named-proper n p g space option d g' new next night)
-              e
-              (named-proper n p g' next option' e g'' last end night' .rising)
-              second-inside d
-              (named-proper n p g space option d g' new next night .rising);
+          same-option = option-stays;
+          joins = gains (blocks n (listOf space p g)) d (omega (arith, few first)) (named-proper first) e (named-proper second .rising) second-inside d (named-proper first .rising);
           with-room = λ grown list result grownAfter listAfter promise room-grown room-list. (
-              room-answer grown list result grownAfter listAfter promise room-grown room-list,
-              room-lists grown list result grownAfter listAfter promise room-grown room-list,
+              both-done grown list result grownAfter listAfter promise room-grown room-list,
+              both-hands grown list result grownAfter listAfter promise room-grown room-list,
           );
-          without-room = room-lacks;
+          without-room = both-refused;
         }
 
 -- no other option takes blocks and builds the new map over the same kinds of list
@@ -294,8 +270,8 @@ only-these-nights space (suc (suc (suc (suc (suc (suc (suc (suc option)))))))) w
 pub demand3 : Demand3
 demand3 =
     record {
-      one-night = one-night-holds;
-      two-nights = two-nights-hold;
+      one-night = λ n p g space option d g' new next night. one-night night;
+      two-nights = λ n p g space option d g' new next first option' e g'' last end second. two-nights first second;
       only-these-nights = λ n p g space option d grown list grownLong listLong grownAfter listAfter promise blocks-named.
           let fitting : Fitting n p g space option d = format-shows n p g space option d grown list (done-passes n p g space option d grown list promise) in
           only-these-nights space option (fitting .supplied .taken .option-within) blocks-named
