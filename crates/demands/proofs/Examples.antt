@@ -1,4 +1,4 @@
--- The paper's "Numbers to try": every row of the table holds. Where a block lies is told by the walk, which is the definition; the rest is computed.
+-- The paper's "Numbers to try" and ours beside them: every row of the table holds. Where a block lies is told by the walk, which is the definition; the rest is computed.
 -- Assumes nothing.
 use Prim.Native.Nat.{ℕ, suc, _+_, _≤_}
 use mathlib.Core.Path.{_≡_, refl, _∙_}
@@ -27,7 +27,7 @@ use Rattle.format.specs.declared.Formatted.the-variants.{Done}
 use Rattle.format.specs.Spaces.{newGrown, newList, newSpace, formatFault}
 use Rattle.format.proofs.Answering.{format-accepts}
 use Rattle.format.proofs.Held.{grown-holds, list-holds}
-use Rattle.format.proofs.Named.{scan-grown, scan-list, scan-accepted}
+use Rattle.format.proofs.Named.{scan-grown, scan-list, scan-accepted, next-grown, next-list, next-accepted, both-grown, both-list, both-accepted}
 use Rattle.layout.specs.Layouts.{driveOf, driveFault}
 use Rattle.table.specs.Places.{tableLength}
 use Rattle.table.specs.Lookup.{placeOf}
@@ -125,7 +125,7 @@ code-carried forced bytes {code} long stored number room fits =
     allows-room (λ k. refl) (rw none) (λ held. storedIn dataSize held ≡ code)
     (rw none (stored number room))
 
--- every row of the paper's table
+-- every row of the table
 pub numbers-to-try : AllHold paperRows
 unfolding faultBelow passes isIn countBelow allBelow firstBelow firstOr rising placeOf outward passing badSpares badHomes marked replacedAll bytes16 bytes32 bytesOf word16At wordsOf rotated codeAfter codeFrom dataCode carried storedIn imageOf
 numbers-to-try =
@@ -138,6 +138,10 @@ numbers-to-try =
     also block-walked 6 (0 ∷ 1 ∷ 2 ∷ []) 0 refl refl
     also plan-formatted 20 (3 ∷ 7 ∷ []) [] 3 1 (3 ∷ 16 ∷ []) scan-accepted scan-grown scan-list
     also block-walked 20 (3 ∷ 4 ∷ 7 ∷ 18 ∷ []) 15 refl refl
+    also plan-formatted 20 (3 ∷ 7 ∷ []) (4 ∷ 18 ∷ []) 3 1 (3 ∷ 15 ∷ []) next-accepted next-grown next-list
+    also block-walked 18 (3 ∷ 16 ∷ []) 3 refl refl
+    also block-walked 18 (3 ∷ 16 ∷ []) 15 refl refl
+    also plan-formatted 20 (3 ∷ 7 ∷ []) [] 3 1 (3 ∷ 4 ∷ 16 ∷ 17 ∷ []) both-accepted both-grown both-list
     also table-built small 2 [] refl refl refl refl refl
     also spare-taken small 2 noneReplaced 7 refl refl refl
     also spare-taken small 2 afterSeven 8 refl refl refl

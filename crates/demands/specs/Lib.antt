@@ -8,3 +8,4 @@ pub mod Incident
 pub mod Demand2Revectored
 pub mod Histories
 pub mod Reads
+pub mod Demand3

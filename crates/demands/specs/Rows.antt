@@ -1,4 +1,4 @@
--- Document 01, "Numbers to try": those that are marked P, as the paperRows of one table, and what it is for a row to hold.
+-- Document 01, "Numbers to try": those that are marked P, and some of ours beside them, as the rows of one table, and what it is for a row to hold.
 use Prim.Native.Nat.{ℕ, _+_, _≤_}
 use mathlib.Core.Path.{_≡_}
 use mathlib.Core.Bool.{Bool, true, false}
@@ -88,7 +88,7 @@ firstOne = 0 ∷ 1 ∷ replicate 510 0
 abbrev pub lastOne : List ℕ
 lastOne = replicate 511 0 ++ (1 ∷ [])
 
--- the table, in the paper's order
+-- the table, in the paper's order; what the paper does not mark P is said to be ours
 abbrev pub paperRows : List Row
 paperRows =
     -- the chart's blocks 3, 57, 58 and 843
@@ -106,7 +106,14 @@ paperRows =
     ∷ format 20 (3 ∷ 7 ∷ []) [] 3 1 (3 ∷ 16 ∷ []) (4 ∷ 18 ∷ []) (3 ∷ 4 ∷ 7 ∷ 18 ∷ []) 3
     -- a block of the new map
     ∷ skip-sector 20 (3 ∷ 4 ∷ 7 ∷ 18 ∷ []) 15 (0, 19)
-    -- a drive with no bad sector has every spare free
+    -- ours: the next night's scan names blocks 3 and 15 of the new map: G' is 4, 5, 18, 19
+    ∷ format 20 (3 ∷ 7 ∷ []) (4 ∷ 18 ∷ []) 3 1 (3 ∷ 15 ∷ []) (4 ∷ 5 ∷ 18 ∷ 19 ∷ []) (3 ∷ 4 ∷ 5 ∷ 7 ∷ 18 ∷ 19 ∷ []) 3
+    -- ours: in the first night's numbers, of which there are 18, these are blocks 4 and 17
+    ∷ skip-sector 18 (3 ∷ 16 ∷ []) 3 (0, 4)
+    ∷ skip-sector 18 (3 ∷ 16 ∷ []) 15 (0, 17)
+    -- ours: one night with the joined list answers what the two have answered
+    ∷ format 20 (3 ∷ 7 ∷ []) [] 3 1 (3 ∷ 4 ∷ 16 ∷ 17 ∷ []) (4 ∷ 5 ∷ 18 ∷ 19 ∷ []) (3 ∷ 4 ∷ 5 ∷ 7 ∷ 18 ∷ 19 ∷ []) 3
+    -- ours: a drive with no bad sector has every spare free
     ∷ spare-first small 2 [] noneReplaced
     -- block 7 goes to place 4, then 8 to 5, then 6 to 3
     ∷ spare-replace small 2 noneReplaced 7 4 afterSeven
@@ -114,11 +121,11 @@ paperRows =
     ∷ spare-replace small 2 afterEight 6 3 afterSix
     -- block 6 is then shifted by −1
     ∷ spare-shift small 2 afterSix 6 (0, negsuc 0)
-    -- it lies on sector 9, the second spare of track 1, and its home, sector 10, has no block
+    -- ours: it lies on sector 9, the second spare of track 1, and its home, sector 10, has no block
     ∷ spare-sector small 2 afterSix 6 (0, 9)
     ∷ spare-block small 2 afterSix 9 (0, 1, 6)
     ∷ spare-block small 2 afterSix 10 (0, 0, 0)
-    -- five spares are free, one holds a block whose primary it is, two hold other blocks, and 120 places are null
+    -- ours: five spares are free, one holds a block whose primary it is, two hold other blocks, and 120 places are null
     ∷ spare-census small 2 afterSix (0, 5, 1, 2, 0, 120)
     -- the code of good data
     ∷ image-write false zeros 0x5a3c

@@ -2,15 +2,18 @@
 -- Assumes nothing.
 use Prim.Native.Nat.{ℕ, zero, suc, _≤_}
 use mathlib.Core.Path.{_≡_, refl, sym, _∙_, ap}
+use mathlib.Core.Logic.{_⊎_, inl, inr}
 use mathlib.Core.List.{List}
 use native.Mathlib.Omega.{arith}
 use lib.Dec.{ltb}
 use lib.ListN.{length}
-use borrow.Author.Tests.{le-ltb}
+use borrow.Author.Tests.{le-ltb, lt-ltb}
 use Rattle.paper.specs.Checks.{refuse, _orElse_}
 use Rattle.paper.specs.Refusals.{tooLong, noRoom}
 use Rattle.paper.specs.Limits.{listMost, sizeFault}
 use Rattle.paper.specs.Promise.{written}
+use Rattle.paper.specs.Conditions.{NoRoom}
+use Rattle.paper.proofs.Cases.{byLt}
 use Rattle.paper.proofs.Chain.{orElse-some, orElse-none, orElse-first, orElse-next}
 use Rattle.paper.proofs.Rows.{not-over}
 use Rattle.paper.proofs.Kept.{fills-refuses, fills-accepts}
@@ -81,6 +84,28 @@ module _ (n : ℕ) (p g : List ℕ) (space option : ℕ) (d grown list : List �
         le-ltb (length grown) (length (newGrown n p g space option d)) room,
         le-ltb (length list) (length (newList n p g space option d)) place,
       )
+
+  -- and where a room is too short, it gives 7
+  pub format-lacks-room :
+      Fitting n p g space option d → NoRoom (length (newGrown n p g space option d)) grown ⊎ NoRoom (length (newList n p g space option d)) list →
+      formatFault n p g space option d grown list ≡ noRoom
+  format-lacks-room fitting lacks =
+      chain
+      ∙ rw (
+        supplied-passes n p g space option d (fitting .supplied),
+        le-ltb listMost (length (newGrown n p g space option d)) (fitting .grown-short),
+        le-ltb listMost (length (newList n p g space option d)) (fitting .list-short),
+      ) (rooms lacks)
+    where
+      rooms :
+          NoRoom (length (newGrown n p g space option d)) grown ⊎ NoRoom (length (newList n p g space option d)) list →
+          (refuse (ltb (length grown) (length (newGrown n p g space option d))) noRoom
+          orElse refuse (ltb (length list) (length (newList n p g space option d))) noRoom) ≡ noRoom
+      rooms (inl short) = rw (lt-ltb (length grown) (length (newGrown n p g space option d)) short)
+      rooms (inr short) =
+          byLt (length grown) (length (newGrown n p g space option d))
+          (λ less. rw (lt-ltb (length grown) (length (newGrown n p g space option d)) less))
+          (λ fits. rw (le-ltb (length grown) (length (newGrown n p g space option d)) fits, lt-ltb (length list) (length (newList n p g space option d)) short))
 
   -- a call whose chain passes
   pub format-accepts :

@@ -6,12 +6,12 @@ use mathlib.Core.List.{List}
 use native.Mathlib.Omega.{arith}
 use lib.ListN.{length}
 use borrow.Author.Tests.{eq-eqb}
-use Rattle.lists.specs.Proper.{Rising, Inside}
+use Rattle.lists.specs.Proper.{Rising, Inside, Proper}
 use Rattle.lists.specs.Union.{isIn, union}
 use Rattle.lists.proofs.Unions.{union-assoc, union-holds}
 use Rattle.skip.specs.Skipping.{place, sectorsOfBlocks}
 use Rattle.skip.specs.Translation.{blocks}
-use Rattle.skip.proofs.Nights.{sectors-length, rising-sectors, night-place, joined-rising, joined-inside, joined-sectors}
+use Rattle.skip.proofs.Nights.{sectors-length, rising-sectors, rising-night, inside-night, night-place, night-blocks, joined-rising, joined-inside, joined-sectors}
 use Rattle.format.specs.Nights.{joined}
 use Rattle.format.specs.Options.{inBlocks, add, meaning, grownBy}
 use Rattle.format.specs.Spaces.{listOf, sizeOfD, newGrown, newList, newSpace}
@@ -59,6 +59,12 @@ module _ (n : ℕ) (p g : List ℕ) (space option : ℕ) (d : List ℕ) where
     pub d-inside : Inside (blocks n A) d
     d-inside = rw d-size at (supplied .proper-d .inside)
 
+    pub A-proper : Proper n A
+    A-proper = record { short = supplied .used; rising = A-rising; inside = A-inside }
+
+    pub d-proper : Proper (blocks n A) d
+    d-proper = record { short = supplied .proper-d .short; rising = d-rising; inside = d-inside }
+
     -- a list that joins G joins the list of the space
     pub joins : (m : List ℕ) → Rising m → listOf space p (union g m) ≡ union (listOf space p g) m
     joins m rising-m =
@@ -73,6 +79,18 @@ module _ (n : ℕ) (p g : List ℕ) (space option : ℕ) (d : List ℕ) where
     list-is =
         ap (λ (s : ℕ). listOf s p (newGrown n p g space option d)) (scans .same-space)
         ∙ (ap (listOf space p) (grown-is n p g space option d scans) ∙ joins (sectorsOfBlocks n A d) (rising-sectors n A A-rising A-inside d d-rising d-inside))
+
+    -- it is a proper list, and leaves as many blocks as stay
+    pub new-proper : Proper n (newList n p g space option d)
+    new-proper =
+        record {
+          short = fitting .list-short;
+          rising = rw list-is (rising-night n A A-rising A-inside d d-rising d-inside);
+          inside = rw list-is (inside-night n A A-rising A-inside d d-rising d-inside);
+        }
+
+    pub new-blocks : blocks n (newList n p g space option d) ≡ blocks (blocks n A) d
+    new-blocks = ap (blocks n) list-is ∙ night-blocks n A A-rising A-inside d d-rising d-inside
 
     -- each new block lies where you arrive by skipping the named blocks in the old numbering and following the old map
     pub scan-places : (b : ℕ) → place (isIn (newList n p g space option d)) n b ≡ place (isIn A) n (place (isIn d) (blocks n A) b)
