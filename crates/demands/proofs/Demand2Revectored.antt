@@ -48,7 +48,7 @@ use Rattle.table.proofs.Exact.{Ready, table-ready, table-exactly, block-ready, 
 use Rattle.spares.proofs.Accepted.{replace-block, after-passes, replace-alters, no-spare-shows, no-spare-told}
 use Rattle.spares.proofs.Shifts.{shift-at-home, shift-leads, shift-answered}
 use Rattle.demands.proofs.ByKind.{naming-says, lying-naming}
-use Rattle.demands.specs.Demand2Revectored.{SectorOfAddress, BlockAtAddress, LiesThere, AltersOne, ShiftLeads, Demand2Revectored}
+use Rattle.demands.specs.Demand2Revectored.{SectorOfAddress, BlockAtAddress, LiesThere, AltersOne, ShiftLeads}
 
 -- a vacant sector is one of the drive's
 vacant-inside : {drive : Drive} {t : List ℕ} {s : ℕ} → Laid drive → Vacant drive t s → s < drive .tracks * sectorsPerTrack drive
@@ -322,26 +322,3 @@ module _ (shape : Shape) (r : ℕ) (t : List ℕ) where
       stays home replaced =
           let lies = answered-is b (homeSector (driveOf shape r) b) home in
           home-no-spare laid b (placeOf t b) (lies ∙ rw (tells-replaced t b .told replaced))
-
-pub demand2-revectored : Demand2Revectored
-demand2-revectored =
-    record {
-      home-or-spare = answered-lies;
-      one-descriptor = λ shape r t b p q judged. one-descriptor shape r t judged b p q;
-      every-block-answered = λ shape r t b judged. every-block-answered shape r t judged b;
-      never-share = never-share;
-      never-on-unusable = never-on-unusable;
-      sector-names-block = sector-names-block;
-      named-lies = λ shape r t b s. named-lies shape r t s b;
-      none-is-vacant = none-is-vacant;
-      vacant-has-none = λ shape r t s judged. vacant-has-none shape r t judged s;
-      address-of-sector = address-of-sector;
-      sector-of-address = sector-of-address;
-      block-at-sector = block-at-sector;
-      address-names-block = address-names-block;
-      named-has-address = named-has-address;
-      replacement-alters-one = replacement-alters-one;
-      no-spare-none-free = no-spare-none-free;
-      none-free-no-spare = none-free-no-spare;
-      shift-leads-there = shift-leads-there;
-    }

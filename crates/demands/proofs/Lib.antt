@@ -1,3 +1,4 @@
+pub mod Mission
 pub mod Chains
 pub mod ByKind
 pub mod Demand1

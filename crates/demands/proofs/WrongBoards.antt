@@ -10,6 +10,7 @@ use lib.IntN.{pos}
 use lib.ListN.{length, take, drop, getD, replicate, length-replicate}
 use lib.Seq.{length-sets}
 use denote.Ref.{RefT}
+use Rattle.paper.proofs.Kept.{accepts}
 use Rattle.paper.specs.Checks.{answer}
 use Rattle.paper.specs.Limits.{dataSize, headerSize, imageExtra}
 use Rattle.paper.specs.Exactly.{Exactly}
@@ -44,7 +45,6 @@ use Rattle.table.specs.Lookup as Table
 use Rattle.table.specs.Lookup.{placeOf}
 use Rattle.table.proofs.Lookups.{lies-only, lies-apart}
 use Rattle.order.specs.Order.{outward, order}
-use Rattle.replacing.specs.Replacing.{Altered}
 use Rattle.table.specs.declared.Census.{Census}
 use Rattle.spares.specs.Spares.{ReplaceJudged}
 use Rattle.spares.specs.Promises.{saidReplaced}
@@ -67,7 +67,8 @@ use Rattle.reading.proofs.Spots.{spotted}
 use Rattle.reading.specs.declared.answers.Spot.the-variants.{InSpare}
 use Rattle.reading.proofs.Tracks.{image-inside, data-inside}
 use Rattle.reading.proofs.Written.{good-read}
-use Rattle.demands.specs.Relations.{Keeps, Handed, Onward, Leads, Counts, Arrives}
+use Rattle.demands.specs.Relations.{Keeps, Handed, Onward, Counts, Arrives}
+use Rattle.demands.specs.Demand2Revectored.{AltersOne, ShiftLeads}
 use Rattle.demands.specs.Numbered.{PlacedBy}
 use Rattle.demands.specs.Inputs.{few, chart, small, noneReplaced, afterSix}
 use Rattle.demands.proofs.Boards.{made, scan, lent, pageWith, begun, damaged, older, newer, blank, trackWith, refusesAll, sameSector, addsOnce, skipsNothing, opened, runsAhead, cursorAfter, sectorsAfter, madeUpEntries, writesEarly, madeUpLengths, takesSectors, Composes, sameSpare, sparesNone, leavesTable, stoppedOrder, stopsSearch, madeUpCensus, censusWith, truncatedShift, wrappedShift, everyForced, homeImage, readsHome}
@@ -130,11 +131,11 @@ same-spare-shared s = (rw noneReplaced-passes, rw noneReplaced-passes, shared)
         omega arith
 
 -- a replacement that leaves the table: it answers the right place, and of no place is the descriptor altered
-pub leaves-table-unaltered : (leavesTable small 2 noneReplaced 7 ≡ (Place 4, noneReplaced)) × ((q : ℕ) → Altered (driveOf small 2) noneReplaced 7 q noneReplaced → ⊥)
+pub leaves-table-unaltered : (leavesTable small 2 noneReplaced 7 ≡ (Place 4, noneReplaced)) × ((q : ℕ) → AltersOne small 2 noneReplaced 7 q noneReplaced → ⊥)
 unfolding allBelow placeOf firstBelow firstOr outward rising
 leaves-table-unaltered = (refl, unaltered)
   where
-    unaltered : (q : ℕ) → Altered (driveOf small 2) noneReplaced 7 q noneReplaced → ⊥
+    unaltered : (q : ℕ) → AltersOne small 2 noneReplaced 7 q noneReplaced → ⊥
     unaltered q altered =
         ⊎-elim
         (λ at-primary. omega (arith, altered .was-free, at-primary))
@@ -248,12 +249,12 @@ unfolding countBelow firstBelow faultBelow isIn into union goodsBefore place
 takes-sectors-strays = (refl, λ arrives. omega (arith, arrives))
 
 -- a shift kept unsigned: block 6 lies one cylinder nearer to cylinder 0, and 0 does not lead there
-pub truncated-shift-leads-not : (truncatedShift small 2 afterSix 6 ≡ By (pos 0)) × (Leads (driveOf small 2) afterSix 6 2 (pos 0) → ⊥)
+pub truncated-shift-leads-not : (truncatedShift small 2 afterSix 6 ≡ By (pos 0)) × (ShiftLeads small 2 afterSix 6 (pos 0) → ⊥)
 unfolding allBelow placeOf firstBelow
-truncated-shift-leads-not = (refl, λ shift. let same : pos 1 ≡ pos 0 = shift .leads in let clash : _≡_ {A = ℕ} 0 1 = cc in omega arith)
+truncated-shift-leads-not = (refl, λ shift. let same : pos 1 ≡ pos 0 = shift .leads (record { cylinder = 0; head = 1; sector = 4 }) (accepts (λ k. refl) refl refl) in let clash : _≡_ {A = ℕ} 0 1 = cc in omega arith)
 
 -- and 2 to the 32 less 1 is not within 1 − C to C − 1
-pub wrapped-shift-not-within : (wrappedShift small 2 afterSix 6 ≡ By (pos 4294967295)) × (Leads (driveOf small 2) afterSix 6 2 (pos 4294967295) → ⊥)
+pub wrapped-shift-not-within : (wrappedShift small 2 afterSix 6 ≡ By (pos 4294967295)) × (ShiftLeads small 2 afterSix 6 (pos 4294967295) → ⊥)
 unfolding allBelow placeOf firstBelow
 wrapped-shift-not-within = (refl, λ shift. omega (arith, shift .within))
 

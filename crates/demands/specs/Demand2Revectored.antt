@@ -23,6 +23,8 @@ use Rattle.spares.specs.declared.Shifted.the-variants.{By}
 use Rattle.spares.specs.declared.Replaced as Answers
 use Rattle.spares.specs.declared.Replaced.the-variants.{Place, Refused as NotReplaced}
 use Rattle.spares.specs.Promises.{SectorOf, AddressOf, ShiftOf, BlockOn, BlockAt, Replacement}
+use Rattle.demands.specs.Reads.{ReadsInPlace}
+use Rattle.demands.specs.Histories.{CensusLaw}
 
 -- `shape::sector_of` and `block_at` for the three numbers of an address
 abbrev pub SectorOfAddress : Shape → Address → Placed → Type 0
@@ -126,4 +128,7 @@ pub record Demand2Revectored : Type 0 where
   -- The shift leads from the cylinder of a block's home to the cylinder that the block lies on.
   pub shift-leads-there :
       (shape : Shape) (r : ℕ) (t : List ℕ) (b : ℕ) (shift : ℤ) → ShiftOf shape r t b (By shift) → ShiftLeads shape r t b shift
-  -- Here follow the reads of a block (`ReadsInPlace`) and the census over a history of calls (`CensusLaw`).
+  -- A read of a block goes by the one sector image that the block lies on, and hands its data back in place.
+  pub reads : ReadsInPlace
+  -- A census counts each code, and after any calls the free spares are those that no bad sector and no accepted replacement has taken.
+  pub census : CensusLaw

@@ -1,0 +1,15 @@
+-- The mission: the user's three demands, each a record with a field for each sentence. `mission` of the proofs is the theorem that they hold, of whatever results the promises of the public calls allow.
+use Rattle.demands.specs.Demand1.{Demand1}
+use Rattle.demands.specs.Demand2Skipped.{Demand2Skipped}
+use Rattle.demands.specs.Demand2Revectored.{Demand2Revectored}
+use Rattle.demands.specs.Demand3.{Demand3}
+
+pub record Mission : Type 0 where
+  -- 1. Every call takes any input, ends, and answers or refuses by the paper's numbers; a refusal says its number and nothing else, and lent memory keeps its bytes.
+  pub answers : Demand1
+  -- 2. On a skipped drive block b lies on the good sector that has exactly b good sectors before it, and that sector names the block again.
+  pub skipped-lies : Demand2Skipped
+  -- On a revectored drive a block lies at home or on the one spare that its descriptor names. No two blocks share a sector, none lies on a spare that is marked unusable, and a replacement alters one descriptor and is refused for want of a spare only when none is free.
+  pub revectored-lies : Demand2Revectored
+  -- 3. After an accepted night each new block lies where you arrive by skipping the named blocks in the old numbering and following the old map; two nights, both accepted, are one night with both lists joined.
+  pub nights : Demand3
