@@ -1,14 +1,18 @@
 -- A census counts the places of each code. A first table has as many free places as the list of bad sectors leaves, an accepted replacement takes one of them, and no other call takes any.
 -- Assumes nothing.
-use Prim.Native.Nat.{ℕ, _+_, _-_, _≤_}
+use Prim.Native.Nat.{ℕ, _+_, _≤_}
 use mathlib.Core.Path.{_≡_, sym, _∙_, ap, refl}
-use mathlib.Core.List.{List}
+use mathlib.Core.List.{List, _∷_}
 use native.Mathlib.Omega.{arith}
-use lib.ListN.{length, take}
+use lib.ListN.{length, take, replicate}
 use Rattle.paper.proofs.Cases.{byFault}
 use Rattle.paper.proofs.Chain.{orElse-first}
 use Rattle.paper.proofs.Kept.{gives-number, fills-gives, fills-refused}
+use Rattle.paper.specs.Refusals.{badTable}
 use Rattle.paper.specs.declared.Written.the-variants.{Length}
+use Rattle.seek.specs.Every.{allBelow}
+use Rattle.seek.specs.Lowest.{firstBelow}
+use Rattle.seek.specs.Search.{firstOr, rising}
 use Rattle.seek.proofs.Counts.{count-le}
 use Rattle.shape.specs.declared.Shape.{Shape}
 use Rattle.layout.specs.Layouts.{driveOf, driveFault}
@@ -16,20 +20,24 @@ use Rattle.layout.specs.Descriptors.{free}
 use Rattle.layout.specs.declared.Drive.{Drive}
 use Rattle.table.specs.Rules.{tableFault}
 use Rattle.table.specs.Places.{tableLength}
+use Rattle.table.specs.Lookup.{placeOf}
 use Rattle.table.specs.Counting.{codeCount}
 use Rattle.table.specs.declared.Census.{Census}
 use Rattle.table.proofs.Exact.{table-passes}
-use Rattle.first_table.specs.Marks.{isBadSpare, badSpares, badHomes, goodSpares}
+use Rattle.first_table.specs.Marks.{isBadSpare, badSpares, badHomes}
 use Rattle.first_table.specs.Tables.{firstTable, firstTableFault}
 use Rattle.first_table.specs.Promises.{FirstTable}
 use Rattle.first_table.proofs.Exact.{first-obeys, first-shows, first-made}
+use Rattle.order.specs.Order.{outward}
 use Rattle.replacing.specs.Replacing.{spareFor}
 use Rattle.spares.specs.Spares.{replaceFault}
-use Rattle.spares.specs.Promises.{Replacement, CensusOf}
+use Rattle.spares.specs.Promises.{Replacement, CensusOf, saidCounted}
 use Rattle.spares.specs.declared.Replaced.the-variants.{Place, Refused as NotReplaced}
+use Rattle.spares.specs.declared.Counted.{Counted}
 use Rattle.spares.specs.declared.Counted.the-variants.{Counts as Counted-as}
 use Rattle.spares.proofs.Accepted.{census-whole, replace-block, replace-free-less, after-passes}
 use Rattle.demands.specs.Relations.{Counts}
+use Rattle.demands.specs.Inputs.{small, noneReplaced}
 use Rattle.demands.specs.Histories.{History, made, replaced, refused, CensusLaw}
 use Rattle.demands.proofs.Rooms.{first-table-hands}
 
@@ -123,3 +131,15 @@ census-law =
       make-up-spares = λ shape last r last-r k list t history asked asked-r census promise.
           rw (census-counts asked asked-r t census promise .are-free) (history-frees history);
     }
+
+-- why the shape and r of the last write: C 4, H 1, S 3 has eight spares at r 2 as C 2, H 2, S 5 has, and takes its tables; but place 6 is the primary of block 3 on the one drive alone, so after that replacement the other refuses the table
+abbrev other : Shape
+other = record { cylinders = 4; heads = 1; sectors = 3 }
+
+pub other-shape-refused :
+    (q : ℕ) (after : List ℕ) → Replacement other 2 noneReplaced 3 (Place q) after →
+    (result : Counted) → CensusOf small 2 after result → saidCounted result .0 ≡ badTable
+unfolding allBelow placeOf firstBelow firstOr outward rising
+other-shape-refused q after step result promise =
+    let is : after ≡ 0 ∷ 0 ∷ 0 ∷ 0 ∷ 0 ∷ 0 ∷ 0x20000003 ∷ 0 ∷ replicate 120 0x80000000 = step .holds in
+    gives-number promise (λ said. said .0) (λ k. refl) refl ∙ rw is

@@ -1,16 +1,15 @@
 -- A read goes by the sector image of the block: the sector that the look-up answers, counted inside its track, is the one that the read looks into, in the image that the block lies in.
 -- Assumes nothing.
-use Prim.Native.Nat.{ℕ, _+_, _%_, _<_}
+use Prim.Native.Nat.{ℕ, _%_}
 use mathlib.Core.Path.{_≡_, refl, sym, _∙_, ap}
-use mathlib.Core.Bool.{Bool, true, false}
-use mathlib.Core.List.{List, []}
+use mathlib.Core.List.{List}
 use native.Mathlib.Omega.{arith}
 use lib.ListN.{length, take, drop}
 use denote.Ref.{RefT}
 use Rattle.paper.specs.Limits.{dataSize}
 use Rattle.paper.specs.declared.Placed.the-variants.{At}
 use Rattle.paper.proofs.Cases.{byBool}
-use Rattle.paper.proofs.Kept.{gives-number, gives-accepted}
+use Rattle.paper.proofs.Kept.{gives-number}
 use Rattle.shape.specs.declared.Shape.{Shape}
 use Rattle.layout.specs.Layouts.{driveOf}
 use Rattle.layout.proofs.Layings.{track-whole}
@@ -22,17 +21,15 @@ use Rattle.spares.specs.Promises.{SectorOf}
 use Rattle.image.specs.declared.Verdict.{Verdict}
 use Rattle.image.specs.declared.Verdict.the-variants.{Good}
 use Rattle.image.specs.Promises.{saidVerdict, Lends}
-use Rattle.reading.specs.Tracks.{trackOf, sectorIn, startOf, dataStart, imageAt, imageFor}
+use Rattle.reading.specs.Tracks.{trackOf, sectorIn, imageAt, imageFor}
 use Rattle.reading.specs.Faults.{blockReadFault}
-use Rattle.reading.specs.Promises.{Judge, Data, Spots, AtSpot, saidSpot}
+use Rattle.reading.specs.Promises.{Judge, Data, Spots, saidSpot}
 use Rattle.reading.specs.declared.answers.Spot.{Spot}
 use Rattle.reading.proofs.Alike.{Agree, verdict-alike, part-alike}
 use Rattle.reading.proofs.Parts.{refused-empty, empty-refused, accepted-data, accepted-part, read-length, data-at-spot}
-use Rattle.reading.proofs.Tracks.{sector-lies, track-now, data-inside}
+use Rattle.reading.proofs.Tracks.{sector-lies, data-inside}
 use Rattle.demands.specs.Incident.{imageFrom}
 use Rattle.demands.specs.Reads.{LiesIn, at-home, on-spare, startAt, dataAt, AsLong, ReadsInPlace}
-use Rattle.demands.proofs.ByKind.{spot-says}
-use Rattle.demands.proofs.Demand2Revectored.{answered-lies}
 
 module _ (shape : Shape) (r : ℕ) (t : List ℕ) (b : ℕ) where
   -- the image that a block lies in is the one that the read takes
