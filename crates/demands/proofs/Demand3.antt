@@ -249,8 +249,8 @@ module _
           same-option = option-stays;
           joins = gains (blocks n (listOf space p g)) d (omega (arith, few first)) (named-proper first) e (named-proper second .rising) second-inside d (named-proper first .rising);
           with-room = λ grown list result grownAfter listAfter promise room-grown room-list. (
-              both-done grown list result grownAfter listAfter promise room-grown room-list,
-              both-hands grown list result grownAfter listAfter promise room-grown room-list,
+            both-done grown list result grownAfter listAfter promise room-grown room-list,
+            both-hands grown list result grownAfter listAfter promise room-grown room-list,
           );
           without-room = both-refused;
         }
