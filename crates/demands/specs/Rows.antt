@@ -108,7 +108,7 @@ paperRows =
     ∷ skip-sector 20 (3 ∷ 4 ∷ 7 ∷ 18 ∷ []) 15 (0, 19)
     -- ours: the next night's scan names blocks 3 and 15 of the new map: G' is 4, 5, 18, 19
     ∷ format 20 (3 ∷ 7 ∷ []) (4 ∷ 18 ∷ []) 3 1 (3 ∷ 15 ∷ []) (4 ∷ 5 ∷ 18 ∷ 19 ∷ []) (3 ∷ 4 ∷ 5 ∷ 7 ∷ 18 ∷ 19 ∷ []) 3
-    -- ours: in the first night's numbers, of which there are 18, these are blocks 4 and 17
+    -- ours: in the 18 numbers that the first scan is written in, these are blocks 4 and 17
     ∷ skip-sector 18 (3 ∷ 16 ∷ []) 3 (0, 4)
     ∷ skip-sector 18 (3 ∷ 16 ∷ []) 15 (0, 17)
     -- ours: one night with the joined list answers what the two have answered

@@ -44,19 +44,19 @@ module _ (n : ℕ) (p g : List ℕ) (space option : ℕ) (d : List ℕ) where
     supplied : Supplied n p g space option d
     supplied = fitting .supplied
 
-    pub A-rising : Rising A
+    A-rising : Rising A
     A-rising = used-rising n p g space option d (supplied .proper-p .rising) (supplied .proper-g .rising) (supplied .proper-p .inside) (supplied .proper-g .inside) (supplied .taken .space-within)
 
-    pub A-inside : Inside n A
+    A-inside : Inside n A
     A-inside = used-inside n p g space option d (supplied .proper-p .rising) (supplied .proper-g .rising) (supplied .proper-p .inside) (supplied .proper-g .inside) (supplied .taken .space-within)
 
-    pub d-size : sizeOfD n p g space option ≡ blocks n A
+    d-size : sizeOfD n p g space option ≡ blocks n A
     d-size = rw (eq-eqb (meaning option) inBlocks (scans .in-blocks))
 
-    pub d-rising : Rising d
+    d-rising : Rising d
     d-rising = supplied .proper-d .rising
 
-    pub d-inside : Inside (blocks n A) d
+    d-inside : Inside (blocks n A) d
     d-inside = rw d-size at (supplied .proper-d .inside)
 
     pub A-proper : Proper n A
@@ -66,7 +66,7 @@ module _ (n : ℕ) (p g : List ℕ) (space option : ℕ) (d : List ℕ) where
     d-proper = record { short = supplied .proper-d .short; rising = d-rising; inside = d-inside }
 
     -- a list that joins G joins the list of the space
-    pub joins : (m : List ℕ) → Rising m → listOf space p (union g m) ≡ union (listOf space p g) m
+    joins : (m : List ℕ) → Rising m → listOf space p (union g m) ≡ union (listOf space p g) m
     joins m rising-m =
         bySpace space (supplied .taken .space-within)
         (λ e. absurd (omega (arith, scans .has-grown)))
