@@ -1,5 +1,5 @@
 -- Demand 1: every call takes whatever it is handed, ends, and answers or refuses by the paper's numbers. The record `Demand1`, at the end, has a field for each sentence.
--- That a call takes anything and ends is no field: no public call has a `requires`, and Rattle proves of each function that it is safe and ends.
+-- That a call takes anything and ends is no field: none of the 27 calls below has a `requires`, and Rattle proves of each function that it is safe and ends.
 use Prim.Native.Nat.{ℕ, _+_, _^_, _<_, _≤_}
 use mathlib.Core.Path.{_≡_}
 use mathlib.Core.Bool.{Bool, true, false}
