@@ -1,5 +1,5 @@
 -- Demand 1: every call takes whatever it is handed, ends, and answers or refuses by the paper's numbers. The record `Demand1`, at the end, has a field for each sentence.
--- That a call takes anything and ends is no field: no public call has a `requires`, and Rattle proves of each function that it is safe and ends.
+-- That a call takes anything and ends is no field: none of the 27 calls below has a `requires`, and Rattle proves of each function that it is safe and ends.
 use Prim.Native.Nat.{ℕ, _+_, _^_, _<_, _≤_}
 use mathlib.Core.Path.{_≡_}
 use mathlib.Core.Bool.{Bool, true, false}
@@ -120,7 +120,7 @@ pub record EachByTheNumbers : Type 0 where
   pub image-header : (image : List ℕ) (result : Head) → Image.Header image result → HeadBy (HeaderJudged dataSize image) result
   pub image-judge :
       (image : List ℕ) (number : ℕ) (result : Verdict) → Image.Judge image number result → VerdictBy (ImageJudged dataSize image number) result
-  -- its part is empty exactly where the verdict refuses, and else of 512 bytes
+  -- the part is empty exactly where the verdict refuses, and else 512 bytes long
   pub image-data :
       (image : RefT (List ℕ)) (number : ℕ) (part : RefT (List ℕ)) → Image.Data image number part →
       PartBy (ImageJudged dataSize (image .now) number) dataSize (part .now)
@@ -131,12 +131,12 @@ pub record EachByTheNumbers : Type 0 where
   pub reading-spot :
       (shape : Shape) (r : ℕ) (t : List ℕ) (b : ℕ) (home spare : List ℕ) (result : Spot) → Reading.Spots shape r t b home spare result →
       SpotBy (BlockReadJudged dataSize shape r t b home spare) result
-  -- its part, in the same way
+  -- the part, in the same way
   pub reading-data :
       (shape : Shape) (r : ℕ) (t : List ℕ) (b : ℕ) (home spare part : RefT (List ℕ)) → Reading.Data shape r t b home spare part →
       PartBy (BlockReadJudged dataSize shape r t b (home .now) (spare .now)) dataSize (part .now)
 
--- what each of the six calls that write is lent stays as it was where the call refuses
+-- what is lent to each of the six calls that write stays as it was where the call refuses
 pub record EachKeeps : Type 0 where
   pub page-read :
       (page room : List ℕ) (result : Paged) (after : List ℕ) → Page.Reads page room result after → Keeps (Page.saidPaged result .0) room after
@@ -159,7 +159,7 @@ pub record EachKeeps : Type 0 where
       (number : ℕ) (bytes : List ℕ) (forced : Bool) (room : List ℕ) (result : Written) (after : List ℕ) → Image.Write number bytes forced room result after →
       Keeps (saidWritten result .0) room after
 
--- what each call that fills a room hands back (a replacement, which alters a table, stands in demand 2)
+-- what each call that fills a room hands back; what a replacement does to its table is said by demand 2
 pub record EachHands : Type 0 where
   -- the kind, N and the entries of a page
   pub page-read :
@@ -175,7 +175,7 @@ pub record EachHands : Type 0 where
       Formats n p g space option d grown list (Done grownLong listLong spaceAfter) grownAfter listAfter →
       Handed (newGrown n p g space option d) grown grownLong grownAfter
       × (Handed (newList n p g space option d) list listLong listAfter × (spaceAfter ≡ newSpace space option))
-  -- the first table, which is what such a table must be
+  -- the first table of the list, and it is all that a first table must be
   pub spares-first-table :
       (shape : Shape) (r : ℕ) (list room : List ℕ) (long : ℕ) (after : List ℕ) → FirstTable shape r list room (Length long) after →
       Handed (firstTable (driveOf shape r) list) room long after × IsFirstTable (driveOf shape r) list (take long after)
@@ -184,7 +184,7 @@ pub record EachHands : Type 0 where
       (number : ℕ) (bytes : List ℕ) (forced : Bool) (room : List ℕ) (long : ℕ) (after : List ℕ) → Image.Write number bytes forced room (Length long) after →
       (long ≡ dataSize + imageExtra) × Handed (imageOf number bytes forced) room long after
 
--- what the promise of each call allows for the same inputs is one result, one content of each lent room, one part and one place of it
+-- the promise of each call allows one result, one content of each lent room, one part and one place of it
 pub record EachDetermined : Type 0 where
   -- a drive by its shape
   pub shape-sector-of : (shape : Shape) (cylinder head sector : ℕ) → OneResult (Shapes.SectorOf shape cylinder head sector)
@@ -223,7 +223,7 @@ pub record EachDetermined : Type 0 where
   pub one-verdict :
       (image : List ℕ) (number j k : ℕ) → ContentsJudged dataSize image number j → ContentsJudged dataSize image number k → j ≡ k
 
--- an image that an accepted write left at the front of some room; that its number is 32 bits and its data bytes is what the call's types say
+-- an image that an accepted write left at the front of some room; its number has 32 bits and its data is bytes, as the call's types say
 pub record WrittenImage (number : ℕ) (bytes : List ℕ) (forced : Bool) (image : List ℕ) : Type 0 where
   pub fits : number < 2 ^ 32
   pub are-bytes : Bytes bytes
@@ -233,16 +233,16 @@ pub record WrittenImage (number : ℕ) (bytes : List ℕ) (forced : Bool) (image
   pub wrote : Image.Write number bytes forced room (Length long) after
   pub is : image ≡ take long after
 
--- each call that has an inverse, there and back
+-- what one call wrote or answered, another reads again
 pub record EachAgain : Type 0 where
-  -- an address has a sector number exactly where that sector has this address
+  -- `shape::sector_of` answers sector x for an address exactly where `shape::address_of` answers that address for x
   pub sector-addressed :
       (shape : Shape) (address : Address) (x : ℕ) → Shapes.SectorOf shape (address .cylinder) (address .head) (address .sector) (At x) →
       Shapes.AddressOf shape x (LocatedAt address)
   pub address-numbered :
       (shape : Shape) (address : Address) (x : ℕ) → Shapes.AddressOf shape x (LocatedAt address) →
       Shapes.SectorOf shape (address .cylinder) (address .head) (address .sector) (At x)
-  -- a page that was written is read as it was written, in any room that is long enough
+  -- a page that was written reads as it was written, into any room that is long enough
   pub written-page-reads :
       (n kind : ℕ) (list room after : List ℕ) (long : ℕ) → Page.Writes n kind list room (Length long) after →
       (other filled : List ℕ) (result : Paged) → length list ≤ length other → Page.Reads (take long after) other result filled →
@@ -252,7 +252,7 @@ pub record EachAgain : Type 0 where
       (page room after : List ℕ) (kind n entries : ℕ) → Bytes page → Page.Reads page room (PageRead kind n entries) after →
       (other filled : List ℕ) (result : Written) → length page ≤ length other → Page.Writes n kind (take entries after) other result filled →
       (result ≡ Length (length page)) × (filled ≡ written page other)
-  -- a header answers a number exactly where the image has its 530 bytes and the number stands in three of the four copies
+  -- a header answers a number exactly where the image has 530 bytes and the number stands in three of the four copies
   pub header-stands :
       (image : List ℕ) (number : ℕ) → Image.Header image (Number number) → (length image ≡ dataSize + imageExtra) × Stands image number
   pub standing-header :
@@ -284,6 +284,7 @@ pub record EachAgain : Type 0 where
       (image : List ℕ) (number k byte : ℕ) → Bytes image → k < dataSize → byte < 256 → (byte ≡ getD image (headerSize + k) 0 → ⊥) →
       Image.Judge image number Good → Image.Judge (set image (headerSize + k) byte) number Good → ⊥
 
+-- the demand, a field for each sentence
 pub record Demand1 : Type 0 where
   -- a call, whatever it is handed, answers or refuses by the paper's numbers, and a refusal says its number and nothing else
   pub by-the-numbers : EachByTheNumbers
@@ -291,7 +292,7 @@ pub record Demand1 : Type 0 where
   pub lent-kept : EachKeeps
   -- what an accepted call wrote stands at the front of the lent room, and the rest of the room stays
   pub front-filled : EachHands
-  -- a contract leaves no choice
+  -- a contract leaves no choice: for the same inputs it allows one outcome
   pub no-choice : EachDetermined
   -- what was written is read again, and data that has changed is not taken for it
   pub read-again : EachAgain
