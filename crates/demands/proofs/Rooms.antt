@@ -6,10 +6,10 @@ use mathlib.Core.Path.{_≡_, sym, ap, refl}
 use mathlib.Core.Bool.{Bool}
 use mathlib.Core.List.{List}
 use lib.ListN.{length, take, drop}
-use lib.Seq.{take-at, drop-at}
 use Rattle.paper.specs.Limits.{dataSize, imageExtra}
 use Rattle.paper.specs.declared.Written.the-variants.{Length}
 use Rattle.paper.specs.Promise.{written}
+use Rattle.lists.proofs.Filling.{written-first, written-rest}
 use Rattle.page.specs.Layout.{kindOf, unitsOf, entriesOf}
 use Rattle.page.specs.Pages.{readFault, writeFault, pageBytes}
 use Rattle.page.specs.Promises.{Reads, Writes}
@@ -35,11 +35,7 @@ use Rattle.demands.specs.Demand1.{EachHands}
 -- a room that holds a list and then the rest of what it held
 pub handed : (list before : List ℕ) (long : ℕ) (after : List ℕ) → long ≡ length list → after ≡ written list before → Handed list before long after
 handed list before long after is holds =
-    record {
-      long-as = is;
-      first = rw holds (take-at list (drop (length list) before) long (sym is));
-      rest = rw (holds, drop-at list (drop (length list) before) long (sym is), is);
-    }
+    record { long-as = is; first = rw holds (written-first list before long is); rest = rw holds (written-rest list before long is) }
 
 -- `page::read` hands back the entries of the page, beside its kind and N
 pub page-read-hands :
