@@ -38,7 +38,7 @@ use Rattle.format.proofs.Held.{done-passes}
 use Rattle.format.proofs.Answering.{Fitting, format-shows, format-passes, format-lacks-room}
 use Rattle.format.proofs.Scans.{Scans, option-1-in-space-3, option-3-in-space-2, grown-is, scan-places, list-is, A-proper, d-proper, new-proper, new-blocks, nights-grown, nights-list, joined-fits}
 use Rattle.demands.specs.Relations.{Handed, Arrives}
-use Rattle.demands.specs.Demand3.{Night, Way, NamedOn, Gains, OneNight, TwoNights, Demand3}
+use Rattle.demands.specs.Demand3.{Night, NamedOn, Gains, OneNight, TwoNights, Demand3}
 use Rattle.demands.proofs.Rooms.{format-hands}
 
 -- what an answered sector shows, and when it is answered

@@ -5,7 +5,7 @@ use Prim.Native.Nat.{ℕ, _+_}
 use mathlib.Core.Path.{_≡_, sym, ap, refl}
 use mathlib.Core.Bool.{Bool}
 use mathlib.Core.List.{List}
-use lib.ListN.{length, take, drop}
+use lib.ListN.{length, take}
 use Rattle.paper.specs.Limits.{dataSize, imageExtra}
 use Rattle.paper.specs.declared.Written.the-variants.{Length}
 use Rattle.paper.specs.Promise.{written}
