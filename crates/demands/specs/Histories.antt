@@ -16,7 +16,7 @@ use Rattle.spares.specs.declared.Counted.{Counted}
 use Rattle.spares.specs.declared.Counted.the-variants.{Counts as Counted-as}
 use Rattle.demands.specs.Relations.{Counts}
 
--- a history of calls, each with a shape and r of its own: a first table of this shape, r and list, then k accepted replacements and any refused ones; it ends in a table, last written with some shape and r. A call that only reads leaves the table as it is and is no step
+-- a history of calls on one table, each with a shape and r of its own, which begins with a first table of this shape, r and list: how many replacements were accepted since, the shape and r that the table was last written with, and the table. A call that only reads leaves the table as it is, and is no step
 pub data History (shape : Shape) (r : ℕ) (list : List ℕ) : ℕ → Shape → ℕ → List ℕ → Type 0 where
   made :
       (room after : List ℕ) (long : ℕ) → FirstTable shape r list room (Length long) after →
@@ -30,7 +30,7 @@ pub data History (shape : Shape) (r : ℕ) (list : List ℕ) : ℕ → Shape →
       (asked : Shape) (asked-r b fault : ℕ) (after : List ℕ) → Replacement asked asked-r t b (NotReplaced fault) after →
       History shape r list k last last-r after
 
--- the census
+-- what a census says
 pub record CensusLaw : Type 0 where
   -- a census that is answered counts each code of the table
   pub counts-codes : (shape : Shape) (r : ℕ) (t : List ℕ) (census : Census) → CensusOf shape r t (Counted-as census) → Counts t census
@@ -42,7 +42,7 @@ pub record CensusLaw : Type 0 where
   pub answered :
       (shape last : Shape) (r last-r k : ℕ) (list t : List ℕ) → History shape r list k last last-r t →
       (result : Counted) → CensusOf last last-r t result → saidCounted result .0 ≡ 0
-  -- and whatever shape and r a census is answered for: free = spares − bad spares − bad home blocks − accepted replacements
+  -- and one that is answered, for whatever shape and r, has free = spares − bad spares − bad home blocks − accepted replacements
   pub free-left :
       (shape last : Shape) (r last-r k : ℕ) (list t : List ℕ) → History shape r list k last last-r t →
       (asked : Shape) (asked-r : ℕ) (census : Census) → CensusOf asked asked-r t (Counted-as census) →

@@ -29,10 +29,11 @@ startAt shape s = s % shape .sectors * (dataSize + imageExtra)
 abbrev pub dataAt : Shape → ℕ → ℕ
 dataAt shape s = startAt shape s + headerSize
 
--- two images that are as long
+-- two images of one length
 abbrev pub AsLong : List ℕ → List ℕ → Type 0
 AsLong image other = length image ≡ length other
 
+-- what a read hands back and looks at
 pub record ReadsInPlace : Type 0 where
   -- data of a block that is judged good is handed back in place: the part lies where the data of the block's sector does, in the image that the block lies in, and holds what stands there
   pub lends-in-place :
@@ -44,20 +45,21 @@ pub record ReadsInPlace : Type 0 where
   pub lends-whole :
       (shape : Shape) (r : ℕ) (t : List ℕ) (b : ℕ) (home spare part : RefT (List ℕ)) →
       Judge shape r t b (home .now) (spare .now) Good → Data shape r t b home spare part → length (part .now) ≡ dataSize
-  -- the part is empty exactly where the verdict refuses
+  -- the part is empty where the verdict refuses
   pub refused-empty :
       (shape : Shape) (r : ℕ) (t : List ℕ) (b : ℕ) (home spare part : RefT (List ℕ)) (verdict : Verdict) →
       Judge shape r t b (home .now) (spare .now) verdict → Data shape r t b home spare part → (saidVerdict verdict ≡ 0 → ⊥) → part .now ≡ []
+  -- and nowhere else
   pub empty-refused :
       (shape : Shape) (r : ℕ) (t : List ℕ) (b : ℕ) (home spare part : RefT (List ℕ)) (verdict : Verdict) →
       Judge shape r t b (home .now) (spare .now) verdict → Data shape r t b home spare part → part .now ≡ [] → saidVerdict verdict ≡ 0 → ⊥
-  -- the verdict looks at the 530 bytes of the sector that the block lies on and at no other: images that are as long and agree on those have the same verdict
+  -- the verdict looks at the 530 bytes of the sector that the block lies on and at no other: images of the same lengths that agree on those have the same verdict
   pub same-verdict :
       (shape : Shape) (r : ℕ) (t : List ℕ) (b s : ℕ) (home spare track home′ spare′ track′ : List ℕ) (verdict again : Verdict) →
       SectorOf shape r t b (At s) → LiesIn t b home spare track → LiesIn t b home′ spare′ track′ →
       AsLong home home′ → AsLong spare spare′ → imageFrom (startAt shape s) track ≡ imageFrom (startAt shape s) track′ →
       Judge shape r t b home spare verdict → Judge shape r t b home′ spare′ again → verdict ≡ again
-  -- and parts that hold the same
+  -- and their parts hold the same
   pub same-data :
       (shape : Shape) (r : ℕ) (t : List ℕ) (b s : ℕ) (home spare track home′ spare′ track′ part again : RefT (List ℕ)) →
       SectorOf shape r t b (At s) → LiesIn t b home spare track → LiesIn t b home′ spare′ track′ →
