@@ -37,9 +37,13 @@ use Rattle.format.specs.declared.Formatted.the-variants.{Done, Refused}
 use Rattle.format.proofs.Held.{done-passes}
 use Rattle.format.proofs.Answering.{Fitting, format-shows, format-passes, format-lacks-room}
 use Rattle.format.proofs.Scans.{Scans, option-1-in-space-3, option-3-in-space-2, grown-is, scan-places, list-is, A-proper, d-proper, new-proper, new-blocks, nights-grown, nights-list, joined-fits}
-use Rattle.demands.specs.Relations.{Handed, Arrives}
+use Rattle.demands.specs.Relations.{Handed}
 use Rattle.demands.specs.Demand3.{Night, NamedOn, Gains, OneNight, TwoNights, Demand3}
 use Rattle.demands.proofs.Rooms.{format-hands}
+
+-- demand 3 at one block of a new list: it lies where you arrive by skipping the named blocks in the old numbering and following the old map
+abbrev pub Arrives : ℕ → List ℕ → List ℕ → List ℕ → ℕ → Type 0
+Arrives n old named new b = place (isIn new) n b ≡ place (isIn old) n (place (isIn named) (blocks n old) b)
 
 -- what an answered sector shows, and when it is answered
 module _ (n : ℕ) (a : List ℕ) (b : ℕ) where

@@ -67,7 +67,8 @@ use Rattle.reading.proofs.Spots.{spotted}
 use Rattle.reading.specs.declared.answers.Spot.the-variants.{InSpare}
 use Rattle.reading.proofs.Tracks.{image-inside, data-inside}
 use Rattle.reading.proofs.Written.{good-read}
-use Rattle.demands.specs.Relations.{Keeps, Handed, Onward, Counts, Arrives}
+use Rattle.demands.specs.Relations.{Keeps, Handed, Onward, Counts}
+use Rattle.demands.proofs.Demand3.{Arrives}
 use Rattle.demands.specs.Demand2Revectored.{AltersOne, ShiftLeads}
 use Rattle.demands.specs.Numbered.{PlacedBy}
 use Rattle.demands.specs.Inputs.{few, chart, small, noneReplaced, afterSix}

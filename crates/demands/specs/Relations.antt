@@ -1,20 +1,13 @@
 -- What the user demands of an answer, in words of the paper and apart from any chain of checks. The theorems of this crate prove these relations of every answer, and a wrong board breaks them.
-use Prim.Native.Nat.{ℕ, suc, _/_, _<_}
+use Prim.Native.Nat.{ℕ, suc}
 use mathlib.Core.Path.{_≡_}
 use mathlib.Core.List.{List, []}
-use lib.IntN.{ℤ, pos, natAbs, _+ℤ_}
 use lib.ListN.{length, take, drop}
 use denote.Ref.{RefT}
 use Rattle.paper.specs.Exactly.{Exactly}
-use Rattle.lists.specs.Union.{isIn}
-use Rattle.skip.specs.Skipping.{place}
-use Rattle.skip.specs.Translation.{blocks}
 use Rattle.skip.specs.Cursors.{Belongs}
 use Rattle.skip.specs.declared.Cursor.{Cursor}
-use Rattle.layout.specs.declared.Drive.{Drive}
-use Rattle.layout.specs.Layouts.{sectorsPerTrack, homeCylinder}
 use Rattle.layout.specs.Descriptors.{free, atPrimary, elsewhere, unusable, null}
-use Rattle.table.specs.Lookup.{liesOn}
 use Rattle.table.specs.Counting.{codeCount}
 use Rattle.table.specs.declared.Census.{Census}
 
@@ -46,11 +39,6 @@ pub record Onward (n : ℕ) (a : List ℕ) (c next : Cursor) : Type 0 where
   pub follows : next .block ≡ suc (c .block)
   pub belongs : Belongs n a next
 
--- a shift leads from the cylinder of a block's home to the cylinder that it lies on, and is less than C to either side
-pub record Leads (g : Drive) (t : List ℕ) (b cylinders : ℕ) (shift : ℤ) : Type 0 where
-  pub leads : pos (homeCylinder g b) +ℤ shift ≡ pos (liesOn g t b / sectorsPerTrack g / g .heads)
-  pub within : natAbs shift < cylinders
-
 -- a census counts each code of the table
 pub record Counts (t : List ℕ) (census : Census) : Type 0 where
   pub are-free : census .free ≡ codeCount t free
@@ -58,10 +46,6 @@ pub record Counts (t : List ℕ) (census : Census) : Type 0 where
   pub are-elsewhere : census .elsewhere ≡ codeCount t elsewhere
   pub are-unusable : census .unusable ≡ codeCount t unusable
   pub are-null : census .null ≡ codeCount t null
-
--- demand 3 at one block of a new list: it lies where you arrive by skipping the named blocks in the old numbering and following the old map
-abbrev pub Arrives : ℕ → List ℕ → List ℕ → List ℕ → ℕ → Type 0
-Arrives n old named new b = place (isIn new) n b ≡ place (isIn old) n (place (isIn named) (blocks n old) b)
 
 -- a promise allows an answer, and every answer that it allows is such
 pub record AllowsOnly {Answer : Type 0} (Promise Such : Answer → Type 0) : Type 0 where
