@@ -60,7 +60,7 @@ fn clear(drive: Drive, room: &mut [u32])
     }
 }
 
-// Writes the table before any block is replaced into the first places of the room, and leaves the rest.
+// Writes the table before any block is replaced into the first places of the room, and leaves the rest. Only this crate calls this.
 pub fn mark(drive: Drive, list: &[u32], room: &mut [u32])
     requires { ⌜ Laid drive ⌝ }
     requires { ⌜ Proper (drive .tracks * sectorsPerTrack drive) (now list) ⌝ }
@@ -93,7 +93,7 @@ fn count_one(drive: Drive, sector: u32, bad: Bad) -> Bad
     }
 }
 
-// How many home blocks and how many spares the list names.
+// How many home blocks and how many spares the list names. Only this crate calls this.
 pub fn count_bad(drive: Drive, list: &[u32]) -> Bad
     requires { ⌜ Laid drive ⌝ }
     requires { ⌜ Proper (drive .tracks * sectorsPerTrack drive) (now list) ⌝ }

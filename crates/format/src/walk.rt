@@ -113,7 +113,7 @@ fn step(over: Sides, takes: Sides, p: &[u32], g: &[u32], d: &[u32], at: Walker) 
     }
 }
 
-// The first pass: it counts, and writes nothing.
+// The first pass: it counts, and writes nothing. Only this crate calls this.
 pub fn count_both(over: Sides, takes: Sides, p: &[u32], g: &[u32], d: &[u32]) -> Lengths
     requires { ⌜ Walkable (now p) (now g) (now d) ⌝ }
     ensures { λ result. ⌜ result .grown ≡ length (grownOf over (now (p .entry)) (now (g .entry)) (now (d .entry))) ⌝ }
@@ -150,7 +150,7 @@ fn put(room: &mut [u32], count: usize, entry: u32, taken: bool) -> usize
     count
 }
 
-// The second pass: it writes both lists into rooms that have place for them.
+// The second pass: it writes both lists into rooms that have place for them. Only this crate calls this.
 pub fn fill(
     over: Sides,
     takes: Sides,

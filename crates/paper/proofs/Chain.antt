@@ -32,8 +32,3 @@ module _ {ℓ} {X : Type ℓ} where
 
   pub answer-accepted : (fault : ℕ) (refused : ℕ → X) (accepted : X) → fault ≡ 0 → answer fault refused accepted ≡ accepted
   answer-accepted fault refused accepted none = rw none
-
--- a chain's number is what its answer says where the number is all that it says
-pub answer-number : (fault : ℕ) → answer fault (λ k. k) 0 ≡ fault
-answer-number zero = refl
-answer-number (suc fault) = refl
