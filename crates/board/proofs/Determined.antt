@@ -51,8 +51,8 @@ jobOf n = record { refusal = n .0; sector = n .1; next = record { block = n .2; 
 abbrev judgedOf : ℕ → TbJudged
 judgedOf n = record { refusal = n }
 
-abbrev locatedOf : ℕ × ℕ × ℕ × ℕ → TbLocated
-locatedOf n = record { refusal = n .0; address = record { cylinder = n .1; head = n .2; sector = n .3 } }
+abbrev locatedOf : ℕ × ℕ × ℕ × ℕ × ℕ → TbLocated
+locatedOf n = record { refusal = n .0; address = record { cylinder = n .1; head = n .2; sector = n .3; angle = n .4 } }
 
 abbrev namedOf : ℕ × ℕ × ℕ → TbNamed
 namedOf n = record { refusal = n .0; found = n .1; block = n .2 }

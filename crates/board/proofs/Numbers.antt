@@ -63,10 +63,10 @@ job-step-numbers n list cursor = told-numbers (cursor-step n list cursor)
 pub shape-sector-numbers : (shape : Shape) (cylinder head sector : ℕ) {result : TbPlaced} → TellsPlaced (ShapeSectorOf shape cylinder head sector) result → NumbersBy (λ fields. fields .0) (λ k. (k, 0)) (ShapeSectorOfJudged shape cylinder head sector) (placedFields result)
 shape-sector-numbers shape cylinder head sector = told-numbers (shape-sector-of shape cylinder head sector)
 
-pub shape-address-numbers : (shape : Shape) (sector : ℕ) {result : TbLocated} → TellsLocated (ShapeAddressOf shape sector) result → NumbersBy (λ fields. fields .0) (λ k. (k, 0, 0, 0)) (ShapeAddressOfJudged shape sector) (locatedFields result)
+pub shape-address-numbers : (shape : Shape) (sector : ℕ) {result : TbLocated} → TellsLocated (ShapeAddressOf shape sector) result → NumbersBy (λ fields. fields .0) (λ k. (k, 0, 0, 0, 0)) (ShapeAddressOfJudged shape sector) (locatedFields result)
 shape-address-numbers shape sector = told-numbers (shape-address-of shape sector)
 
-pub skipped-address-numbers : (shape : Shape) (list : List ℕ) (block : ℕ) {result : TbLocated} → TellsLocated (SkippedAddressOf shape list block) result → NumbersBy (λ fields. fields .0) (λ k. (k, 0, 0, 0)) (SkippedAddressOfJudged shape list block) (locatedFields result)
+pub skipped-address-numbers : (shape : Shape) (list : List ℕ) (block : ℕ) {result : TbLocated} → TellsLocated (SkippedAddressOf shape list block) result → NumbersBy (λ fields. fields .0) (λ k. (k, 0, 0, 0, 0)) (SkippedAddressOfJudged shape list block) (locatedFields result)
 skipped-address-numbers shape list block = told-numbers (skipped-address-of shape list block)
 
 pub skipped-block-numbers : (shape : Shape) (list : List ℕ) (cylinder head sector : ℕ) {result : TbNamed} → TellsNamed (SkippedBlockAt shape list cylinder head sector) result → NumbersBy (λ fields. fields .0) (λ k. (k, 0, 0)) (SkippedBlockAtJudged shape list cylinder head sector) (namedFields result)
@@ -93,7 +93,7 @@ format-kept n p g space option d grown list grownAfter listAfter = told-keeps (�
 pub spare-sector-numbers : (shape : Shape) (r : ℕ) (table : List ℕ) (block : ℕ) {result : TbPlaced} → TellsPlaced (SpareSectorOf shape r table block) result → NumbersBy (λ fields. fields .0) (λ k. (k, 0)) (BlockJudged shape r table block) (placedFields result)
 spare-sector-numbers shape r table block = told-numbers (spares-sector-of shape r table block)
 
-pub spare-address-numbers : (shape : Shape) (r : ℕ) (table : List ℕ) (block : ℕ) {result : TbLocated} → TellsLocated (SpareAddressOf shape r table block) result → NumbersBy (λ fields. fields .0) (λ k. (k, 0, 0, 0)) (BlockJudged shape r table block) (locatedFields result)
+pub spare-address-numbers : (shape : Shape) (r : ℕ) (table : List ℕ) (block : ℕ) {result : TbLocated} → TellsLocated (SpareAddressOf shape r table block) result → NumbersBy (λ fields. fields .0) (λ k. (k, 0, 0, 0, 0)) (BlockJudged shape r table block) (locatedFields result)
 spare-address-numbers shape r table block = told-numbers (spares-address-of shape r table block)
 
 pub spare-shift-numbers : (shape : Shape) (r : ℕ) (table : List ℕ) (block : ℕ) {result : TbShifted} → TellsShifted (ShiftOf shape r table block) result → NumbersBy (λ fields. fields .0) (λ k. (k, pos 0)) (BlockJudged shape r table block) (shiftedFields result)

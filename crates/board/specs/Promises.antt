@@ -70,9 +70,9 @@ writtenFields r = (r .refusal, r .length)
 abbrev pub TellsWritten : (Written → Type 0) → TbWritten → Type 0
 TellsWritten Promise r = Tells saidWritten Promise (writtenFields r)
 
--- refusal, cylinder, head, sector
-abbrev pub locatedFields : TbLocated → ℕ × ℕ × ℕ × ℕ
-locatedFields r = (r .refusal, r .address .cylinder, r .address .head, r .address .sector)
+-- refusal, cylinder, head, sector, angle
+abbrev pub locatedFields : TbLocated → ℕ × ℕ × ℕ × ℕ × ℕ
+locatedFields r = (r .refusal, r .address .cylinder, r .address .head, r .address .sector, r .address .angle)
 
 abbrev pub TellsLocated : (Located → Type 0) → TbLocated → Type 0
 TellsLocated Promise r = Tells saidLocated Promise (locatedFields r)

@@ -180,6 +180,7 @@ pub fn located(answer: Located) -> TbLocated
                 cylinder: 0,
                 head: 0,
                 sector: 0,
+                angle: 0,
             },
         },
     }

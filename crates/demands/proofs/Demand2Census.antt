@@ -134,7 +134,7 @@ census-law =
 
 -- why the shape and r of the last write: C 4, H 1, S 3 has eight spares at r 2 as C 2, H 2, S 5 has, and takes its tables; but place 6 is the primary of block 3 on the one drive alone, so after that replacement the other refuses the table
 abbrev other : Shape
-other = record { cylinders = 4; heads = 1; sectors = 3 }
+other = record { cylinders = 4; heads = 1; sectors = 3; groups = 1; tracks = 1; offset = 0 }
 
 pub other-shape-refused :
     (q : ℕ) (after : List ℕ) → Replacement other 2 noneReplaced 3 (Place q) after →

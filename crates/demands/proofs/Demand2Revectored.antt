@@ -22,8 +22,8 @@ use Rattle.shape.specs.declared.Address.{Address}
 use Rattle.shape.specs.declared.Located.{Located}
 use Rattle.shape.specs.declared.Located.the-variants.{At as LocatedAt, Refused as NotLocated}
 use Rattle.shape.specs.Shapes.{Shaped, sizeOf, shapeFault}
-use Rattle.shape.specs.Addresses.{OnDrive, sectorAt, addressAt, sectorOfFault, addressOfFault}
-use Rattle.shape.specs.Promises.{AddressOf as ShapeAddressOf}
+use Rattle.shape.specs.Addresses.{OnDrive, sectorAt, withAngle, addressAt, sectorOfFault, addressOfFault}
+use Rattle.shape.specs.Promises.{SectorOf as ShapeSectorOf, AddressOf as ShapeAddressOf}
 use Rattle.shape.proofs.Bounds.{sector-below}
 use Rattle.shape.proofs.Inverse.{there-and-back, back-and-there, address-on-drive}
 use Rattle.shape.proofs.Exact.{tells-on-drive, place-shows, shape-shows}
@@ -39,7 +39,7 @@ use Rattle.table.specs.Lookup.{Replaced, isReplaced, placeOf, liesOn, lyingOn, 
 use Rattle.table.proofs.Lookups.{tells-replaced, place-once, lies-shows, lies-only, lies-apart, none-on-unusable, lying-of-lies, vacant-told, lies-below, lies-of-lying, vacant-shows}
 use Rattle.replacing.specs.Replacing.{NoneFree, Altered, spareFor}
 use Rattle.spares.specs.Spares.{shiftOf, blockOnFault, blockAtFault, replaceFault}
-use Rattle.spares.specs.Promises.{SectorOf, AddressOf, ShiftOf, BlockOn, Replacement}
+use Rattle.spares.specs.Promises.{SectorOf, AddressOf, ShiftOf, BlockOn, BlockAt, Replacement}
 use Rattle.spares.specs.declared.Shifted.the-variants.{By}
 use Rattle.spares.specs.declared.Replaced.{Replaced as ReplaceAnswer}
 use Rattle.spares.specs.declared.Replaced.the-variants.{Place, Refused as NotReplaced}
@@ -48,7 +48,7 @@ use Rattle.table.proofs.Exact.{Ready, table-ready, table-exactly, block-ready, 
 use Rattle.spares.proofs.Accepted.{replace-block, after-passes, replace-alters, no-spare-shows, no-spare-told}
 use Rattle.spares.proofs.Shifts.{shift-at-home, shift-leads, shift-answered}
 use Rattle.demands.proofs.ByKind.{naming-says, lying-naming}
-use Rattle.demands.specs.Demand2Revectored.{SectorOfAddress, BlockAtAddress, LiesThere, AltersOne, ShiftLeads}
+use Rattle.demands.specs.Demand2Revectored.{LiesThere, AltersOne, ShiftLeads}
 
 -- a vacant sector is one of the drive's
 vacant-inside : {drive : Drive} {t : List ℕ} {s : ℕ} → Laid drive → Vacant drive t s → s < drive .tracks * sectorsPerTrack drive
@@ -197,52 +197,55 @@ module _ (shape : Shape) (r : ℕ) (t : List ℕ) where
     located-sector : sectorAt shape (address .cylinder) (address .head) (address .sector) ≡ liesOn (driveOf shape r) t b
     located-sector = rw located-is (there-and-back (block-ready shape r t b located-passes .shaped) (lies-inside b located-passes))
 
-    pub sector-of-address : (result sector : Placed) → SectorOf shape r t b result → SectorOfAddress shape address sector → result ≡ sector
+    pub sector-of-address :
+        (result sector : Placed) → SectorOf shape r t b result → ShapeSectorOf shape (address .cylinder) (address .head) (address .sector) sector →
+        result ≡ sector
     sector-of-address result sector placed promised =
         let fault : sectorOfFault shape (address .cylinder) (address .head) (address .sector) ≡ 0 =
         rw (shape-passes b located-passes, tells-on-drive shape (address .cylinder) (address .head) (address .sector) .told located-on-drive) in
         gives-one placed (accepts (λ k. refl) located-passes (promised .answers ∙ rw fault (ap At located-sector)))
 
-  -- what is asked by address is what is asked by the address's sector
-  module _ (address : Address) where
+  -- what is asked by cylinder, head and sector is what is asked by their sector number
+  module _ (cylinder head sector : ℕ) where
     abbrev its-sector : ℕ
-    its-sector = sectorAt shape (address .cylinder) (address .head) (address .sector)
+    its-sector = sectorAt shape cylinder head sector
 
     asked-at :
-        Shaped shape → OnDrive shape (address .cylinder) (address .head) (address .sector) → (result : Named) → BlockAtAddress shape r t address result →
-        BlockOn shape r t its-sector result
+        Shaped shape → OnDrive shape cylinder head sector → (result : Named) → BlockAt shape r t cylinder head sector result → BlockOn shape r t its-sector result
     asked-at shaped there result promise =
-        let same : blockAtFault shape r t (address .cylinder) (address .head) (address .sector) ≡ blockOnFault shape r t its-sector =
-        rw (tells-on-drive shape (address .cylinder) (address .head) (address .sector) .told there, lt-leb (sizeOf shape) its-sector (sector-below shaped there)) in
+        let same : blockAtFault shape r t cylinder head sector ≡ blockOnFault shape r t its-sector =
+        rw (tells-on-drive shape cylinder head sector .told there, lt-leb (sizeOf shape) its-sector (sector-below shaped there)) in
         rw same at promise
 
     pub block-at-sector :
-        (s : ℕ) → SectorOfAddress shape address (At s) →
-        (result named : Named) → BlockAtAddress shape r t address result → BlockOn shape r t s named → result ≡ named
+        (s : ℕ) → ShapeSectorOf shape cylinder head sector (At s) →
+        (result named : Named) → BlockAt shape r t cylinder head sector result → BlockOn shape r t s named → result ≡ named
     block-at-sector s promise result named promised names =
-        let passes : sectorOfFault shape (address .cylinder) (address .head) (address .sector) ≡ 0 = sym (gives-number promise (λ said. said .0) (λ k. refl) refl) in
+        let passes : sectorOfFault shape cylinder head sector ≡ 0 = sym (gives-number promise (λ said. said .0) (λ k. refl) refl) in
         let is : s ≡ its-sector = rw passes at (ap (λ (said : ℕ × ℕ). said .1) (promise .says)) in
-        let there = place-shows shape (address .cylinder) (address .head) (address .sector) (orElse-next (shapeFault shape) _ passes) in
+        let there = place-shows shape cylinder head sector (orElse-next (shapeFault shape) _ passes) in
         gives-one (asked-at (shape-shows shape (orElse-first (shapeFault shape) _ passes)) there result promised) (rw is at names)
 
   -- the address of a block names that block again
   pub address-names-block :
-      (b : ℕ) (address : Address) → AddressOf shape r t b (LocatedAt address) → (result : Named) → BlockAtAddress shape r t address result → result ≡ Block b
+      (b : ℕ) (address : Address) → AddressOf shape r t b (LocatedAt address) →
+      (result : Named) → BlockAt shape r t (address .cylinder) (address .head) (address .sector) result → result ≡ Block b
   address-names-block b address promise result names =
       let none = located-passes b address promise in
-      let asked = asked-at address (block-ready shape r t b none .shaped) (located-on-drive b address promise) result names in
-      sector-names-block b (its-sector address) (accepts (λ k. refl) none (ap At (located-sector b address promise))) result asked
+      let asked = asked-at _ _ _ (block-ready shape r t b none .shaped) (located-on-drive b address promise) result names in
+      sector-names-block b _ (accepts (λ k. refl) none (ap At (located-sector b address promise))) result asked
 
-  -- and a block that an address names has that address
+  -- and a block that cylinder, head and sector name has these as its address, with their angle
   pub named-has-address :
-      (b : ℕ) (address : Address) → BlockAtAddress shape r t address (Block b) → (result : Located) → AddressOf shape r t b result → result ≡ LocatedAt address
-  named-has-address b address promise result located =
-      let lying = lyingOn (driveOf shape r) t (its-sector address) in
-      let passes : blockAtFault shape r t (address .cylinder) (address .head) (address .sector) ≡ 0 =
-      sym (gives-number promise (λ said. said .0) (λ k. refl) (naming-says lying (lying-naming (driveOf shape r) t (its-sector address)))) in
-      let on-drive = place-shows shape (address .cylinder) (address .head) (address .sector) (orElse-next (tableFault shape r t) _ passes) in
+      (b cylinder head sector : ℕ) → BlockAt shape r t cylinder head sector (Block b) →
+      (result : Located) → AddressOf shape r t b result → result ≡ LocatedAt (withAngle shape cylinder head sector)
+  named-has-address b cylinder head sector promise result located =
+      let s : ℕ = its-sector cylinder head sector in
+      let passes : blockAtFault shape r t cylinder head sector ≡ 0 =
+      sym (gives-number promise (λ said. said .0) (λ k. refl) (naming-says (lyingOn (driveOf shape r) t s) (lying-naming (driveOf shape r) t s))) in
+      let on-drive = place-shows shape cylinder head sector (orElse-next (tableFault shape r t) _ passes) in
       let shaped = table-ready shape r t (orElse-first (tableFault shape r t) _ passes) .shaped in
-      let there = named-there (its-sector address) b (asked-at address shaped on-drive (Block b) promise) in
+      let there = named-there s b (asked-at cylinder head sector shaped on-drive (Block b) promise) in
       located-answers b (there .0) result located ∙ rw (there .1) (ap LocatedAt (back-and-there shaped on-drive))
 
   -- an accepted replacement alters one descriptor, which was free, and leaves a table that obeys the rules, with every other block where it was

@@ -24,7 +24,7 @@ use Rattle.lists.specs.Proper.{Proper, listFault, spaceFault}
 use Rattle.lists.specs.Union.{isIn}
 use Rattle.lists.proofs.Exact.{space-exactly, space-list}
 use Rattle.shape.specs.Shapes.{Shaped, sizeOf, shapeFault}
-use Rattle.shape.specs.Addresses.{OnDrive, sectorAt, addressAt, offDriveFault, sectorOfFault as shapeSectorFault, addressOfFault as shapeAddressFault}
+use Rattle.shape.specs.Addresses.{OnDrive, sectorAt, withAngle, addressAt, offDriveFault, sectorOfFault as shapeSectorFault, addressOfFault as shapeAddressFault}
 use Rattle.shape.specs.Promises.{SectorOf as ShapeSectorOf, AddressOf as ShapeAddressOf}
 use Rattle.shape.specs.declared.Shape.{Shape}
 use Rattle.shape.specs.declared.Address.{Address}
@@ -216,13 +216,13 @@ module _ (shape : Shape) (a : List ℕ) where
     block-there = each-lies (sizeOf shape) a (drive-proper shape a drive-passes) b (skipped-block-below shape a b located-passes)
 
     same-cylinder : address .cylinder ≡ addressAt shape (place (isIn a) (sizeOf shape) b) .cylinder
-    same-cylinder = rw located-passes at (ap (λ (said : ℕ × ℕ × ℕ × ℕ). said .1) (promise .says))
+    same-cylinder = rw located-passes at (ap (λ (said : ℕ × ℕ × ℕ × ℕ × ℕ). said .1) (promise .says))
 
     same-head : address .head ≡ addressAt shape (place (isIn a) (sizeOf shape) b) .head
-    same-head = rw located-passes at (ap (λ (said : ℕ × ℕ × ℕ × ℕ). said .2) (promise .says))
+    same-head = rw located-passes at (ap (λ (said : ℕ × ℕ × ℕ × ℕ × ℕ). said .2) (promise .says))
 
     same-sector : address .sector ≡ addressAt shape (place (isIn a) (sizeOf shape) b) .sector
-    same-sector = rw located-passes at (ap (λ (said : ℕ × ℕ × ℕ × ℕ). said .3) (promise .says))
+    same-sector = rw located-passes at (ap (λ (said : ℕ × ℕ × ℕ × ℕ × ℕ). said .3) (promise .says))
 
     -- the address that is answered is on the drive
     pub address-is-on-drive : OnDrive shape (address .cylinder) (address .head) (address .sector)
@@ -251,23 +251,23 @@ module _ (shape : Shape) (a : List ℕ) where
         rw (drive-passes, tells-on-drive shape (address .cylinder) (address .head) (address .sector) .told address-is-on-drive) in
         lies-found a (sectorAt shape (address .cylinder) (address .head) (address .sector)) (blockAtFault shape a (address .cylinder) (address .head) (address .sector)) (sizeOf shape) b passes address-lies
 
-  -- the block that an address names is answered with that address
+  -- the block that cylinder, head and sector name is answered with these and their angle
   pub named-has-address :
-      (b : ℕ) (address : Address) → BlockAt shape a (address .cylinder) (address .head) (address .sector) (Block b) →
-      (result : Located) → AddressOf shape a b result → result ≡ LocatedAt address
-  named-has-address b address promise result located =
-      let sector : ℕ = sectorAt shape (address .cylinder) (address .head) (address .sector) in
-      let fault : ℕ = blockAtFault shape a (address .cylinder) (address .head) (address .sector) in
-      let passes : blockAtFault shape a (address .cylinder) (address .head) (address .sector) ≡ 0 = found-passes a sector fault (Block b) promise refl in
-      let drive : skippedFault shape a ≡ 0 = place-drive shape a (address .cylinder) (address .head) (address .sector) passes in
-      let on-drive : OnDrive shape (address .cylinder) (address .head) (address .sector) = place-on-drive shape a (address .cylinder) (address .head) (address .sector) passes in
-      let lies : Lies (isIn a) (sizeOf shape) b (sectorAt shape (address .cylinder) (address .head) (address .sector)) =
-      block-lies a sector fault (sizeOf shape) b (sector-below (drive-shaped shape a drive) on-drive) promise in
+      (b cylinder head sector : ℕ) → BlockAt shape a cylinder head sector (Block b) →
+      (result : Located) → AddressOf shape a b result → result ≡ LocatedAt (withAngle shape cylinder head sector)
+  named-has-address b cylinder head sector promise result located =
+      let there : ℕ = sectorAt shape cylinder head sector in
+      let fault : ℕ = blockAtFault shape a cylinder head sector in
+      let passes : blockAtFault shape a cylinder head sector ≡ 0 = found-passes a there fault (Block b) promise refl in
+      let drive : skippedFault shape a ≡ 0 = place-drive shape a cylinder head sector passes in
+      let on-drive : OnDrive shape cylinder head sector = place-on-drive shape a cylinder head sector passes in
+      let lies : Lies (isIn a) (sizeOf shape) b (sectorAt shape cylinder head sector) =
+      block-lies a there fault (sizeOf shape) b (sector-below (drive-shaped shape a drive) on-drive) promise in
       let accepted : addressOfFault shape a b ≡ 0 =
-      rw (drive, lt-leb (blocks (sizeOf shape) a) b (no-other (sizeOf shape) a (drive-proper shape a drive) b sector lies)) in
+      rw (drive, lt-leb (blocks (sizeOf shape) a) b (no-other (sizeOf shape) a (drive-proper shape a drive) b there lies)) in
       located .answers
       ∙ (answer-accepted _ NotLocated _ accepted
-      ∙ rw (lies-place (isIn a) (sizeOf shape) b sector lies) (ap LocatedAt (back-and-there (drive-shaped shape a drive) on-drive)))
+      ∙ rw (lies-place (isIn a) (sizeOf shape) b there lies) (ap LocatedAt (back-and-there (drive-shaped shape a drive) on-drive)))
 
   pub by-address : SkippedByAddress shape a
   by-address =

@@ -9,6 +9,7 @@ pub mod Demand2Revectored
 pub mod Demand2Census
 pub mod ReadsInPlace
 pub mod Demand3
+pub mod Angles
 pub mod ThereAndBack
 pub mod Examples
 pub mod Incident

@@ -8,6 +8,7 @@ use Rattle.demands.proofs.Demand2Revectored.{address-names-block, addre
 use Rattle.demands.proofs.ReadsInPlace.{reads-in-place}
 use Rattle.demands.proofs.Demand2Census.{census-law}
 use Rattle.demands.proofs.Demand3.{demand3}
+use Rattle.demands.proofs.Angles.{angles}
 
 pub demand2-revectored : Demand2Revectored
 demand2-revectored =
@@ -35,4 +36,4 @@ demand2-revectored =
     }
 
 pub mission : Mission
-mission = record { answers = demand1; skipped-lies = demand2-skipped; revectored-lies = demand2-revectored; nights = demand3 }
+mission = record { answers = demand1; skipped-lies = demand2-skipped; revectored-lies = demand2-revectored; nights = demand3; angles = angles }

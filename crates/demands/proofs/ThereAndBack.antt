@@ -17,7 +17,7 @@ use Rattle.shape.specs.declared.Shape.{Shape}
 use Rattle.shape.specs.declared.Address.{Address}
 use Rattle.shape.specs.declared.Located.the-variants.{At as LocatedAt, Refused as NotLocated}
 use Rattle.shape.specs.Shapes.{Shaped, sizeOf, shapeFault}
-use Rattle.shape.specs.Addresses.{OnDrive, sectorAt, addressAt, sectorOfFault, addressOfFault}
+use Rattle.shape.specs.Addresses.{OnDrive, sectorAt, withAngle, addressAt, sectorOfFault, addressOfFault}
 use Rattle.shape.specs.Promises as Shapes
 use Rattle.shape.proofs.Bounds.{sector-below}
 use Rattle.shape.proofs.Exact.{shape-shows, place-shows, sector-of-exactly, address-of-exactly}
@@ -34,22 +34,22 @@ use Rattle.demands.specs.Demand1.{WrittenImage, EachAgain}
 use Rattle.demands.proofs.Rooms.{image-write-hands}
 
 -- sector number and address of a drive
-module _ (shape : Shape) (address : Address) (x : ℕ) where
+module _ (shape : Shape) where
   sector-addressed :
-      Shapes.SectorOf shape (address .cylinder) (address .head) (address .sector) (At x) → Shapes.AddressOf shape x (LocatedAt address)
-  sector-addressed given =
-      let passes : sectorOfFault shape (address .cylinder) (address .head) (address .sector) ≡ 0 = sym (gives-number given (λ said. said .0) (λ k. refl) refl) in
-      let is : x ≡ sectorAt shape (address .cylinder) (address .head) (address .sector) = ap (λ (said : ℕ × ℕ). said .1) (gives-accepted given passes) in
+      (cylinder head sector x : ℕ) → Shapes.SectorOf shape cylinder head sector (At x) → Shapes.AddressOf shape x (LocatedAt (withAngle shape cylinder head sector))
+  sector-addressed cylinder head sector x given =
+      let passes : sectorOfFault shape cylinder head sector ≡ 0 = sym (gives-number given (λ said. said .0) (λ k. refl) refl) in
+      let is : x ≡ sectorAt shape cylinder head sector = ap (λ (said : ℕ × ℕ). said .1) (gives-accepted given passes) in
       let shaped : Shaped shape = shape-shows shape (orElse-first _ _ passes) in
-      let on-drive : OnDrive shape (address .cylinder) (address .head) (address .sector) = place-shows shape _ _ _ (orElse-next (shapeFault shape) _ passes) in
+      let on-drive : OnDrive shape cylinder head sector = place-shows shape _ _ _ (orElse-next (shapeFault shape) _ passes) in
       rw is
       (accepts (λ k. refl)
       (address-of-exactly shape _ .only 0 (later (When.passed (λ bad. bad shaped)) (When.passed (λ beyond. let below = sector-below shaped on-drive in omega arith))))
       (ap LocatedAt (sym (back-and-there shaped on-drive))))
 
   address-numbered :
-      Shapes.AddressOf shape x (LocatedAt address) → Shapes.SectorOf shape (address .cylinder) (address .head) (address .sector) (At x)
-  address-numbered given =
+      (address : Address) (x : ℕ) → Shapes.AddressOf shape x (LocatedAt address) → Shapes.SectorOf shape (address .cylinder) (address .head) (address .sector) (At x)
+  address-numbered address x given =
       let passes : addressOfFault shape x ≡ 0 = sym (gives-number given (λ said. said .0) (λ k. refl) refl) in
       let found : LocatedAt address ≡ LocatedAt (addressAt shape x) = given .answers ∙ answer-accepted (addressOfFault shape x) NotLocated (LocatedAt (addressAt shape x)) passes in
       let is : address ≡ addressAt shape x = cc in

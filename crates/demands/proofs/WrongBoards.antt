@@ -252,7 +252,7 @@ takes-sectors-strays = (refl, λ arrives. omega (arith, arrives))
 -- a shift kept unsigned: block 6 lies one cylinder nearer to cylinder 0, and 0 does not lead there
 pub truncated-shift-leads-not : (truncatedShift small 2 afterSix 6 ≡ By (pos 0)) × (ShiftLeads small 2 afterSix 6 (pos 0) → ⊥)
 unfolding allBelow placeOf firstBelow
-truncated-shift-leads-not = (refl, λ shift. let same : pos 1 ≡ pos 0 = shift .leads (record { cylinder = 0; head = 1; sector = 4 }) (accepts (λ k. refl) refl refl) in let clash : _≡_ {A = ℕ} 0 1 = cc in omega arith)
+truncated-shift-leads-not = (refl, λ shift. let same : pos 1 ≡ pos 0 = shift .leads (record { cylinder = 0; head = 1; sector = 4; angle = 1 }) (accepts (λ k. refl) refl refl) in let clash : _≡_ {A = ℕ} 0 1 = cc in omega arith)
 
 -- and 2 to the 32 less 1 is not within 1 − C to C − 1
 pub wrapped-shift-not-within : (wrappedShift small 2 afterSix 6 ≡ By (pos 4294967295)) × (ShiftLeads small 2 afterSix 6 (pos 4294967295) → ⊥)

@@ -21,7 +21,7 @@ use Rattle.shape.specs.declared.Shape.{Shape}
 use Rattle.shape.specs.declared.Address.{Address}
 use Rattle.shape.specs.declared.Located.{Located}
 use Rattle.shape.specs.declared.Located.the-variants.{At as LocatedAt}
-use Rattle.shape.specs.Addresses.{SectorOfJudged as ShapeSectorOfJudged, AddressOfJudged as ShapeAddressOfJudged}
+use Rattle.shape.specs.Addresses.{withAngle, SectorOfJudged as ShapeSectorOfJudged, AddressOfJudged as ShapeAddressOfJudged}
 use Rattle.shape.specs.Promises as Shapes
 use Rattle.skip.specs.declared.Cursor.{Cursor}
 use Rattle.skip.specs.declared.Job.{Job}
@@ -235,10 +235,10 @@ pub record WrittenImage (number : ℕ) (bytes : List ℕ) (forced : Bool) (image
 
 -- what one call wrote or answered, another reads again
 pub record EachAgain : Type 0 where
-  -- `shape::sector_of` answers sector x for an address exactly where `shape::address_of` answers that address for x
+  -- `shape::sector_of` answers sector x for cylinder, head and sector exactly where `shape::address_of` answers these for x, and their angle beside them
   pub sector-addressed :
-      (shape : Shape) (address : Address) (x : ℕ) → Shapes.SectorOf shape (address .cylinder) (address .head) (address .sector) (At x) →
-      Shapes.AddressOf shape x (LocatedAt address)
+      (shape : Shape) (cylinder head sector x : ℕ) → Shapes.SectorOf shape cylinder head sector (At x) →
+      Shapes.AddressOf shape x (LocatedAt (withAngle shape cylinder head sector))
   pub address-numbered :
       (shape : Shape) (address : Address) (x : ℕ) → Shapes.AddressOf shape x (LocatedAt address) →
       Shapes.SectorOf shape (address .cylinder) (address .head) (address .sector) (At x)

@@ -13,6 +13,7 @@ use Rattle.shape.specs.declared.Shape.{Shape}
 use Rattle.shape.specs.declared.Address.{Address}
 use Rattle.shape.specs.declared.Located.{Located}
 use Rattle.shape.specs.declared.Located.the-variants.{At as LocatedAt}
+use Rattle.shape.specs.Addresses.{withAngle}
 use Rattle.shape.specs.Promises.{SectorOf as ShapeSectorOf, AddressOf as ShapeAddressOf}
 use Rattle.layout.specs.Layouts.{driveOf, homeSector, spareSector, homeCylinder}
 use Rattle.layout.specs.Descriptors.{free, unusable, codeOf, Names}
@@ -25,13 +26,6 @@ use Rattle.spares.specs.declared.Replaced.the-variants.{Place, Refused as NotRe
 use Rattle.spares.specs.Promises.{SectorOf, AddressOf, ShiftOf, BlockOn, BlockAt, Replacement}
 use Rattle.demands.specs.Reads.{ReadsInPlace}
 use Rattle.demands.specs.Histories.{CensusLaw}
-
--- `shape::sector_of` and `block_at` for the three numbers of an address
-abbrev pub SectorOfAddress : Shape → Address → Placed → Type 0
-SectorOfAddress shape address = ShapeSectorOf shape (address .cylinder) (address .head) (address .sector)
-
-abbrev pub BlockAtAddress : Shape → ℕ → List ℕ → Address → Named → Type 0
-BlockAtAddress shape r t address = BlockAt shape r t (address .cylinder) (address .head) (address .sector)
 
 -- the result is a sector that block b lies on, and the block lies on no other
 pub record LiesThere (shape : Shape) (r : ℕ) (t : List ℕ) (b : ℕ) (result : Placed) : Type 0 where
@@ -102,19 +96,20 @@ pub record Demand2Revectored : Type 0 where
   -- And back: of the address that `address_of` answers, `shape::sector_of` answers what `sector_of` answers.
   pub sector-of-address :
       (shape : Shape) (r : ℕ) (t : List ℕ) (b : ℕ) (address : Address) → AddressOf shape r t b (LocatedAt address) →
-      (result sector : Placed) → SectorOf shape r t b result → SectorOfAddress shape address sector → result ≡ sector
+      (result sector : Placed) → SectorOf shape r t b result → ShapeSectorOf shape (address .cylinder) (address .head) (address .sector) sector →
+      result ≡ sector
   -- `block_at` answers what `block_on` answers of the sector that `shape::sector_of` answers.
   pub block-at-sector :
-      (shape : Shape) (r : ℕ) (t : List ℕ) (address : Address) (s : ℕ) → SectorOfAddress shape address (At s) →
-      (result named : Named) → BlockAtAddress shape r t address result → BlockOn shape r t s named → result ≡ named
+      (shape : Shape) (r : ℕ) (t : List ℕ) (cylinder head sector s : ℕ) → ShapeSectorOf shape cylinder head sector (At s) →
+      (result named : Named) → BlockAt shape r t cylinder head sector result → BlockOn shape r t s named → result ≡ named
   -- The address of a block names that block again.
   pub address-names-block :
       (shape : Shape) (r : ℕ) (t : List ℕ) (b : ℕ) (address : Address) → AddressOf shape r t b (LocatedAt address) →
-      (result : Named) → BlockAtAddress shape r t address result → result ≡ Block b
-  -- A block that an address names has that address.
+      (result : Named) → BlockAt shape r t (address .cylinder) (address .head) (address .sector) result → result ≡ Block b
+  -- A block that cylinder, head and sector name has these as its address, and their angle beside them.
   pub named-has-address :
-      (shape : Shape) (r : ℕ) (t : List ℕ) (b : ℕ) (address : Address) → BlockAtAddress shape r t address (Block b) →
-      (result : Located) → AddressOf shape r t b result → result ≡ LocatedAt address
+      (shape : Shape) (r : ℕ) (t : List ℕ) (b cylinder head sector : ℕ) → BlockAt shape r t cylinder head sector (Block b) →
+      (result : Located) → AddressOf shape r t b result → result ≡ LocatedAt (withAngle shape cylinder head sector)
   -- A replacement alters one descriptor.
   pub replacement-alters-one :
       (shape : Shape) (r : ℕ) (t : List ℕ) (b q : ℕ) (after : List ℕ) → Replacement shape r t b (Place q) after → AltersOne shape r t b q after

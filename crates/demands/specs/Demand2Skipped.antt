@@ -13,6 +13,7 @@ use Rattle.paper.specs.declared.Named.the-variants.{Block, NoBlock}
 use Rattle.lists.specs.Proper.{SpaceJudged}
 use Rattle.lists.specs.Union.{isIn}
 use Rattle.shape.specs.Shapes.{sizeOf}
+use Rattle.shape.specs.Addresses.{withAngle}
 use Rattle.shape.specs.Promises.{SectorOf as ShapeSectorOf, AddressOf as ShapeAddressOf}
 use Rattle.shape.specs.declared.Shape.{Shape}
 use Rattle.shape.specs.declared.Address.{Address}
@@ -85,10 +86,10 @@ pub record SkippedByAddress (shape : Shape) (a : List ℕ) : Type 0 where
   pub address-names-block :
       (b : ℕ) (address : Address) → AddressOf shape a b (LocatedAt address) →
       (result : Named) → BlockAt shape a (address .cylinder) (address .head) (address .sector) result → result ≡ Block b
-  -- a block that an address names is answered with that address
+  -- a block that cylinder, head and sector name is answered with these, and their angle beside them
   pub named-has-address :
-      (b : ℕ) (address : Address) → BlockAt shape a (address .cylinder) (address .head) (address .sector) (Block b) →
-      (result : Located) → AddressOf shape a b result → result ≡ LocatedAt address
+      (b cylinder head sector : ℕ) → BlockAt shape a cylinder head sector (Block b) →
+      (result : Located) → AddressOf shape a b result → result ≡ LocatedAt (withAngle shape cylinder head sector)
 
 -- the result is a cursor
 pub record Opens (result : Job) : Type 0 where

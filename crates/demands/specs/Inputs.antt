@@ -12,9 +12,9 @@ few = 0 ∷ 1 ∷ 2 ∷ []
 abbrev pub chart : List ℕ
 chart = 3 ∷ 7 ∷ 60 ∷ 61 ∷ []
 
--- C 2, H 2, S 5
+-- C 2, H 2, S 5; each head is a group, and the second starts two sectors after the first
 abbrev pub small : Shape
-small = record { cylinders = 2; heads = 2; sectors = 5 }
+small = record { cylinders = 2; heads = 2; sectors = 5; groups = 2; tracks = 1; offset = 2 }
 
 -- its table at r 2: eight spares, of which places 3, 4 and 5 hold these words and the others are free, and null beyond them
 abbrev pub holding : ℕ → ℕ → ℕ → List ℕ

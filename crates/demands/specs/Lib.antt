@@ -5,6 +5,7 @@ pub mod Demand2Revectored
 pub mod Reads
 pub mod Histories
 pub mod Demand3
+pub mod Angles
 pub mod Relations
 pub mod Numbered
 pub mod Inputs

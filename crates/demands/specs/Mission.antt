@@ -1,8 +1,9 @@
--- The mission: the user's three demands, each a record with a field for each sentence. `mission` of the proofs is the theorem that they hold, of whatever results the promises of the public calls allow.
+-- The mission: the user's three demands, and what the requests of document 02 add to them; each is a record with a field for each sentence. `mission` of the proofs is the theorem that they hold, of whatever results the promises of the public calls allow.
 use Rattle.demands.specs.Demand1.{Demand1}
 use Rattle.demands.specs.Demand2Skipped.{Demand2Skipped}
 use Rattle.demands.specs.Demand2Revectored.{Demand2Revectored}
 use Rattle.demands.specs.Demand3.{Demand3}
+use Rattle.demands.specs.Angles.{Angles}
 
 pub record Mission : Type 0 where
   -- 1. Every call takes any input, ends, and answers or refuses by the paper's numbers; a refusal says its number and nothing else, and lent memory keeps its bytes.
@@ -13,3 +14,5 @@ pub record Mission : Type 0 where
   pub revectored-lies : Demand2Revectored
   -- 3. After an accepted night each new block lies where you arrive by skipping the named blocks in the old numbering and following the old map; two nights, both accepted, are one night with both lists joined.
   pub nights : Demand3
+  -- Q-9. An address has its angle, (sector + offset × group) mod S; a bad g, t or offset is refusal 1; and the groups change nothing else.
+  pub angles : Angles

@@ -53,7 +53,7 @@ WrittenBy = ByTheNumbers saidWritten (λ numbers. numbers .0) (λ k. (k, 0)) (λ
 
 -- cylinder, head and sector
 abbrev pub LocatedBy : (ℕ → Type 0) → Located → Type 0
-LocatedBy = ByTheNumbers saidLocated (λ numbers. numbers .0) (λ k. (k, 0, 0, 0)) (λ k result. result ≡ NotLocated k)
+LocatedBy = ByTheNumbers saidLocated (λ numbers. numbers .0) (λ k. (k, 0, 0, 0, 0)) (λ k result. result ≡ NotLocated k)
 
 -- a job that is refused with a number, whatever cursor it hands back
 pub record JobRefused (k : ℕ) (job : Job) : Type 0 where

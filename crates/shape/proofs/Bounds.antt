@@ -1,12 +1,12 @@
--- The products of a shape are in their bounds: N fits the units of a space, and an address on the drive has a sector number below N.
+-- The products of a shape are in their bounds: N fits the units of a space, an address on the drive has a sector number below N, and a head is of one of the groups.
 -- Assumes nothing.
 use Prim.Native.Nat.{ℕ, _+_, _*_, _<_, _≤_}
-use native.Mathlib.Nat.{mul-le-mul}
+use native.Mathlib.Nat.{mul-le-mul, div-lt-iff-lt-mul, le-of-lt, le-trans}
 use lib.Arith.{digits-lt}
-use Rattle.paper.specs.Limits.{unitsMost, cylindersMost, headsMost}
+use Rattle.paper.specs.Limits.{unitsMost, cylindersMost, headsMost, sectorsMost}
 use Rattle.shape.specs.declared.Shape.{Shape}
 use Rattle.shape.specs.Shapes.{Shaped, sizeOf}
-use Rattle.shape.specs.Addresses.{OnDrive, sectorAt}
+use Rattle.shape.specs.Addresses.{OnDrive, sectorAt, groupOf}
 
 module _ {shape : Shape} (shaped : Shaped shape) where
   -- the tracks of a drive, C × H
@@ -15,6 +15,15 @@ module _ {shape : Shape} (shaped : Shaped shape) where
 
   pub size-fits : sizeOf shape ≤ unitsMost
   size-fits = mul-le-mul tracks-fit (shaped .sectors .1)
+
+  module _ {head : ℕ} (below : head < shape .heads) where
+    -- the group of a head is one of the drive's groups
+    pub group-below : groupOf shape head < shape .groups
+    group-below = div-lt-iff-lt-mul (shaped .groups .tracks .0) .1 (rw (shaped .groups .all-heads) below)
+
+    -- how many sectors after the first group its group starts
+    pub start-fits : shape .offset * groupOf shape head ≤ sectorsMost * headsMost
+    start-fits = mul-le-mul (le-trans (le-of-lt (shaped .groups .offset)) (shaped .sectors .1)) (le-trans (le-of-lt group-below) (shaped .groups .groups .1))
 
   module _ {cylinder head sector : ℕ} (on-drive : OnDrive shape cylinder head sector) where
     -- the track of an address is one of the drive's tracks

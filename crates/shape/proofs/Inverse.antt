@@ -7,7 +7,7 @@ use native.Mathlib.Omega.{arith}
 use lib.Arith.{digits-div, digits-mod}
 use Rattle.shape.specs.declared.Shape.{Shape}
 use Rattle.shape.specs.Shapes.{Shaped, sizeOf}
-use Rattle.shape.specs.Addresses.{OnDrive, sectorAt, addressAt}
+use Rattle.shape.specs.Addresses.{OnDrive, sectorAt, withAngle, addressAt}
 
 module _ {shape : Shape} (shaped : Shaped shape) where
   module _ {sector : ℕ} (below : sector < sizeOf shape) where
@@ -27,8 +27,8 @@ module _ {shape : Shape} (shaped : Shaped shape) where
         }
 
   module _ {cylinder head sector : ℕ} (on-drive : OnDrive shape cylinder head sector) where
-    -- the address of an address's sector number is that address
-    pub back-and-there : addressAt shape (sectorAt shape cylinder head sector) ≡ record { cylinder = cylinder; head = head; sector = sector }
+    -- the address of an address's sector number is that address, its angle beside
+    pub back-and-there : addressAt shape (sectorAt shape cylinder head sector) ≡ withAngle shape cylinder head sector
     back-and-there =
         rw (
           digits-div (cylinder * shape .heads + head) (on-drive .sector-below),

@@ -1,3 +1,4 @@
 pub mod Bounds
 pub mod Inverse
 pub mod Exact
+pub mod Angles

@@ -1,4 +1,4 @@
--- Document 01, "Numbers": the sector number of cylinder, head and sector, and back.
+-- Document 01, "Numbers", and document 02, Q-9: the sector number of cylinder, head and sector, and back; the angle of a sector.
 use Prim.Native.Nat.{ℕ, _+_, _*_, _/_, _%_, _<_}
 use mathlib.Core.Bool.{Bool, not, _&&_}
 use lib.Dec.{ltb, leb}
@@ -14,14 +14,21 @@ use Rattle.shape.specs.Shapes.{sizeOf, shapeFault, ShapeJudged}
 abbrev pub sectorAt : Shape → ℕ → ℕ → ℕ → ℕ
 sectorAt shape cylinder head sector = (cylinder * shape .heads + head) * shape .sectors + sector
 
+-- group = head / t
+abbrev pub groupOf : Shape → ℕ → ℕ
+groupOf shape head = head / shape .tracks
+
+-- angle = (sector + offset × group) mod S
+abbrev pub angleAt : Shape → ℕ → ℕ → ℕ
+angleAt shape head sector = (sector + shape .offset * groupOf shape head) % shape .sectors
+
+-- cylinder, head and sector, and the angle beside them
+abbrev pub withAngle : Shape → ℕ → ℕ → ℕ → Address
+withAngle shape cylinder head sector = record { cylinder = cylinder; head = head; sector = sector; angle = angleAt shape head sector }
+
 -- the address of a sector number: its track is sector / S, and divisions drop the remainder
 abbrev pub addressAt : Shape → ℕ → Address
-addressAt shape sector =
-    record {
-      cylinder = sector / shape .sectors / shape .heads;
-      head = sector / shape .sectors % shape .heads;
-      sector = sector % shape .sectors;
-    }
+addressAt shape sector = withAngle shape (sector / shape .sectors / shape .heads) (sector / shape .sectors % shape .heads) (sector % shape .sectors)
 
 -- cylinder, head and sector are each below their bound
 pub record OnDrive (shape : Shape) (cylinder head sector : ℕ) : Type 0 where

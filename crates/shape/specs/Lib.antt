@@ -1,3 +1,4 @@
 pub mod Shapes
 pub mod Addresses
 pub mod Promises
+pub mod Steps

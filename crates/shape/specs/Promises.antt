@@ -9,14 +9,14 @@ use Rattle.shape.specs.declared.Located.{Located}
 use Rattle.shape.specs.declared.Located.the-variants.{At as LocatedAt, Refused as NotLocated}
 use Rattle.shape.specs.Addresses.{sectorAt, addressAt, sectorOfFault, addressOfFault}
 
--- refusal, cylinder, head, sector
-abbrev pub saidLocated : Located → ℕ × ℕ × ℕ × ℕ
-saidLocated (LocatedAt address) = (0, address .cylinder, address .head, address .sector)
-saidLocated (NotLocated fault) = (fault, 0, 0, 0)
+-- refusal, cylinder, head, sector, angle
+abbrev pub saidLocated : Located → ℕ × ℕ × ℕ × ℕ × ℕ
+saidLocated (LocatedAt address) = (0, address .cylinder, address .head, address .sector, address .angle)
+saidLocated (NotLocated fault) = (fault, 0, 0, 0, 0)
 
 -- an address is given by a chain of checks; a refusal says its number alone
 abbrev pub GivesLocated : ℕ → Located → Located → Type 0
-GivesLocated = Gives saidLocated (λ fault. (fault, 0, 0, 0)) NotLocated
+GivesLocated = Gives saidLocated (λ fault. (fault, 0, 0, 0, 0)) NotLocated
 
 -- the sector number of cylinder, head and sector
 abbrev pub SectorOf : Shape → ℕ → ℕ → ℕ → Placed → Type 0

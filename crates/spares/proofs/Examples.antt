@@ -21,7 +21,7 @@ abbrev shifted : Shape → ℕ → List ℕ → ℕ → Shifted
 shifted shape r t b = answer (blockFault shape r t b) Refused (By (shiftOf (driveOf shape r) t b))
 
 abbrev small : Shape
-small = record { cylinders = 4; heads = 1; sectors = 3 }
+small = record { cylinders = 4; heads = 1; sectors = 3; groups = 1; tracks = 1; offset = 0 }
 
 -- four places, and null beyond them
 abbrev holding : ℕ → ℕ → ℕ → ℕ → List ℕ

@@ -1,4 +1,4 @@
--- `shape::shape_fault` meets its contract: each return is a row of the table, by what `within` answers of the three numbers.
+-- `shape::shape_fault` meets its contract: each return is a row of the table, by what `within` answers of the three numbers, and a shape in its ranges is judged by its groups.
 -- Assumes nothing.
 use borrow.Author.Needs.{needs}
 use borrow.Author.Tests.{not-true, not-false}
@@ -7,8 +7,7 @@ use Rattle.paper.specs.Limits.{cylindersMost, headsMost, sectorsLeast, sectorsM
 use Rattle.paper.specs.Refusals.{outOfRange}
 use Rattle.paper.specs.Exactly.{When}
 use Rattle.paper.proofs.Rows.{tells-within, tells-false}
-use Rattle.shape.specs.Shapes.{Shaped}
-use Rattle.shape.proofs.Exact.{shape-exactly}
+use Rattle.shape.proofs.Exact.{shape-exactly, ranges-leave-groups}
 use Rattle.shape.proofs.shape_fault.Statement.{statement}
 use Rattle.shape.proofs.shape_fault.Tie as tie
 
@@ -36,15 +35,17 @@ returns-3 c =
     let sectors = tells-within sectorsLeast sectorsMost (c .before .before .before .before .before .before .args .shape .sectors) in
     sym (shape-exactly (c .before .before .before .before .before .before .args .shape) .only outOfRange (When.given (λ shaped. tells-false sectors (sym (c .before .within3 .ensures) ∙ not-true _ (c .if3 .taken)) (shaped .sectors))))
 
+group-fault-requires : tie.Need-group-fault-requires
+group-fault-requires c κs = search needs
+
 returns-4 : tie.Need-returns-4
 returns-4 c =
-    let shape = c .before .before .before .before .before .before .args .shape in
-    let ranges : Shaped shape = record {
-      cylinders = tells-within 1 cylindersMost (shape .cylinders) .holds (sym (c .before .before .before .before .before .within .ensures) ∙ not-false _ (c .before .before .before .before .if1 .left));
-      heads = tells-within 1 headsMost (shape .heads) .holds (sym (c .before .before .before .within2 .ensures) ∙ not-false _ (c .before .before .if2 .left));
-      sectors = tells-within sectorsLeast sectorsMost (shape .sectors) .holds (sym (c .before .within3 .ensures) ∙ not-false _ (c .if3 .left));
-    } in
-    sym (shape-exactly shape .only 0 (When.passed (λ unshaped. unshaped ranges)))
+    let shape = c .before .before .before .before .before .before .before .args .shape in
+    c .group-fault .ensures
+    ∙ ranges-leave-groups shape
+    (tells-within 1 cylindersMost (shape .cylinders) .holds (sym (c .before .before .before .before .before .before .within .ensures) ∙ not-false _ (c .before .before .before .before .before .if1 .left)))
+    (tells-within 1 headsMost (shape .heads) .holds (sym (c .before .before .before .before .within2 .ensures) ∙ not-false _ (c .before .before .before .if2 .left)))
+    (tells-within sectorsLeast sectorsMost (shape .sectors) .holds (sym (c .before .before .within3 .ensures) ∙ not-false _ (c .before .if3 .left)))
 
 pub shape-fault-spec : {M : Type 1} → statement M
 shape-fault-spec =
@@ -56,4 +57,5 @@ shape-fault-spec =
     returns-2
     within-requires-3
     returns-3
+    group-fault-requires
     returns-4)

@@ -1,0 +1,25 @@
+-- `shape::angle_at` meets its contract: no step wraps, since the offset is below the sectors of a track and the group below the heads of a drive.
+-- Assumes nothing.
+use borrow.Author.Needs.{needs}
+use native.Mathlib.Omega.{arith}
+use Rattle.shape.proofs.Bounds.{start-fits}
+use Rattle.shape.proofs.angle_at.Statement.{statement}
+use Rattle.shape.proofs.angle_at.Tie as tie
+
+div-group : tie.Need-div-group
+div-group c = search needs
+
+mul-result : tie.Need-mul-result
+mul-result c = omega (arith, start-fits (c .before .before .pre .0) (c .before .before .pre .1 .0))
+
+add-result : tie.Need-add-result
+add-result c = omega (arith, start-fits (c .before .before .pre .0) (c .before .before .pre .1 .0))
+
+rem-result : tie.Need-rem-result
+rem-result c = search needs
+
+returns : tie.Need-returns
+returns c = search needs
+
+pub angle-at-spec : {M : Type 1} → statement M
+angle-at-spec = tie.close (tie.spec div-group mul-result add-result rem-result returns)
