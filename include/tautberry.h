@@ -39,7 +39,7 @@ extern "C" {
 
 enum tb_refusal {
     TB_ACCEPTED = 0,
-    TB_OUT_OF_RANGE = 1,      /* N, a number of the shape, r, or the number of all spares is out of its range */
+    TB_OUT_OF_RANGE = 1,      /* N, r, a number of the shape or that of all spares is out of its range, or heads is not groups x tracks */
     TB_TOO_LONG = 2,          /* a list is, or a list to be made would be, longer than TB_LIST_MOST */
     TB_NOT_RISING = 3,        /* an entry of a list does not exceed the entry before it */
     TB_OUTSIDE = 4,           /* an entry of a list is not a unit of its space */
@@ -63,7 +63,7 @@ enum tb_refusal {
 
 #define TB_UNITS_MOST 16777216u   /* N: sectors of a drive */
 #define TB_CYLINDERS_MOST 4096u   /* cylinders of a shape, from 1 */
-#define TB_HEADS_MOST 64u         /* heads of a shape, from 1 */
+#define TB_HEADS_MOST 64u         /* heads of a shape, from 1; groups, and tracks of a group, have the same range */
 #define TB_SECTORS_LEAST 2u       /* sectors of a track */
 #define TB_SECTORS_MOST 64u
 #define TB_LIST_MOST 4096u        /* entries of a list */
@@ -89,16 +89,26 @@ enum tb_refusal {
 
 /* ---- What goes in and comes out ---- */
 
+/* The heads of a drive are `groups` groups of `tracks` tracks each, one track to a head, so groups x tracks is heads. Each group starts
+ * `offset` sectors after the one before it, so that a read can go on from group to group. A drive without groups is one group of all
+ * heads: groups is 1, tracks is heads, and offset is 0. */
 typedef struct tb_shape {
     uint32_t cylinders;
     uint32_t heads;
     uint32_t sectors; /* of a track, its spares among them */
+    uint32_t groups;  /* of heads */
+    uint32_t tracks;  /* of a group */
+    uint32_t offset;  /* in sectors, 0 to sectors - 1 */
 } tb_shape;
 
+/* The angle says where on the turn of the disc a sector lies: it is (sector + offset x group) mod sectors, and the group of a head is
+ * head / tracks, without the remainder. With one group the angle is the sector, whatever the offset. Calls answer an angle, and none takes
+ * one: cylinder, head and sector name a sector. */
 typedef struct tb_address {
     uint32_t cylinder;
     uint32_t head;
     uint32_t sector; /* in its track */
+    uint32_t angle;  /* 0 to sectors - 1 */
 } tb_address;
 
 /* Where a job stands. Both numbers come from a call and go back as they are. */
@@ -213,7 +223,7 @@ tb_job tb_job_step(tb_cursor cursor, uint32_t n, const uint32_t *list, size_t li
  * Checks: TB_OUT_OF_RANGE (shape), TB_NO_SUCH_SECTOR (any of the three). Answers sector. Writes nothing. */
 tb_placed tb_shape_sector(tb_shape shape, uint32_t cylinder, uint32_t head, uint32_t sector);
 
-/* Sector number to cylinder, head and sector.
+/* Sector number to cylinder, head, sector and angle.
  * Checks: TB_OUT_OF_RANGE (shape), TB_NO_SUCH_SECTOR. Answers address. Writes nothing. */
 tb_located tb_shape_address(tb_shape shape, uint32_t sector);
 
@@ -223,7 +233,7 @@ tb_located tb_shape_address(tb_shape shape, uint32_t sector);
  * Checks: TB_OUT_OF_RANGE (shape), list, TB_NO_SUCH_BLOCK. Answers address. Writes nothing. */
 tb_located tb_skipped_address(tb_shape shape, const uint32_t *list, size_t list_length, uint32_t block);
 
-/* The block that lies at an address; a sector of the list has none.
+/* The block that lies at a cylinder, head and sector; a sector of the list has none.
  * Checks: TB_OUT_OF_RANGE (shape), list, TB_NO_SUCH_SECTOR (any of the three). Answers found and block. Writes nothing. */
 tb_named tb_skipped_block(tb_shape shape, const uint32_t *list, size_t list_length, uint32_t cylinder, uint32_t head, uint32_t sector);
 

@@ -1,5 +1,6 @@
-/* Holds include/tautberry.h to libboard.a by what the calls do: the size and the fields of each struct, each limit at its last number and one
- * beyond, each refusal number, and NULL for each slice of length 0. It is compiled as C and as C++. It returns 1 if anything differs. */
+/* Holds include/tautberry.h to libboard.a by what the calls do: the size and the fields of each struct, the angle of a sector, each limit at its
+ * last number and one beyond, bad groups in each call that takes a shape, each refusal number, and NULL for each slice of length 0. It is
+ * compiled as C and as C++. It returns 1 if anything differs. */
 #include <inttypes.h>
 #include <stdio.h>
 #include <string.h>
@@ -30,13 +31,22 @@ static uint8_t spare[TB_TRACK_LENGTH(5) + 1];
 static uint8_t data[TB_DATA_SIZE + 1];
 static uint8_t image[TB_IMAGE_SIZE + 1];
 
-static tb_shape shaped(uint32_t cylinders, uint32_t heads, uint32_t sectors)
+static tb_shape grouped(uint32_t cylinders, uint32_t heads, uint32_t sectors, uint32_t groups, uint32_t tracks, uint32_t offset)
 {
     tb_shape shape;
     shape.cylinders = cylinders;
     shape.heads = heads;
     shape.sectors = sectors;
+    shape.groups = groups;
+    shape.tracks = tracks;
+    shape.offset = offset;
     return shape;
+}
+
+/* A shape without groups. */
+static tb_shape shaped(uint32_t cylinders, uint32_t heads, uint32_t sectors)
+{
+    return grouped(cylinders, heads, sectors, 1, heads, 0);
 }
 
 static tb_cursor cursor_at(uint32_t block, uint32_t skipped)
@@ -54,13 +64,13 @@ static uint32_t format(uint32_t space, uint32_t option, size_t d_length)
 
 static void sizes(void)
 {
-    same("sizeof (tb_shape)", sizeof(tb_shape), 12);
-    same("sizeof (tb_address)", sizeof(tb_address), 12);
+    same("sizeof (tb_shape)", sizeof(tb_shape), 24);
+    same("sizeof (tb_address)", sizeof(tb_address), 16);
     same("sizeof (tb_cursor)", sizeof(tb_cursor), 8);
     same("sizeof (tb_placed)", sizeof(tb_placed), 8);
     same("sizeof (tb_named)", sizeof(tb_named), 12);
     same("sizeof (tb_job)", sizeof(tb_job), 16);
-    same("sizeof (tb_located)", sizeof(tb_located), 16);
+    same("sizeof (tb_located)", sizeof(tb_located), 20);
     same("sizeof (tb_paged)", sizeof(tb_paged), 16);
     same("sizeof (tb_written)", sizeof(tb_written), 8);
     same("sizeof (tb_formatted)", sizeof(tb_formatted), 16);
@@ -70,13 +80,27 @@ static void sizes(void)
     same("sizeof (tb_headed)", sizeof(tb_headed), 8);
     same("sizeof (tb_judged)", sizeof(tb_judged), 4);
     same("sizeof (tb_spotted)", sizeof(tb_spotted), 12);
+
+    same("offsetof (tb_shape, cylinders)", offsetof(tb_shape, cylinders), 0);
+    same("offsetof (tb_shape, heads)", offsetof(tb_shape, heads), 4);
+    same("offsetof (tb_shape, sectors)", offsetof(tb_shape, sectors), 8);
+    same("offsetof (tb_shape, groups)", offsetof(tb_shape, groups), 12);
+    same("offsetof (tb_shape, tracks)", offsetof(tb_shape, tracks), 16);
+    same("offsetof (tb_shape, offset)", offsetof(tb_shape, offset), 20);
+    same("offsetof (tb_address, cylinder)", offsetof(tb_address, cylinder), 0);
+    same("offsetof (tb_address, head)", offsetof(tb_address, head), 4);
+    same("offsetof (tb_address, sector)", offsetof(tb_address, sector), 8);
+    same("offsetof (tb_address, angle)", offsetof(tb_address, angle), 12);
+    same("offsetof (tb_located, refusal)", offsetof(tb_located, refusal), 0);
+    same("offsetof (tb_located, address)", offsetof(tb_located, address), 4);
 }
 
 /* Each field of each struct, by an answer in which no two numbers are alike. */
 static void fields(void)
 {
     const uint32_t list[4] = {3, 7, 60, 61};
-    const tb_shape shape = shaped(2, 2, 5);
+    const tb_shape shape = grouped(2, 2, 5, 2, 1, 3);
+    const tb_shape larger = grouped(9, 8, 5, 4, 2, 3);
 
     tb_placed placed = tb_skip_sector(848, list, 4, 58);
     same("tb_skip_sector refusal", placed.refusal, TB_ACCEPTED);
@@ -115,19 +139,22 @@ static void fields(void)
     same("tb_job_check next.block, refused", job.next.block, 0);
     same("tb_job_check next.skipped, refused", job.next.skipped, 0);
 
-    same("tb_shape_sector", tb_shape_sector(shaped(9, 7, 5), 8, 6, 4).sector, (8 * 7 + 6) * 5 + 4);
-    tb_located located = tb_shape_address(shaped(9, 7, 5), (8 * 7 + 6) * 5 + 4);
+    same("tb_shape_sector", tb_shape_sector(larger, 8, 6, 4).sector, (8 * 8 + 6) * 5 + 4);
+    tb_located located = tb_shape_address(larger, (8 * 8 + 6) * 5 + 4);
     same("tb_shape_address refusal", located.refusal, TB_ACCEPTED);
     same("tb_shape_address cylinder", located.address.cylinder, 8);
     same("tb_shape_address head", located.address.head, 6);
     same("tb_shape_address sector", located.address.sector, 4);
-    located = tb_skipped_address(shape, list, 2, 9);
-    same("tb_skipped_address cylinder", located.address.cylinder, 1);
-    same("tb_skipped_address head", located.address.head, 0);
-    same("tb_skipped_address sector", located.address.sector, 1);
-    named = tb_skipped_block(shape, list, 2, 1, 0, 1);
+    same("tb_shape_address angle", located.address.angle, 3);
+    located = tb_skipped_address(larger, list, 4, 350);
+    same("tb_skipped_address refusal", located.refusal, TB_ACCEPTED);
+    same("tb_skipped_address cylinder", located.address.cylinder, 8);
+    same("tb_skipped_address head", located.address.head, 6);
+    same("tb_skipped_address sector", located.address.sector, 4);
+    same("tb_skipped_address angle", located.address.angle, 3);
+    named = tb_skipped_block(larger, list, 4, 8, 6, 4);
     same("tb_skipped_block found", named.found, 1);
-    same("tb_skipped_block block", named.block, 9);
+    same("tb_skipped_block block", named.block, 350);
 
     tb_written written = tb_page_write(20, 1, list, 2, page, sizeof page);
     same("tb_page_write refusal", written.refusal, TB_ACCEPTED);
@@ -179,6 +206,7 @@ static void fields(void)
     same("tb_spare_address cylinder", located.address.cylinder, 0);
     same("tb_spare_address head", located.address.head, 1);
     same("tb_spare_address sector", located.address.sector, 4);
+    same("tb_spare_address angle", located.address.angle, 2);
     named = tb_spare_block(shape, 2, words, 128, 9);
     same("tb_spare_block found", named.found, 1);
     same("tb_spare_block block", named.block, 6);
@@ -200,6 +228,38 @@ static void fields(void)
     same("tb_read_data offset", spotted.offset, 4 * TB_IMAGE_SIZE + TB_HEADER_SIZE);
 }
 
+/* A sector number has this address and this angle, and the address leads back to it. */
+static void located_at(tb_shape shape, uint32_t number, uint32_t cylinder, uint32_t head, uint32_t sector, uint32_t angle)
+{
+    const tb_located located = tb_shape_address(shape, number);
+    same("refusal of an address", located.refusal, TB_ACCEPTED);
+    same("cylinder of an address", located.address.cylinder, cylinder);
+    same("head of an address", located.address.head, head);
+    same("sector of an address", located.address.sector, sector);
+    same("angle of an address", located.address.angle, angle);
+    same("sector number of an address", tb_shape_sector(shape, cylinder, head, sector).sector, number);
+}
+
+/* Angles in each group, at the largest product of offset and group, and with one group. */
+static void angles(void)
+{
+    const tb_shape shape = grouped(2, 4, 5, 2, 2, 3);
+    const tb_shape largest = grouped(TB_CYLINDERS_MOST, TB_HEADS_MOST, TB_SECTORS_MOST, TB_HEADS_MOST, 1, TB_SECTORS_MOST - 1);
+
+    located_at(shape, 0, 0, 0, 0, 0);
+    located_at(shape, 9, 0, 1, 4, 4);
+    located_at(shape, 10, 0, 2, 0, 3);
+    located_at(shape, 13, 0, 2, 3, 1);
+    located_at(shape, 19, 0, 3, 4, 2);
+    located_at(shape, 20, 1, 0, 0, 0);
+    located_at(shape, 39, 1, 3, 4, 2);
+    located_at(largest, TB_UNITS_MOST - 1, 4095, 63, 63, 0);
+    located_at(largest, TB_UNITS_MOST - 64, 4095, 63, 0, 1);
+    for (uint32_t offset = 0; offset < 5; offset++) {
+        located_at(grouped(2, 4, 5, 1, 4, offset), 39, 1, 3, 4, 4);
+    }
+}
+
 /* Each limit: its last number accepted, and the one beyond refused. */
 static void limits(void)
 {
@@ -212,7 +272,12 @@ static void limits(void)
     same("TB_CYLINDERS_MOST + 1", tb_shape_sector(shaped(TB_CYLINDERS_MOST + 1, 1, 2), 0, 0, 0).refusal, TB_OUT_OF_RANGE);
     same("heads 0", tb_shape_sector(shaped(1, 0, 2), 0, 0, 0).refusal, TB_OUT_OF_RANGE);
     same("TB_HEADS_MOST", tb_shape_sector(shaped(1, TB_HEADS_MOST, 2), 0, 0, 0).refusal, TB_ACCEPTED);
-    same("TB_HEADS_MOST + 1", tb_shape_sector(shaped(1, TB_HEADS_MOST + 1, 2), 0, 0, 0).refusal, TB_OUT_OF_RANGE);
+    /* 65 heads are 5 groups of 13, so that only the heads are at fault. */
+    same("TB_HEADS_MOST + 1", tb_shape_sector(grouped(1, TB_HEADS_MOST + 1, 2, 5, 13, 0), 0, 0, 0).refusal, TB_OUT_OF_RANGE);
+    same("TB_HEADS_MOST groups", tb_shape_sector(grouped(1, TB_HEADS_MOST, 2, TB_HEADS_MOST, 1, 0), 0, 0, 0).refusal, TB_ACCEPTED);
+    same("TB_HEADS_MOST + 1 groups", tb_shape_sector(grouped(1, TB_HEADS_MOST, 2, TB_HEADS_MOST + 1, 1, 0), 0, 0, 0).refusal, TB_OUT_OF_RANGE);
+    same("TB_HEADS_MOST tracks", tb_shape_sector(grouped(1, TB_HEADS_MOST, 2, 1, TB_HEADS_MOST, 0), 0, 0, 0).refusal, TB_ACCEPTED);
+    same("TB_HEADS_MOST + 1 tracks", tb_shape_sector(grouped(1, TB_HEADS_MOST, 2, 1, TB_HEADS_MOST + 1, 0), 0, 0, 0).refusal, TB_OUT_OF_RANGE);
     same("TB_SECTORS_LEAST - 1", tb_shape_sector(shaped(1, 1, TB_SECTORS_LEAST - 1), 0, 0, 0).refusal, TB_OUT_OF_RANGE);
     same("TB_SECTORS_LEAST", tb_shape_sector(shaped(1, 1, TB_SECTORS_LEAST), 0, 0, 0).refusal, TB_ACCEPTED);
     same("TB_SECTORS_MOST", tb_shape_sector(shaped(1, 1, TB_SECTORS_MOST), 0, 0, 0).refusal, TB_ACCEPTED);
@@ -278,6 +343,65 @@ static void limits(void)
                  tb_read_judge(shape, 2, words, 128, 0, home, TB_TRACK_LENGTH(5) - 1 + more, spare, TB_TRACK_LENGTH(5) - 1 + other).refusal,
                  more == 1 && other == 1 ? TB_ACCEPTED : TB_WRONG_LENGTH);
         }
+    }
+}
+
+/* A refused answer: the number, and zeros behind it. */
+static void refused(const char *call, const void *answer, size_t size, uint32_t refusal)
+{
+    uint32_t numbers[sizeof(tb_counted) / sizeof(uint32_t)];
+    memcpy(numbers, answer, size);
+    same(call, numbers[0], refusal);
+    for (size_t i = 1; i < size / sizeof(uint32_t); i++) {
+        same(call, numbers[i], 0);
+    }
+}
+
+#define REFUSED(type, call, refusal) \
+    do { \
+        const type answer = call; \
+        refused(#call, &answer, sizeof answer, refusal); \
+    } while (0)
+
+/* Each call that takes a shape, with a fault behind the shape. Bad groups are refused before it, and nothing is written. */
+static void in_each_call(tb_shape shape, bool bad)
+{
+    const uint32_t no_sector = bad ? TB_OUT_OF_RANGE : TB_NO_SUCH_SECTOR;
+    const uint32_t no_list = bad ? TB_OUT_OF_RANGE : TB_TOO_LONG;
+    const uint32_t no_table = bad ? TB_OUT_OF_RANGE : TB_BAD_TABLE;
+
+    REFUSED(tb_placed, tb_shape_sector(shape, 2, 4, 5), no_sector);
+    REFUSED(tb_located, tb_shape_address(shape, 40), no_sector);
+    REFUSED(tb_located, tb_skipped_address(shape, places, TB_LIST_MOST + 1, 40), no_list);
+    REFUSED(tb_named, tb_skipped_block(shape, places, TB_LIST_MOST + 1, 2, 4, 5), no_list);
+    memset(words, 0xA5, sizeof words);
+    REFUSED(tb_placed, tb_spare_sector(shape, 2, words, 1, 24), no_table);
+    REFUSED(tb_located, tb_spare_address(shape, 2, words, 1, 24), no_table);
+    REFUSED(tb_shifted, tb_spare_shift(shape, 2, words, 1, 24), no_table);
+    REFUSED(tb_named, tb_spare_block(shape, 2, words, 1, 40), no_table);
+    REFUSED(tb_named, tb_spare_block_at(shape, 2, words, 1, 2, 4, 5), no_table);
+    REFUSED(tb_replaced, tb_spare_replace(shape, 2, words, 1, 24), no_table);
+    REFUSED(tb_counted, tb_spare_census(shape, 2, words, 1), no_table);
+    REFUSED(tb_written, tb_spare_first(shape, 2, places, TB_LIST_MOST + 1, words, 1), no_list);
+    REFUSED(tb_judged, tb_read_judge(shape, 2, words, 1, 24, home, 1, spare, 1), no_table);
+    REFUSED(tb_spotted, tb_read_data(shape, 2, words, 1, 24, home, 1, spare, 1), no_table);
+    same("the first place of a room, refused", words[0], 0xA5A5A5A5);
+}
+
+/* Good groups and bad ones of four heads and five sectors. Two of the products are 4 in 32 bits. */
+static void groups(void)
+{
+    const uint32_t good[][3] = {{1, 4, 0}, {1, 4, 4}, {2, 2, 0}, {2, 2, 4}, {4, 1, 4}};
+    const uint32_t bad[][3] = {
+        {0, 4, 0}, {4, 0, 0}, {0, 0, 0}, {2, 3, 0}, {4, 2, 0}, {1, 2, 0}, {1, 4, 5}, {2, 2, 5}, {2, 2, 4294967295},
+        {65536, 65536, 0}, {1073741825, 4, 0}, {4, 1073741825, 0},
+    };
+
+    for (size_t i = 0; i < sizeof good / sizeof good[0]; i++) {
+        in_each_call(grouped(2, 4, 5, good[i][0], good[i][1], good[i][2]), false);
+    }
+    for (size_t i = 0; i < sizeof bad / sizeof bad[0]; i++) {
+        in_each_call(grouped(2, 4, 5, bad[i][0], bad[i][1], bad[i][2]), true);
     }
 }
 
@@ -382,7 +506,9 @@ int main(void)
     }
     sizes();
     fields();
+    angles();
     limits();
+    groups();
     refusals();
     nothing_lent();
 #ifdef __cplusplus

@@ -9,7 +9,10 @@
 enum { CYLINDERS = 2, HEADS = 2, SECTORS = 5, SPARES_OF_TRACK = 2 };
 enum { HOMES_OF_TRACK = SECTORS - SPARES_OF_TRACK, TRACKS = CYLINDERS * HEADS };
 
-static const tb_shape shape = {CYLINDERS, HEADS, SECTORS};
+/* Each head is a group of its own. Under the second one the angle of a sector is not the sector. */
+enum { GROUPS = 2, TRACKS_OF_GROUP = HEADS / GROUPS, OFFSET = 2 };
+
+static const tb_shape shape = {CYLINDERS, HEADS, SECTORS, GROUPS, TRACKS_OF_GROUP, OFFSET};
 static const uint32_t r = SPARES_OF_TRACK;
 static uint32_t table[TB_TABLE_LENGTH(TRACKS * SPARES_OF_TRACK)];
 static const size_t table_length = sizeof table / sizeof table[0];
@@ -66,6 +69,17 @@ static void census(uint32_t free_places)
     must(counted.free + counted.primary + counted.elsewhere + counted.unusable + counted.null == table_length, "the census counts every place once");
 }
 
+/* Says where a block lies. Its address leads back to its sector number. */
+static void locate(uint32_t block, uint32_t sector, uint32_t angle)
+{
+    tb_located located = tb_spare_address(shape, r, table, table_length, block);
+    tb_placed placed = tb_shape_sector(shape, located.address.cylinder, located.address.head, located.address.sector);
+    printf("  block %" PRIu32 " lies at cylinder %" PRIu32 ", head %" PRIu32 ", sector %" PRIu32 ", angle %" PRIu32 ": sector number %" PRIu32 "\n",
+           block, located.address.cylinder, located.address.head, located.address.sector, located.address.angle, placed.sector);
+    must(located.refusal == TB_ACCEPTED && placed.refusal == TB_ACCEPTED && placed.sector == sector, "the sector of a block");
+    must(located.address.angle == angle, "the angle of a block");
+}
+
 /* Reads a block from the images of its home track and of the track that it lies on now. */
 static uint32_t read_block(uint32_t block, const char *text)
 {
@@ -91,11 +105,13 @@ static uint32_t read_block(uint32_t block, const char *text)
 int main(void)
 {
     printf("A drive of %d cylinders, %d heads and %d sectors a track, the last %d of them spares: %d blocks.\n", CYLINDERS, HEADS, SECTORS, SPARES_OF_TRACK, TRACKS * HOMES_OF_TRACK);
+    printf("Its heads are %d groups with %d track each, and each group starts %d sectors after the one before it.\n", GROUPS, TRACKS_OF_GROUP, OFFSET);
 
     puts("Its first table, with no bad sector known:");
     tb_written first = tb_spare_first(shape, r, NULL, 0, table, table_length);
     must(first.refusal == TB_ACCEPTED && first.length == table_length, "the first table");
     census(8);
+    locate(6, 10, 0);
     write_drive("Monday's log");
     must(read_block(6, "Monday's log") == TB_ACCEPTED, "block 6 reads well at home");
 
@@ -104,11 +120,7 @@ int main(void)
     replace(8, 5, 0x30000008, 0);
     replace(6, 3, 0x30000006, -1);
     census(5);
-
-    tb_located located = tb_spare_address(shape, r, table, table_length, 6);
-    tb_placed placed = tb_shape_sector(shape, located.address.cylinder, located.address.head, located.address.sector);
-    printf("  block 6 now lies at cylinder %" PRIu32 ", head %" PRIu32 ", sector %" PRIu32 ": sector number %" PRIu32 "\n", located.address.cylinder, located.address.head, located.address.sector, placed.sector);
-    must(located.refusal == TB_ACCEPTED && placed.refusal == TB_ACCEPTED && placed.sector == 9, "the sector of block 6");
+    locate(6, 9, 1);
 
     puts("Nothing names block 6 on its spare yet; then it is written there:");
     must(read_block(6, "") == TB_OTHER_BLOCK, "a spare that was not written is refused");

@@ -46,7 +46,7 @@ static bool forced;
 static bool lay(unsigned situation)
 {
     n = TB_UNITS_MOST, unit = n - 1, unit_block = n - TB_LIST_MOST - 1;
-    shape.cylinders = TRACKS, shape.heads = 1, shape.sectors = SECTORS, r = 1;
+    shape.cylinders = TRACKS, shape.heads = shape.groups = shape.tracks = 1, shape.sectors = SECTORS, shape.offset = 0, r = 1;
     cylinder = TRACKS - 1, head = 0, in_track = 0, sector = SECTORS * cylinder, skipped_block = TRACKS * SECTORS - TB_LIST_MOST - 1;
     block = ON_SPARE, replaced = AT_HOME, kind = 1, space = 3, option = 1, forced = false;
     cursor.block = unit_block, cursor.skipped = TB_LIST_MOST;
@@ -67,7 +67,9 @@ static bool lay(unsigned situation)
     uint8_t *const last_entry = page + TB_PAGE_MOST - 2 * TB_ENTRY_SIZE;
     switch (situation) {
     case 0: return true; /* all is well */
-    case 1: block = AT_HOME, sector += HOMES, in_track = HOMES, forced = true, kind = 0, option = 6, d_length = 0; return true; /* and otherwise */
+    case 1: /* and otherwise, with groups */
+        shape.cylinders = TRACKS / 2, shape.heads = shape.groups = 2, shape.offset = SECTORS - 1, cylinder = TRACKS / 2 - 1, head = 1;
+        block = AT_HOME, sector += HOMES, in_track = HOMES, forced = true, kind = 0, option = 6, d_length = 0; return true;
     case 2: n = 0, shape.sectors = TB_SECTORS_LEAST - 1; return true;
     case 3: n = TB_UNITS_MOST + 1, shape.cylinders = TB_SPARES_MOST + 1; return true; /* a drive with one spare too many */
     case 4: r = SECTORS; return true;
@@ -108,6 +110,10 @@ static bool lay(unsigned situation)
     case 39: tb_image_write(AT_HOME, data, sizeof data, false, image, TB_IMAGE_SIZE); return true;
     case 40: tb_image_write(ON_SPARE, data, sizeof data, true, image, TB_IMAGE_SIZE); return true;
     case 41: image[TB_IMAGE_SIZE - 1]++; return true;
+    case 42: shape.groups = 0; return true;
+    case 43: shape.tracks = TB_HEADS_MOST + 1; return true;
+    case 44: shape.groups++; return true; /* more tracks than heads */
+    case 45: shape.offset = SECTORS; return true;
     default: return false;
     }
 }

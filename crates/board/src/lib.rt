@@ -76,7 +76,7 @@ pub extern "C" fn tb_shape_sector(shape: Shape, cylinder: u32, head: u32, sector
     answers::placed(shape::sector_of(shape, cylinder, head, sector))
 }
 
-// Sector number to cylinder, head and sector. Checks 1, 6.
+// Sector number to cylinder, head, sector and angle. Checks 1, 6.
 #[no_mangle]
 pub extern "C" fn tb_shape_address(shape: Shape, sector: u32) -> TbLocated
     ensures { λ result. ⌜ TellsLocated (ShapeAddressOf shape sector) result ⌝ }
@@ -92,7 +92,7 @@ pub extern "C" fn tb_skipped_address(shape: Shape, list: &[u32], block: u32) -> 
     answers::located(skipped::address_of(shape, list, block))
 }
 
-// The block that lies at an address of a skipped drive, or none. Checks 1, list, 6.
+// The block that lies at a cylinder, head and sector of a skipped drive, or none. Checks 1, list, 6.
 #[no_mangle]
 pub extern "C" fn tb_skipped_block(
     shape: Shape,
@@ -171,7 +171,7 @@ pub extern "C" fn tb_spare_block(shape: Shape, r: u32, table: &[u32], sector: u3
     answers::named(spares::block_on(shape, r, table, sector))
 }
 
-// The block that lies at an address of a revectored drive, or none. Checks 1, 11, 6.
+// The block that lies at a cylinder, head and sector of a revectored drive, or none. Checks 1, 11, 6.
 #[no_mangle]
 pub extern "C" fn tb_spare_block_at(
     shape: Shape,

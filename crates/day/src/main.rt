@@ -28,6 +28,9 @@ fn drive() -> Shape {
         cylinders: 2,
         heads: 2,
         sectors: 5,
+        groups: 2,
+        tracks: 1,
+        offset: 2,
     }
 }
 
@@ -128,13 +131,17 @@ fn tell_replacement(block: u32, words: &[u8], table: &mut [u32]) {
     tell_shift(table, block);
 }
 
-// Writes the shape of the drive.
+// Writes the shape of the drive, and where its second head starts.
 fn tell_drive(shape: Shape) {
     telling::number(b"The drive: ", shape.cylinders);
     telling::number(b" cylinders, ", shape.heads);
     telling::number(b" heads, ", shape.sectors);
     telling::number(b" sectors to a track, the last ", SPARES);
     telling::line(b" of them spares");
+    telling::number(b"Its heads are ", shape.groups);
+    telling::number(b" groups of ", shape.tracks);
+    telling::number(b" track, and each starts ", shape.offset);
+    telling::line(b" sectors after the one before it");
 }
 
 // The gauge log at home.

@@ -1,5 +1,5 @@
 -- Wrong boards, each wrong in one respect, with the inputs that they are tried at.
-use Prim.Native.Nat.{ℕ, zero, suc, _+_, _-_, _%_, _^_}
+use Prim.Native.Nat.{ℕ, zero, suc, _+_, _-_, _*_, _%_, _^_}
 use mathlib.Core.Path.{_≡_}
 use mathlib.Core.Bool.{Bool, false, not}
 use mathlib.Core.List.{List, [], _∷_, _++_, map}
@@ -18,6 +18,9 @@ use Rattle.words.specs.Words.{bytesOf}
 use Rattle.lists.specs.Union.{isIn, union}
 use Rattle.paper.specs.Promise.{written}
 use Rattle.shape.specs.declared.Shape.{Shape}
+use Rattle.shape.specs.declared.Located.{Located}
+use Rattle.shape.specs.declared.Located.the-variants.{At as LocatedAt, Refused as NotLocated}
+use Rattle.shape.specs.Addresses.{groupOf, addressAt, addressOfFault}
 use Rattle.skip.specs.Skipping.{goodsBefore, place, after}
 use Rattle.skip.specs.Walk.{entriesBelow}
 use Rattle.skip.specs.Translation.{sectorOfFault}
@@ -170,6 +173,27 @@ takesSectors n p g space option d grown list = (
   answer (formatFault n p g space option d grown list) (λ fault. grown) (written (grownAsSectors n p g space option d) grown),
   answer (formatFault n p g space option d grown list) (λ fault. list) (written (listAsSectors n p g space option d) list),
 )
+
+-- Boards for angles.
+
+-- shape::address_of: the right place, with an angle of its own
+abbrev pub angledBy : (Shape → ℕ → ℕ → ℕ) → Shape → ℕ → Located
+angledBy angle shape x =
+    let there = addressAt shape x in
+    answer (addressOfFault shape x) NotLocated
+    (LocatedAt (record { cylinder = there .cylinder; head = there .head; sector = there .sector; angle = angle shape (there .head) (there .sector) }))
+
+-- shape::address_of: takes the place of a head in its group for the group
+abbrev pub groupByRemainder : Shape → ℕ → Located
+groupByRemainder = angledBy (λ shape head sector. (sector + shape .offset * (head % shape .tracks)) % shape .sectors)
+
+-- shape::address_of: adds the offset once, whatever the group
+abbrev pub offsetOnce : Shape → ℕ → Located
+offsetOnce = angledBy (λ shape head sector. (sector + shape .offset) % shape .sectors)
+
+-- shape::address_of: does not begin again at 0 after the last sector of a track
+abbrev pub neverRound : Shape → ℕ → Located
+neverRound = angledBy (λ shape head sector. sector + shape .offset * groupOf shape head)
 
 -- Boards for a revectored drive.
 

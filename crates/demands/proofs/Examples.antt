@@ -155,4 +155,23 @@ numbers-to-try =
     also code-carried false firstOne refl (λ number room. refl)
     also code-carried false lastOne refl (λ number room. refl)
     also code-carried true zeros refl (λ number room. refl)
+    also allows (λ k. refl) refl
+    also allows (λ k. refl) refl
+    also allows (λ k. refl) refl
+    also allows (λ k. refl) refl
+    also allows (λ k. refl) refl
+    also allows (λ k. refl) refl
+    also allows (λ k. refl) refl
+    also allows (λ k. refl) refl
+    also allows (λ k. refl) refl
+    also allows (λ k. refl) refl
+    also allows (λ k. refl) refl
+    also allows (λ k. refl) refl
+    also allows (λ k. refl) refl
+    also allows (λ k. refl) refl
+    also allows (λ k. refl) refl
+    also allows (λ k. refl) refl
+    also allows (λ k. refl) refl
+    also allows (λ k. refl) refl
+    also allows (λ k. refl) refl
     also done

@@ -17,6 +17,8 @@ use Rattle.paper.specs.Exactly.{Exactly}
 use Rattle.paper.specs.Answers.{saidPlaced}
 use Rattle.paper.specs.Refusals.{outside, noSpare, forcedError, badCode}
 use Rattle.paper.specs.declared.Placed.the-variants.{At}
+use Rattle.shape.specs.declared.Address.{Address}
+use Rattle.shape.specs.declared.Located.the-variants.{At as LocatedAt}
 use Rattle.seek.specs.Count.{countBelow, times}
 use Rattle.seek.specs.Every.{allBelow}
 use Rattle.seek.specs.Lowest.{firstBelow, faultBelow}
@@ -71,8 +73,9 @@ use Rattle.demands.specs.Relations.{Keeps, Handed, Onward, Counts}
 use Rattle.demands.proofs.Demand3.{Arrives}
 use Rattle.demands.specs.Demand2Revectored.{AltersOne, ShiftLeads}
 use Rattle.demands.specs.Numbered.{PlacedBy}
-use Rattle.demands.specs.Inputs.{few, chart, small, noneReplaced, afterSix}
-use Rattle.demands.proofs.Boards.{made, scan, lent, pageWith, begun, damaged, older, newer, blank, trackWith, refusesAll, sameSector, addsOnce, skipsNothing, opened, runsAhead, cursorAfter, sectorsAfter, madeUpEntries, writesEarly, madeUpLengths, takesSectors, Composes, sameSpare, sparesNone, leavesTable, stoppedOrder, stopsSearch, madeUpCensus, censusWith, truncatedShift, wrappedShift, everyForced, homeImage, readsHome}
+use Rattle.demands.specs.Angles.{Angled, Turned}
+use Rattle.demands.specs.Inputs.{few, chart, small, noneReplaced, afterSix, twoGroups}
+use Rattle.demands.proofs.Boards.{made, scan, lent, pageWith, begun, damaged, older, newer, blank, trackWith, refusesAll, sameSector, addsOnce, skipsNothing, opened, runsAhead, cursorAfter, sectorsAfter, madeUpEntries, writesEarly, madeUpLengths, takesSectors, Composes, sameSpare, sparesNone, leavesTable, groupByRemainder, offsetOnce, neverRound, stoppedOrder, stopsSearch, madeUpCensus, censusWith, truncatedShift, wrappedShift, everyForced, homeImage, readsHome}
 
 -- a number that is given exactly is the only one
 no-other : {Rows : ℕ → Type 0} {number k : ℕ} → Exactly Rows number → (number ≡ k → ⊥) → Rows k → ⊥
@@ -248,6 +251,28 @@ pub takes-sectors-strays :
     × (Arrives 20 made scan (3 ∷ 7 ∷ 16 ∷ []) 15 → ⊥)
 unfolding countBelow firstBelow faultBelow isIn into union goodsBefore place
 takes-sectors-strays = (refl, λ arrives. omega (arith, arrives))
+
+abbrev locatedAt : ℕ → ℕ → ℕ → ℕ → Address
+locatedAt cylinder head sector angle = record { cylinder = cylinder; head = head; sector = sector; angle = angle }
+
+-- two groups of two tracks, offset 3: head 2 begins one group after head 0, and so three sectors after it, mod 5
+-- the group by remainder: both begin at angle 0, where head 2 has angle 3
+pub group-by-remainder-stays :
+    (groupByRemainder twoGroups 0 ≡ LocatedAt (locatedAt 0 0 0 0))
+    × (groupByRemainder twoGroups 10 ≡ LocatedAt (locatedAt 0 2 0 0))
+    × (Turned twoGroups (locatedAt 0 0 0 0) (locatedAt 0 2 0 0) → ⊥)
+group-by-remainder-stays = (refl, refl, λ turned. omega (arith, turned .further refl refl))
+
+-- the offset once: both begin at angle 3, and from there it would be 1
+pub offset-once-stays :
+    (offsetOnce twoGroups 0 ≡ LocatedAt (locatedAt 0 0 0 3))
+    × (offsetOnce twoGroups 10 ≡ LocatedAt (locatedAt 0 2 0 3))
+    × (Turned twoGroups (locatedAt 0 0 0 3) (locatedAt 0 2 0 3) → ⊥)
+offset-once-stays = (refl, refl, λ turned. omega (arith, turned .further refl refl))
+
+-- never round: a track of five sectors has no angle 6
+pub never-round-beyond : (neverRound twoGroups 13 ≡ LocatedAt (locatedAt 0 2 3 6)) × (Angled twoGroups (locatedAt 0 2 3 6) → ⊥)
+never-round-beyond = (refl, λ angled. omega (arith, angled .below))
 
 -- a shift kept unsigned: block 6 lies one cylinder nearer to cylinder 0, and 0 does not lead there
 pub truncated-shift-leads-not : (truncatedShift small 2 afterSix 6 ≡ By (pos 0)) × (ShiftLeads small 2 afterSix 6 (pos 0) → ⊥)

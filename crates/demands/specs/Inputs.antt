@@ -1,4 +1,4 @@
--- The paper's small inputs, which the rows of "Numbers to try" and the wrong boards share.
+-- The paper's small inputs and those of request Q-9, which the rows of the table and the wrong boards share.
 use Prim.Native.Nat.{ℕ}
 use mathlib.Core.List.{List, [], _∷_}
 use lib.ListN.{replicate}
@@ -16,7 +16,7 @@ chart = 3 ∷ 7 ∷ 60 ∷ 61 ∷ []
 abbrev pub small : Shape
 small = record { cylinders = 2; heads = 2; sectors = 5; groups = 2; tracks = 1; offset = 2 }
 
--- its table at r 2: eight spares, of which places 3, 4 and 5 hold these words and the others are free, and null beyond them
+-- the table of that drive at r 2: eight spares, of which places 3, 4 and 5 hold these words and the others are free, and null beyond them
 abbrev pub holding : ℕ → ℕ → ℕ → List ℕ
 holding third fourth fifth = 0 ∷ 0 ∷ 0 ∷ third ∷ fourth ∷ fifth ∷ 0 ∷ 0 ∷ replicate 120 0x80000000
 
@@ -32,3 +32,15 @@ afterEight = holding 0 0x20000007 0x30000008
 
 abbrev pub afterSix : List ℕ
 afterSix = holding 0x30000006 0x20000007 0x30000008
+
+-- C 2, H 4, S 5, with these groups, tracks of a group and offset
+abbrev pub fourHeads : ℕ → ℕ → ℕ → Shape
+fourHeads groups tracks offset = record { cylinders = 2; heads = 4; sectors = 5; groups = groups; tracks = tracks; offset = offset }
+
+-- two groups of two tracks, the second three sectors after the first
+abbrev pub twoGroups : Shape
+twoGroups = fourHeads 2 2 3
+
+-- the largest drive, each head a group, with the largest offset
+abbrev pub largest : Shape
+largest = record { cylinders = 4096; heads = 64; sectors = 64; groups = 64; tracks = 1; offset = 63 }

@@ -1,4 +1,4 @@
--- Document 01, "Numbers to try": those that are marked P, and some of ours beside them, as the rows of one table, and what it is for a row to hold.
+-- Document 01, "Numbers to try": those that are marked P, and some of ours beside them; document 02, Q-9: angles; all as the rows of one table, and what it is for a row to hold.
 use Prim.Native.Nat.{ℕ, _+_, _≤_}
 use mathlib.Core.Path.{_≡_}
 use mathlib.Core.Bool.{Bool, true, false}
@@ -10,6 +10,7 @@ use Rattle.paper.specs.Limits.{dataSize, imageExtra}
 use Rattle.paper.specs.declared.Written.{Written}
 use Rattle.paper.specs.Promise.{written}
 use Rattle.shape.specs.declared.Shape.{Shape}
+use Rattle.shape.specs.Promises as Shapes
 use Rattle.skip.specs.Promises as Skip
 use Rattle.format.specs.declared.Formatted.{Formatted}
 use Rattle.format.specs.Promises.{saidFormatted, Formats}
@@ -19,7 +20,7 @@ use Rattle.spares.specs.Promises as Spares
 use Rattle.image.specs.Image.{storedIn}
 use Rattle.image.specs.Promises.{Write}
 use Rattle.demands.specs.Relations.{AllowsOnly}
-use Rattle.demands.specs.Inputs.{few, chart, small, noneReplaced, afterSeven, afterEight, afterSix}
+use Rattle.demands.specs.Inputs.{few, chart, small, noneReplaced, afterSeven, afterEight, afterSix, fourHeads, twoGroups, largest}
 
 -- a row: a call, what goes into it, and the paper's figures for what comes out; the refusal comes first, 0 where the call accepts
 pub data Row : Type 0 where
@@ -27,6 +28,8 @@ pub data Row : Type 0 where
   skip-sector : (n : ℕ) (list : List ℕ) (block : ℕ) (figures : ℕ × ℕ) → Row
   -- skip::block_on: refusal, whether a block lies there, block
   skip-block : (n : ℕ) (list : List ℕ) (sector : ℕ) (figures : ℕ × ℕ × ℕ) → Row
+  -- shape::address_of: refusal, cylinder, head, sector, angle
+  shape-address : (shape : Shape) (sector : ℕ) (figures : ℕ × ℕ × ℕ × ℕ × ℕ) → Row
   -- format::format, accepted: the new grown list, the new list, the new space
   format : (n : ℕ) (p g : List ℕ) (space option : ℕ) (d grown list : List ℕ) (next : ℕ) → Row
   -- spares::first_table, accepted: the table
@@ -35,6 +38,8 @@ pub data Row : Type 0 where
   spare-replace : (shape : Shape) (r : ℕ) (table : List ℕ) (block place : ℕ) (after : List ℕ) → Row
   -- spares::shift: refusal, shift
   spare-shift : (shape : Shape) (r : ℕ) (table : List ℕ) (block : ℕ) (figures : ℕ × ℤ) → Row
+  -- spares::address_of: refusal, cylinder, head, sector, angle
+  spare-address : (shape : Shape) (r : ℕ) (table : List ℕ) (block : ℕ) (figures : ℕ × ℕ × ℕ × ℕ × ℕ) → Row
   -- spares::sector_of: refusal, sector
   spare-sector : (shape : Shape) (r : ℕ) (table : List ℕ) (block : ℕ) (figures : ℕ × ℕ) → Row
   -- spares::block_on: refusal, whether a block lies there, block
@@ -48,6 +53,7 @@ pub data Row : Type 0 where
 abbrev pub Holds : Row → Type 0
 Holds (skip-sector n list block figures) = AllowsOnly (Skip.SectorOf n list block) (λ answer. saidPlaced answer ≡ figures)
 Holds (skip-block n list sector figures) = AllowsOnly (Skip.BlockOn n list sector) (λ answer. saidNamed answer ≡ figures)
+Holds (shape-address shape sector figures) = AllowsOnly (Shapes.AddressOf shape sector) (λ answer. Shapes.saidLocated answer ≡ figures)
 Holds (format n p g space option d grown list next) =
     (first second : List ℕ) → length grown ≤ length first → length list ≤ length second →
     AllowsOnly
@@ -63,6 +69,7 @@ Holds (spare-replace shape r table block place after) =
     (λ (answer : Replaced × List ℕ). Spares.Replacement shape r table block (answer .0) (answer .1))
     (λ answer. (Spares.saidReplaced (answer .0) ≡ (0, place)) × (answer .1 ≡ after))
 Holds (spare-shift shape r table block figures) = AllowsOnly (Spares.ShiftOf shape r table block) (λ answer. Spares.saidShifted answer ≡ figures)
+Holds (spare-address shape r table block figures) = AllowsOnly (Spares.AddressOf shape r table block) (λ answer. Shapes.saidLocated answer ≡ figures)
 Holds (spare-sector shape r table block figures) = AllowsOnly (Spares.SectorOf shape r table block) (λ answer. saidPlaced answer ≡ figures)
 Holds (spare-block shape r table sector figures) = AllowsOnly (Spares.BlockOn shape r table sector) (λ answer. saidNamed answer ≡ figures)
 Holds (spare-census shape r table figures) = AllowsOnly (Spares.CensusOf shape r table) (λ answer. Spares.saidCounted answer ≡ figures)
@@ -88,7 +95,7 @@ firstOne = 0 ∷ 1 ∷ replicate 510 0
 abbrev pub lastOne : List ℕ
 lastOne = replicate 511 0 ++ (1 ∷ [])
 
--- the table, in the paper's order; what the paper does not mark P is said to be ours
+-- the table, in the paper's order, and then the rows of request Q-9; what the paper does not mark P is said to be ours
 abbrev pub paperRows : List Row
 paperRows =
     -- the chart's blocks 3, 57, 58 and 843
@@ -133,4 +140,30 @@ paperRows =
     ∷ image-write false lastOne 0x5a3d
     -- and of data that was bad when it was written
     ∷ image-write true zeros 0xa5c3
+    -- Q-9, ours, as all that follow: two groups of two tracks, the second three sectors after the first
+    ∷ shape-address twoGroups 0 (0, 0, 0, 0, 0)
+    ∷ shape-address twoGroups 9 (0, 0, 1, 4, 4)
+    ∷ shape-address twoGroups 10 (0, 0, 2, 0, 3)
+    ∷ shape-address twoGroups 13 (0, 0, 2, 3, 1)
+    ∷ shape-address twoGroups 19 (0, 0, 3, 4, 2)
+    ∷ shape-address twoGroups 20 (0, 1, 0, 0, 0)
+    ∷ shape-address twoGroups 39 (0, 1, 3, 4, 2)
+    -- the last sector of the largest drive
+    ∷ shape-address largest 16777215 (0, 4095, 63, 63, 0)
+    -- block 6 of the small drive at home, and on its spare
+    ∷ spare-address small 2 noneReplaced 6 (0, 1, 0, 0, 0)
+    ∷ spare-address small 2 afterSix 6 (0, 0, 1, 4, 1)
+    -- no group, and no track of a group
+    ∷ shape-address (fourHeads 0 4 0) 0 (1, 0, 0, 0, 0)
+    ∷ shape-address (fourHeads 4 0 0) 0 (1, 0, 0, 0, 0)
+    -- more heads in the groups than the drive has
+    ∷ shape-address (fourHeads 2 3 0) 0 (1, 0, 0, 0, 0)
+    ∷ shape-address (fourHeads 4 2 0) 0 (1, 0, 0, 0, 0)
+    -- products of which 32 bits are 0, and 4
+    ∷ shape-address (fourHeads 65536 65536 0) 0 (1, 0, 0, 0, 0)
+    ∷ shape-address (fourHeads 1073741825 4 0) 0 (1, 0, 0, 0, 0)
+    -- the largest offset, one too large, and one far too large
+    ∷ shape-address (fourHeads 2 2 4) 10 (0, 0, 2, 0, 4)
+    ∷ shape-address (fourHeads 2 2 5) 10 (1, 0, 0, 0, 0)
+    ∷ shape-address (fourHeads 2 2 4294967295) 10 (1, 0, 0, 0, 0)
     ∷ []

@@ -16,13 +16,13 @@ turned-apart : {s a b c : ℕ} → a < s → b < s → c < s → (a + c) % s ≡
 turned-apart {s} {a} {b} {c} a-below b-below c-below same =
     byLt (a + c) s
     (λ a-short.
-        byLt (b + c) s
-        (λ b-short. let e : a + c ≡ b + c = sym (mod-eq-of-lt a-short) ∙ same ∙ mod-eq-of-lt b-short in omega arith)
-        (λ b-round. let e : a + c ≡ b + c - s = sym (mod-eq-of-lt a-short) ∙ same ∙ around b-below b-round in omega arith))
+    byLt (b + c) s
+    (λ b-short. let e : a + c ≡ b + c = sym (mod-eq-of-lt a-short) ∙ same ∙ mod-eq-of-lt b-short in omega arith)
+    (λ b-round. let e : a + c ≡ b + c - s = sym (mod-eq-of-lt a-short) ∙ same ∙ around b-below b-round in omega arith))
     (λ a-round.
-        byLt (b + c) s
-        (λ b-short. let e : a + c - s ≡ b + c = sym (around a-below a-round) ∙ same ∙ mod-eq-of-lt b-short in omega arith)
-        (λ b-round. let e : a + c - s ≡ b + c - s = sym (around a-below a-round) ∙ same ∙ around b-below b-round in omega arith))
+    byLt (b + c) s
+    (λ b-short. let e : a + c - s ≡ b + c = sym (around a-below a-round) ∙ same ∙ mod-eq-of-lt b-short in omega arith)
+    (λ b-round. let e : a + c - s ≡ b + c - s = sym (around a-below a-round) ∙ same ∙ around b-below b-round in omega arith))
   where
     around : {x : ℕ} → x < s → s ≤ x + c → (x + c) % s ≡ x + c - s
     around {x} x-below round = mod-eq-sub-mod round ∙ mod-eq-of-lt (omega arith)

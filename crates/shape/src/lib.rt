@@ -2,7 +2,7 @@
 ghost use Prim.Native.Nat.{_<_};
 ghost use mathlib.Core.Path.{_≡_};
 ghost use Rattle.shape.specs.Shapes.{Shaped, sizeOf, shapeFault};
-ghost use Rattle.shape.specs.Addresses.{OnDrive, sectorAt, angleAt, addressAt, offDriveFault};
+ghost use Rattle.shape.specs.Addresses.{OnDrive, sectorAt, groupOf, angleAt, addressAt, offDriveFault};
 ghost use Rattle.shape.specs.Promises.{SectorOf, AddressOf};
 ghost use Rattle.shape.specs.Steps.{groupFault};
 use paper::CYLINDERS_MOST;
@@ -93,6 +93,14 @@ pub fn sector_at(shape: Shape, cylinder: u32, head: u32, sector: u32) -> u32
     (cylinder * shape.heads + head) * shape.sectors + sector
 }
 
+// The group of a head.
+fn group_of(shape: Shape, head: u32) -> u32
+    requires { ⌜ Shaped shape ⌝ }
+    ensures { λ result. ⌜ result ≡ groupOf shape head ⌝ }
+{
+    head / shape.tracks
+}
+
 // The angle of a sector under a head: each group starts an offset after the one before it.
 fn angle_at(shape: Shape, head: u32, sector: u32) -> u32
     requires { ⌜ Shaped shape ⌝ }
@@ -100,7 +108,7 @@ fn angle_at(shape: Shape, head: u32, sector: u32) -> u32
     requires { ⌜ sector < shape .sectors ⌝ }
     ensures { λ result. ⌜ result ≡ angleAt shape head sector ⌝ }
 {
-    let group = head / shape.tracks;
+    let group = group_of(shape, head);
     (sector + shape.offset * group) % shape.sectors
 }
 

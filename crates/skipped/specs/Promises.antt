@@ -18,6 +18,6 @@ use Rattle.skipped.specs.Faults.{addressOfFault, blockAtFault}
 abbrev pub AddressOf : Shape → List ℕ → ℕ → Located → Type 0
 AddressOf shape a b = GivesLocated (addressOfFault shape a b) (At (addressAt shape (place (isIn a) (sizeOf shape) b)))
 
--- the block on the sector at the address
+-- the block on the sector with a cylinder, a head and a sector of a track, or none
 abbrev pub BlockAt : Shape → List ℕ → ℕ → ℕ → ℕ → Named → Type 0
 BlockAt shape a cylinder head sector = GivesNamed (blockAtFault shape a cylinder head sector) (blockOn a (sectorAt shape cylinder head sector))

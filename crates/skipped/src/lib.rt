@@ -54,7 +54,7 @@ pub fn address_of(shape: Shape, list: &[u32], block: u32) -> Located
     Located::At(shape::address_at(shape, skip::walk(list, block)))
 }
 
-// The block that lies at an address, or no block. Checks 1, list, 6.
+// The block that lies at a cylinder, head and sector, or no block. Checks 1, list, 6.
 pub fn block_at(shape: Shape, list: &[u32], cylinder: u32, head: u32, sector: u32) -> Named
     ensures { λ result. ⌜ BlockAt shape (now (list .entry)) cylinder head sector result ⌝ }
 {

@@ -53,7 +53,7 @@ GivesCounted = Gives saidCounted (λ fault. (fault, 0, 0, 0, 0, 0)) NotCounted
 abbrev pub SectorOf : Shape → ℕ → List ℕ → ℕ → Placed → Type 0
 SectorOf shape r t b = GivesPlaced (blockFault shape r t b) (At (liesOn (driveOf shape r) t b))
 
--- the cylinder, head and sector that a block lies on
+-- the address of the sector that a block lies on
 abbrev pub AddressOf : Shape → ℕ → List ℕ → ℕ → Located → Type 0
 AddressOf shape r t b = GivesLocated (blockFault shape r t b) (LocatedAt (addressAt shape (liesOn (driveOf shape r) t b)))
 

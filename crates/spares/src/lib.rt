@@ -47,7 +47,7 @@ pub fn sector_of(shape: Shape, r: u32, table: &[u32], block: u32) -> Placed
     Placed::At(table::lies_on(layout::drive_of(shape, r), table, block))
 }
 
-// Block to cylinder, head and sector. Checks 1, 11, 5.
+// Block to cylinder, head, sector and angle. Checks 1, 11, 5.
 pub fn address_of(shape: Shape, r: u32, table: &[u32], block: u32) -> Located
     ensures { λ result. ⌜ AddressOf shape r (now (table .entry)) block result ⌝ }
 {

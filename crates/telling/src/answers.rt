@@ -83,7 +83,10 @@ pub fn address(words: &[u8], cylinder: u32, head: u32, sector: u32) {
 pub fn located(words: &[u8], answer: Located) {
     text(words);
     match answer {
-        Located::At(at) => address(b"", at.cylinder, at.head, at.sector),
+        Located::At(at) => {
+            address(b"", at.cylinder, at.head, at.sector);
+            number(b", angle ", at.angle);
+        }
         Located::Refused(fault) => refused(fault),
     }
     end();

@@ -4,6 +4,7 @@ ghost use lib.IntN.{natAbs};
 
 pub mod answers;
 pub mod asking;
+pub mod shapes;
 
 use libc::STDOUT_FILENO;
 

@@ -3,11 +3,7 @@ use shape::Shape;
 
 // 1,024 tracks, each a cylinder.
 fn drive() -> Shape {
-    Shape {
-        cylinders: 1_024,
-        heads: 1,
-        sectors: 3,
-    }
+    telling::shapes::ungrouped(1_024, 1, 3)
 }
 
 // Writes the census of a table.

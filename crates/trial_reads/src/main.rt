@@ -1,16 +1,19 @@
-// Reads of a replaced block through two track images of which the home's is out of date, and each of them damaged in turn.
+// Reads of a replaced block through two track images of which the home's is out of date, and each of them damaged in turn; and a read with wrong groups.
 ghost use Prim.Native.Nat.{_+_, _≤_};
 use shape::Shape;
 
 // The block that is replaced and read.
 const BLOCK: u32 = 6;
 
-// The paper's drive, with two spares to a track.
+// The paper's drive, with two spares to a track; each head is a group.
 fn drive() -> Shape {
     Shape {
         cylinders: 2,
         heads: 2,
         sectors: 5,
+        groups: 2,
+        tracks: 1,
+        offset: 2,
     }
 }
 
@@ -61,17 +64,19 @@ fn spare_track(block: u32, forced: bool) -> [u8; 2_650] {
     track_with(2_120, block, 79, forced)
 }
 
-// Reads a block from two track images: the verdict, where its data begins, and how the data begins.
-fn try_read<'a>(table: &[u32], block: u32, home: &'a [u8], spare: &'a [u8]) {
+// Reads a block of a drive from two track images: the verdict, where its data begins, and how the data begins.
+fn try_read_on<'a>(shape: Shape, table: &[u32], block: u32, home: &'a [u8], spare: &'a [u8]) {
     telling::number(b"  block ", block);
-    telling::answers::judged(b": ", reading::judge(drive(), 2, table, block, home, spare));
-    telling::answers::spotted(
-        b"    ",
-        reading::spot(drive(), 2, table, block, home, spare),
-    );
-    let part = reading::data(drive(), 2, table, block, home, spare);
+    telling::answers::judged(b": ", reading::judge(shape, 2, table, block, home, spare));
+    telling::answers::spotted(b"    ", reading::spot(shape, 2, table, block, home, spare));
+    let part = reading::data(shape, 2, table, block, home, spare);
     telling::count(b"    data bytes: ", part.len());
     telling::bytes(b", the first:", comparing::first_bytes(part, 2));
+}
+
+// Reads a block of the paper's drive.
+fn try_read<'a>(table: &[u32], block: u32, home: &'a [u8], spare: &'a [u8]) {
+    try_read_on(drive(), table, block, home, spare);
 }
 
 // The spare is read whatever the home holds.
@@ -126,10 +131,38 @@ fn try_at_home(table: &[u32]) {
     try_read(table, 9, &home_track(BLOCK), &[0u8; 2_650]);
 }
 
+// The same drive without groups reads the same, and one whose groups are wrong reads nothing.
+fn try_groups<'a>(table: &[u32], home: &'a [u8], spare: &'a [u8]) {
+    telling::line(b"the drive without groups");
+    try_read_on(
+        telling::shapes::ungrouped(2, 2, 5),
+        table,
+        BLOCK,
+        home,
+        spare,
+    );
+    telling::line(b"two groups of two tracks on two heads");
+    try_read_on(
+        Shape {
+            cylinders: 2,
+            heads: 2,
+            sectors: 5,
+            groups: 2,
+            tracks: 2,
+            offset: 2,
+        },
+        table,
+        BLOCK,
+        home,
+        spare,
+    );
+}
+
 fn main() {
     let table = paper_table();
     try_home(&table);
     try_spare(&table);
     try_short(&table, &home_track(BLOCK), &spare_track(BLOCK, false));
     try_at_home(&table);
+    try_groups(&table, &home_track(BLOCK), &spare_track(BLOCK, false));
 }
