@@ -43,7 +43,7 @@ fn eight_free() -> [u32; 128] {
 }
 
 // The calls of a revectored drive of eight spares in groups, how many descriptors a replacement alters, and a census of no table.
-fn try_groups(groups: u32, tracks: u32, offset: u32) {
+fn try_groups(groups: u32, tracks: u32, offset: u32, table: &mut [u32]) {
     let shape = Shape {
         cylinders: 2,
         heads: 4,
@@ -53,26 +53,21 @@ fn try_groups(groups: u32, tracks: u32, offset: u32) {
         offset,
     };
     try_drive(shape, 1);
-    let before = eight_free();
-    let mut table = before;
-    telling::answers::placed(b"  block 8: ", spares::sector_of(shape, 1, &table, 8));
-    telling::answers::located(b"  block 8: ", spares::address_of(shape, 1, &table, 8));
-    telling::answers::shifted(b"  block 8: ", spares::shift(shape, 1, &table, 8));
-    telling::answers::named(b"  sector 10: ", spares::block_on(shape, 1, &table, 10));
+    telling::answers::placed(b"  block 8: ", spares::sector_of(shape, 1, table, 8));
+    telling::answers::located(b"  block 8: ", spares::address_of(shape, 1, table, 8));
+    telling::answers::shifted(b"  block 8: ", spares::shift(shape, 1, table, 8));
+    telling::answers::named(b"  sector 10: ", spares::block_on(shape, 1, table, 10));
     telling::answers::named(
         b"  cylinder 0, head 2, sector 0: ",
-        spares::block_at(shape, 1, &table, 0, 2, 0),
+        spares::block_at(shape, 1, table, 0, 2, 0),
     );
-    telling::answers::replaced(
-        b"  replace block 8: ",
-        spares::replace(shape, 1, &mut table, 8),
-    );
+    telling::answers::replaced(b"  replace block 8: ", spares::replace(shape, 1, table, 8));
     telling::count_line(
         b"    descriptors that differ: ",
-        comparing::differing(&table, &before),
+        comparing::differing(table, &eight_free()),
     );
-    telling::answers::located(b"  block 8: ", spares::address_of(shape, 1, &table, 8));
-    telling::answers::counted(b"  census: ", spares::census(shape, 1, &table));
+    telling::answers::located(b"  block 8: ", spares::address_of(shape, 1, table, 8));
+    telling::answers::counted(b"  census: ", spares::census(shape, 1, table));
     telling::answers::counted(b"  census of no table: ", spares::census(shape, 1, &[]));
 }
 
@@ -89,8 +84,8 @@ fn main() {
     try_drive(telling::shapes::ungrouped(1, 1, 2), 0);
     try_drive(telling::shapes::ungrouped(1, 1, 2), 2);
     try_lengths();
-    try_groups(2, 2, 3);
-    try_groups(2, 2, 5);
-    try_groups(2, 3, 0);
-    try_groups(65_536, 65_536, 0);
+    try_groups(2, 2, 3, &mut eight_free());
+    try_groups(2, 2, 5, &mut eight_free());
+    try_groups(2, 3, 0, &mut eight_free());
+    try_groups(65_536, 65_536, 0, &mut eight_free());
 }
