@@ -120,7 +120,7 @@ fn steps() {
 
 /// A drive of 1,024 spares, all but eight of them used, by blocks of their own track and of others.
 fn nearly_full() -> (Shape, u32, Vec<u32>) {
-    let shape = Shape { cylinders: 64, heads: 4, sectors: 32 };
+    let shape = Shape::ungrouped(64, 4, 32);
     let r = 4;
     let blocks = 64 * 4 * 28;
     let mut table = vec![0; 1_024];
@@ -141,8 +141,7 @@ fn look_ups() {
         let look_up = |block: &u32| spares::sector_of(shape, r, black_box(&table), *block);
         sum(blocks.iter().map(|block| look_up(block).ok()))
     };
-    let plain_shape =
-        plain::Shape { cylinders: shape.cylinders, heads: shape.heads, sectors: shape.sectors };
+    let plain_shape = plain::Shape::from(shape);
     let by_pairs = || {
         let look_up = |block: &u32| {
             plain::spare_sector_by_pairs(plain_shape, r, black_box(&table), *block).ok()

@@ -89,7 +89,8 @@ static void *at(struct slice slice)
 
 static void make(uint32_t call, const uint32_t *n, const struct slice *s)
 {
-    tb_shape shape = {n[0], n[1], n[2]};
+    tb_shape shape = {n[0], n[1], n[2], n[3], n[4], n[5]};
+    const uint32_t *m = n + sizeof shape / sizeof *n; /* the numbers after a shape */
     tb_cursor cursor = {n[0], n[1]};
     switch (call) {
         CASE(SKIP_SECTOR, tb_placed, tb_skip_sector(n[0], WORDS(0), n[1]))
@@ -97,26 +98,26 @@ static void make(uint32_t call, const uint32_t *n, const struct slice *s)
         CASE(JOB_START, tb_job, tb_job_start(n[0], WORDS(0), n[1]))
         CASE(JOB_CHECK, tb_job, tb_job_check(cursor, n[2], WORDS(0)))
         CASE(JOB_STEP, tb_job, tb_job_step(cursor, n[2], WORDS(0)))
-        CASE(SHAPE_SECTOR, tb_placed, tb_shape_sector(shape, n[3], n[4], n[5]))
-        CASE(SHAPE_ADDRESS, tb_located, tb_shape_address(shape, n[3]))
-        CASE(SKIPPED_ADDRESS, tb_located, tb_skipped_address(shape, WORDS(0), n[3]))
-        CASE(SKIPPED_BLOCK, tb_named, tb_skipped_block(shape, WORDS(0), n[3], n[4], n[5]))
+        CASE(SHAPE_SECTOR, tb_placed, tb_shape_sector(shape, m[0], m[1], m[2]))
+        CASE(SHAPE_ADDRESS, tb_located, tb_shape_address(shape, m[0]))
+        CASE(SKIPPED_ADDRESS, tb_located, tb_skipped_address(shape, WORDS(0), m[0]))
+        CASE(SKIPPED_BLOCK, tb_named, tb_skipped_block(shape, WORDS(0), m[0], m[1], m[2]))
         CASE(PAGE_READ, tb_paged, tb_page_read(BYTES(0), WORDS(1)))
         CASE(PAGE_WRITE, tb_written, tb_page_write(n[0], n[1], WORDS(0), BYTES(1)))
         CASE(FORMAT, tb_formatted, tb_format(n[0], WORDS(0), WORDS(1), n[1], n[2], WORDS(2), WORDS(3), WORDS(4)))
-        CASE(SPARE_SECTOR, tb_placed, tb_spare_sector(shape, n[3], WORDS(0), n[4]))
-        CASE(SPARE_ADDRESS, tb_located, tb_spare_address(shape, n[3], WORDS(0), n[4]))
-        CASE(SPARE_SHIFT, tb_shifted, tb_spare_shift(shape, n[3], WORDS(0), n[4]))
-        CASE(SPARE_BLOCK, tb_named, tb_spare_block(shape, n[3], WORDS(0), n[4]))
-        CASE(SPARE_BLOCK_AT, tb_named, tb_spare_block_at(shape, n[3], WORDS(0), n[4], n[5], n[6]))
-        CASE(SPARE_REPLACE, tb_replaced, tb_spare_replace(shape, n[3], WORDS(0), n[4]))
-        CASE(SPARE_CENSUS, tb_counted, tb_spare_census(shape, n[3], WORDS(0)))
-        CASE(SPARE_FIRST, tb_written, tb_spare_first(shape, n[3], WORDS(0), WORDS(1)))
+        CASE(SPARE_SECTOR, tb_placed, tb_spare_sector(shape, m[0], WORDS(0), m[1]))
+        CASE(SPARE_ADDRESS, tb_located, tb_spare_address(shape, m[0], WORDS(0), m[1]))
+        CASE(SPARE_SHIFT, tb_shifted, tb_spare_shift(shape, m[0], WORDS(0), m[1]))
+        CASE(SPARE_BLOCK, tb_named, tb_spare_block(shape, m[0], WORDS(0), m[1]))
+        CASE(SPARE_BLOCK_AT, tb_named, tb_spare_block_at(shape, m[0], WORDS(0), m[1], m[2], m[3]))
+        CASE(SPARE_REPLACE, tb_replaced, tb_spare_replace(shape, m[0], WORDS(0), m[1]))
+        CASE(SPARE_CENSUS, tb_counted, tb_spare_census(shape, m[0], WORDS(0)))
+        CASE(SPARE_FIRST, tb_written, tb_spare_first(shape, m[0], WORDS(0), WORDS(1)))
         CASE(IMAGE_WRITE, tb_written, tb_image_write(n[0], BYTES(0), n[1] != 0, BYTES(1)))
         CASE(IMAGE_HEADER, tb_headed, tb_image_header(BYTES(0)))
         CASE(IMAGE_JUDGE, tb_judged, tb_image_judge(BYTES(0), n[0]))
-        CASE(READ_JUDGE, tb_judged, tb_read_judge(shape, n[3], WORDS(0), n[4], BYTES(1), BYTES(2)))
-        CASE(READ_DATA, tb_spotted, tb_read_data(shape, n[3], WORDS(0), n[4], BYTES(1), BYTES(2)))
+        CASE(READ_JUDGE, tb_judged, tb_read_judge(shape, m[0], WORDS(0), m[1], BYTES(1), BYTES(2)))
+        CASE(READ_DATA, tb_spotted, tb_read_data(shape, m[0], WORDS(0), m[1], BYTES(1), BYTES(2)))
     default: fail("far side: no such call\n");
     }
 }

@@ -83,6 +83,7 @@ static void ask(enum call call, const uint32_t *numbers, size_t number_count, co
                 size_t slice_count, void *answer, size_t answer_bytes)
 {
     struct head head = {call, (uint32_t)slice_count, {0}};
+    if (number_count > NUMBERS_MOST || slice_count > SLICES_MOST) fail("a request has no place for so many numbers or slices");
     memcpy(head.numbers, numbers, number_count * sizeof *numbers);
     pthread_mutex_lock(&one_at_a_time);
     if (!to_far) start();
@@ -102,7 +103,7 @@ static void ask(enum call call, const uint32_t *numbers, size_t number_count, co
 #define READ(part, length) {part, NULL, (length) * sizeof *(part)}
 #define ROOM(part, length) {part, part, (length) * sizeof *(part)}
 #define NONE {NULL, NULL, 0}
-#define SHAPE shape.cylinders, shape.heads, shape.sectors
+#define SHAPE shape.cylinders, shape.heads, shape.sectors, shape.groups, shape.tracks, shape.offset
 
 /* Asks with the numbers and slices of the surrounding function, and returns the answer. */
 #define RETURN(type, call)                                                                 \

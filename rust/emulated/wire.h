@@ -33,7 +33,8 @@ enum call {
     READ_DATA
 };
 
-enum { NUMBERS_MOST = 8, SLICES_MOST = 5 };
+/* The most numbers are those of SPARE_BLOCK_AT: a shape is six, r is one, a place three. The most slices are FORMAT's. */
+enum { NUMBERS_MOST = 10, SLICES_MOST = 5 };
 
 struct head {
     uint32_t call;

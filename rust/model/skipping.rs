@@ -94,13 +94,13 @@ pub fn step(cursor: Cursor, n: u32, list: &[u32]) -> Result<(u32, Cursor), (u32,
     }
 }
 
-/// The address of a block of a skipped drive.
-pub fn address_of(drive: Shape, list: &[u32], block: u32) -> Answer<(u32, u32, u32)> {
+/// The address of a block of a skipped drive, and its angle.
+pub fn address_of(drive: Shape, list: &[u32], block: u32) -> Answer<(u32, u32, u32, u32)> {
     shape::check(drive)?;
     let n = shape::sectors(drive);
     check_list(n, list)?;
     refuse(block >= blocks(n, list), 5)?;
-    Ok(shape::split(drive, place(n, list, block)))
+    Ok(shape::located(drive, place(n, list, block)))
 }
 
 /// The block at an address of a skipped drive.

@@ -144,9 +144,9 @@ pub fn sector_of(shape: Shape, r: u32, table: &[u32], block: u32) -> Answer<u32>
     Ok(drive.lies_on(table, block))
 }
 
-pub fn address_of(shape: Shape, r: u32, table: &[u32], block: u32) -> Answer<(u32, u32, u32)> {
+pub fn address_of(shape: Shape, r: u32, table: &[u32], block: u32) -> Answer<(u32, u32, u32, u32)> {
     let drive = checked_block(shape, r, table, block)?;
-    Ok(shape::split(shape, drive.lies_on(table, block)))
+    Ok(shape::located(shape, drive.lies_on(table, block)))
 }
 
 /// From the home's cylinder to the one that the block lies on.

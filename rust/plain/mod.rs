@@ -87,6 +87,16 @@ pub struct Shape {
     pub cylinders: u32,
     pub heads: u32,
     pub sectors: u32,
+    pub groups: u32,
+    pub tracks: u32,
+    pub offset: u32,
+}
+
+impl From<tautberry::Shape> for Shape {
+    fn from(shape: tautberry::Shape) -> Shape {
+        let tautberry::Shape { cylinders, heads, sectors, groups, tracks, offset } = shape;
+        Shape { cylinders, heads, sectors, groups, tracks, offset }
+    }
 }
 
 /// A checked revectored drive.
@@ -98,10 +108,16 @@ struct Drive {
     blocks: u32,
 }
 
-fn check_drive(shape: Shape, r: u32) -> Answer<Drive> {
+fn check_shape(shape: Shape) -> Answer<()> {
     refuse(!(1..=4_096).contains(&shape.cylinders), 1)?;
     refuse(!(1..=64).contains(&shape.heads), 1)?;
     refuse(!(2..=64).contains(&shape.sectors), 1)?;
+    refuse(shape.groups.checked_mul(shape.tracks) != Some(shape.heads), 1)?;
+    refuse(shape.offset >= shape.sectors, 1)
+}
+
+fn check_drive(shape: Shape, r: u32) -> Answer<Drive> {
+    check_shape(shape)?;
     refuse(r < 1 || r >= shape.sectors, 1)?;
     let tracks = shape.cylinders * shape.heads;
     refuse(tracks * r > SPARES_MOST, 1)?;

@@ -41,7 +41,7 @@ pub use skip::Cursor;
 pub const UNITS_MOST: u32 = 16_777_216;
 /// The most cylinders of a shape.
 pub const CYLINDERS_MOST: u32 = 4_096;
-/// The most heads of a shape.
+/// The most heads of a shape, and so the most groups and the most tracks of a group.
 pub const HEADS_MOST: u32 = 64;
 /// The fewest sectors of a track.
 pub const SECTORS_LEAST: u32 = 2;

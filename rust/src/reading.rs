@@ -96,7 +96,7 @@ pub fn spot(
 /// ```compile_fail,E0597
 /// use tautberry::{reading, Shape};
 ///
-/// let shape = Shape { cylinders: 1, heads: 1, sectors: 2 };
+/// let shape = Shape::ungrouped(1, 1, 2);
 /// let table = [0; 128];
 /// let part = {
 ///     let home = [0; 2 * 530];

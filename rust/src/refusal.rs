@@ -7,7 +7,8 @@ use std::fmt;
 #[derive(Clone, Copy, Debug, PartialEq, Eq, Hash, PartialOrd, Ord)]
 #[repr(u32)]
 pub enum Refusal {
-    /// A number of the drive is out of its range: of the shape, of its sectors or of its spares.
+    /// A number of the drive is out of its range: of the shape, of its sectors or of its spares; or
+    /// the heads of a shape are not its groups × tracks.
     OutOfRange = 1,
     /// A list is longer than 4,096 entries, or a list to be made would be.
     TooLong = 2,

@@ -4,7 +4,7 @@ use crate::ffi;
 use crate::refusal::{answered, named, Refusal};
 use crate::shape::{Address, Shape};
 
-/// The place of `block` on a skipped drive.
+/// The place of `block` on a skipped drive, with its angle.
 ///
 /// Checks: [`OutOfRange`](Refusal::OutOfRange) for the shape; [`TooLong`](Refusal::TooLong), then
 /// [`NotRising`](Refusal::NotRising) or [`Outside`](Refusal::Outside) at the lowest place at fault;

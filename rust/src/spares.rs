@@ -14,7 +14,7 @@ pub fn sector_of(shape: Shape, r: u32, table: &[u32], block: u32) -> Result<u32,
     answered(answer.refusal, answer.sector)
 }
 
-/// The place that `block` lies on, as cylinder, head and sector.
+/// The place that `block` lies on, as cylinder, head and sector, with its angle.
 ///
 /// Checks: [`OutOfRange`](Refusal::OutOfRange) for shape, `r` and the number of spares;
 /// [`BadTable`](Refusal::BadTable); [`NoSuchBlock`](Refusal::NoSuchBlock).

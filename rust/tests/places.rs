@@ -2,7 +2,7 @@
 
 use tautberry::{image, reading, spares, Shape};
 
-const SHAPE: Shape = Shape { cylinders: 2, heads: 2, sectors: 5 };
+const SHAPE: Shape = Shape::ungrouped(2, 2, 5);
 const SPARES: u32 = 2;
 const TRACK: usize = 5 * 530;
 

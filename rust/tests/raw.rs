@@ -11,8 +11,8 @@ mod ffi;
 
 use ffi::*;
 
-/// C 2, H 2, S 5, r 2: 12 blocks, 20 sectors, 8 spares.
-const SHAPE: Shape = Shape { cylinders: 2, heads: 2, sectors: 5 };
+/// C 2, H 2, S 5, r 2: 12 blocks, 20 sectors, 8 spares; each head is a group.
+const SHAPE: Shape = Shape { groups: 2, tracks: 1, offset: 3, ..Shape::ungrouped(2, 2, 5) };
 const R: u32 = 2;
 /// No list has it.
 const STRAY: Cursor = Cursor { block: 5, skipped: 4_000 };
@@ -27,9 +27,14 @@ fn numbers<T>(answer: T) -> Vec<u32> {
 
 /// The refusal's number, and 0 in every other place.
 fn refused<T>(call: &str, number: u32, answer: T) {
-    let mut expected = vec![0; size_of::<T>() / size_of::<u32>()];
+    refused_numbers(call, number, &numbers(answer));
+}
+
+/// The same of an answer's numbers.
+fn refused_numbers(call: &str, number: u32, answer: &[u32]) {
+    let mut expected = vec![0; answer.len()];
     expected[0] = number;
-    assert_eq!(numbers(answer), expected, "{call}");
+    assert_eq!(answer, expected, "{call}");
 }
 
 /// An N and a list for each of the refusals 1 to 4.
@@ -247,6 +252,65 @@ fn refused_spares_answer_zeros() {
     first(13, R, &[0, 1, 2, 5, 6, 7, 10, 11, 12], 128);
 }
 
+/// Every call that takes a shape, where the groups are at fault and nothing else is.
+#[test]
+fn bad_groups_answer_zeros() {
+    let bad = [
+        (0, 1, 3),
+        (2, 0, 3),
+        (2, 2, 3),
+        (1, 1, 3),
+        (2, 1, 5),
+        (2, 1, u32::MAX),
+        (65_536, 65_536, 3),
+        (2_147_483_649, 2, 3),
+    ];
+    let takes_shape = include_str!("../src/ffi.rs").matches("shape: Shape").count();
+    let (mut table, mut room) = (table(), vec![7; 128]);
+    let track = vec![0; 5 * 530];
+    for (groups, tracks, offset) in bad {
+        let shape = Shape { groups, tracks, offset, ..SHAPE };
+        let (list, at, len) = (null(), table.as_ptr(), table.len());
+        let (image, bytes) = (track.as_ptr(), track.len());
+        // SAFETY: the C face takes null where the length is 0; other pointers are of live slices.
+        let answers = unsafe {
+            [
+                ("tb_shape_sector", numbers(tb_shape_sector(shape, 1, 1, 1))),
+                ("tb_shape_address", numbers(tb_shape_address(shape, 18))),
+                ("tb_skipped_address", numbers(tb_skipped_address(shape, list, 0, 18))),
+                ("tb_skipped_block", numbers(tb_skipped_block(shape, list, 0, 1, 1, 1))),
+                ("tb_spare_sector", numbers(tb_spare_sector(shape, R, at, len, 9))),
+                ("tb_spare_address", numbers(tb_spare_address(shape, R, at, len, 9))),
+                ("tb_spare_shift", numbers(tb_spare_shift(shape, R, at, len, 9))),
+                ("tb_spare_block", numbers(tb_spare_block(shape, R, at, len, 9))),
+                ("tb_spare_block_at", numbers(tb_spare_block_at(shape, R, at, len, 1, 1, 1))),
+                ("tb_spare_census", numbers(tb_spare_census(shape, R, at, len))),
+                (
+                    "tb_spare_replace",
+                    numbers(tb_spare_replace(shape, R, table.as_mut_ptr(), len, 9)),
+                ),
+                (
+                    "tb_spare_first",
+                    numbers(tb_spare_first(shape, R, list, 0, room.as_mut_ptr(), room.len())),
+                ),
+                (
+                    "tb_read_judge",
+                    numbers(tb_read_judge(shape, R, at, len, 9, image, bytes, image, bytes)),
+                ),
+                (
+                    "tb_read_data",
+                    numbers(tb_read_data(shape, R, at, len, 9, image, bytes, image, bytes)),
+                ),
+            ]
+        };
+        assert_eq!(answers.len(), takes_shape, "a call is left out");
+        for (call, answer) in answers {
+            refused_numbers(call, 1, &answer);
+        }
+    }
+    assert_eq!((table, room), (self::table(), vec![7; 128]));
+}
+
 /// The image of block 7 with zeros for data, good or forced.
 fn image(forced: bool) -> Vec<u8> {
     let mut image = [0, 0, 0, 7].repeat(4);
@@ -338,7 +402,7 @@ fn null_with_length_0_is_an_empty_slice() {
         assert_eq!(numbers(tb_job_start(20, null(), 0, 3)), [0, 0, 3, 0]);
         assert_eq!(numbers(tb_job_check(start, 20, null(), 0)), [0, 0, 0, 0]);
         assert_eq!(numbers(tb_job_step(start, 20, null(), 0)), [0, 0, 1, 0]);
-        assert_eq!(numbers(tb_skipped_address(SHAPE, null(), 0, 13)), [0, 1, 0, 3]);
+        assert_eq!(numbers(tb_skipped_address(SHAPE, null(), 0, 18)), [0, 1, 1, 3, 1]);
         assert_eq!(numbers(tb_skipped_block(SHAPE, null(), 0, 1, 0, 3)), [0, 1, 13]);
     }
 }

@@ -1,4 +1,4 @@
-//! Drawn shapes, with and without spares.
+//! Drawn shapes, with and without spares, in groups and not.
 
 use tautberry::Shape;
 
@@ -7,35 +7,90 @@ use crate::model;
 
 /// The model's form of a shape.
 pub fn paper(shape: Shape) -> model::shape::Shape {
-    model::shape::Shape { c: shape.cylinders, h: shape.heads, s: shape.sectors }
+    let Shape { cylinders, heads, sectors, groups, tracks, offset } = shape;
+    model::shape::Shape { c: cylinders, h: heads, s: sectors, g: groups, t: tracks, offset }
 }
 
-/// A shape in three numbers.
+/// A drive without groups, in three numbers.
 pub fn shape(cylinders: u32, heads: u32, sectors: u32) -> Shape {
-    Shape { cylinders, heads, sectors }
+    Shape::ungrouped(cylinders, heads, sectors)
+}
+
+/// The same drive with other groups.
+pub fn grouped(shape: Shape, (groups, tracks, offset): (u32, u32, u32)) -> Shape {
+    Shape { groups, tracks, offset, ..shape }
+}
+
+/// So many heads as groups and tracks of a group, in every way.
+pub fn groupings(heads: u32) -> Vec<(u32, u32)> {
+    let pairs = (1..=heads).map(|groups| (groups, heads / groups));
+    pairs.filter(|(groups, tracks)| groups * tracks == heads).collect()
+}
+
+/// A shape in its range with each fault in its groups: its three ranges stay right.
+pub fn misgrouped(shape: Shape) -> Vec<Shape> {
+    let Shape { heads, sectors, groups, tracks, offset, .. } = shape;
+    let mut faults = vec![
+        (0, tracks, offset),
+        (groups, 0, offset),
+        (groups + 1, tracks, offset),
+        (groups, tracks + 1, offset),
+        (groups - 1, tracks, offset),
+        (groups, tracks - 1, offset),
+        (groups, tracks, sectors),
+        (groups, tracks, u32::MAX),
+        // The product is 0 in 32 bits.
+        (65_536, 65_536, offset),
+        // It is H in 32 bits, for any H.
+        (heads.wrapping_mul(0xFFFF_0001), 0x1_0001, offset),
+    ];
+    if heads % 4 == 0 {
+        // It is H in 32 bits, and one of the two is in its range.
+        let many = (1 << 30) + heads / 4;
+        faults.extend([(many, 4, offset), (4, many, offset)]);
+    }
+    faults.into_iter().map(|groups| grouped(shape, groups)).collect()
 }
 
 impl Draw {
-    /// A shape in its range: mostly small, now and then the largest.
+    /// A shape in its range: mostly small, now and then the largest; in any groups.
     pub fn shape(&mut self) -> Shape {
-        match self.below(300) {
+        let shape = match self.below(300) {
             0 => shape(4_096, 64, 64),
             1 => shape(self.within(1, 4_096), self.within(1, 64), self.within(2, 64)),
-            2..=40 => shape(self.within(1, 40), self.within(1, 5), self.within(2, 64)),
-            _ => shape(self.within(1, 4), self.within(1, 3), self.within(2, 6)),
-        }
+            2..=40 => shape(self.within(1, 40), self.within(1, 8), self.within(2, 64)),
+            _ => shape(self.within(1, 4), self.within(1, 6), self.within(2, 6)),
+        };
+        self.in_groups(shape)
     }
 
-    /// A shape, or now and then one with a number or two outside their ranges.
+    /// The same drive in groups: as many as divide its heads, starting one after the other at any offset.
+    fn in_groups(&mut self, shape: Shape) -> Shape {
+        let (groups, tracks) = self.of_these(&groupings(shape.heads));
+        grouped(shape, (groups, tracks, self.below(shape.sectors)))
+    }
+
+    /// A shape in its range, or now and then one with a number or two outside their ranges, or with a
+    /// fault in its groups.
     pub fn any_shape(&mut self, mut shape: Shape) -> Shape {
+        if self.one_in(20) {
+            shape = self.of_these(&misgrouped(shape));
+        }
         while self.one_in(20) {
-            match self.below(3) {
+            match self.below(4) {
                 0 => shape.cylinders = self.of_these(&[0, 4_097, u32::MAX, 0x1_0000]),
                 1 => shape.heads = self.of_these(&[0, 65, u32::MAX, 0x100]),
+                2 => shape = self.too_many_heads(shape),
                 _ => shape.sectors = self.of_these(&[0, 1, 65, u32::MAX]),
             }
         }
         shape
+    }
+
+    /// The same drive with more heads than may be, in groups that are right for them.
+    fn too_many_heads(&mut self, shape: Shape) -> Shape {
+        let (groups, tracks) = self.of_these(&[(5, 13), (13, 5), (64, 64)]);
+        Shape { heads: groups * tracks, groups, tracks, ..shape }
     }
 
     /// The numbers of an address, each about its bound.
@@ -50,9 +105,9 @@ impl Draw {
         (number(shape.cylinders), number(shape.heads), number(shape.sectors))
     }
 
-    /// A shape and r of a revectored drive in their ranges.
+    /// A shape and r of a revectored drive in their ranges, in any groups.
     pub fn drive(&mut self) -> (Shape, u32) {
-        match self.below(200) {
+        let (shape, r) = match self.below(200) {
             // T × r is 1,024, by many tracks or by many spares of a track.
             0..=2 => self.of_these(&[
                 (shape(64, 16, 64), 1),
@@ -64,16 +119,17 @@ impl Draw {
             3..=40 => {
                 let sectors = self.within(2, 20);
                 let r = self.within(1, sectors - 1);
-                let heads = self.within(1, 4);
+                let heads = self.within(1, 8);
                 let most = 1_024 / (r * heads);
                 (shape(self.within(1, most.max(1)), heads, sectors), r)
             }
             _ => {
                 let sectors = self.within(2, 7);
                 let r = self.within(1, sectors - 1);
-                (shape(self.within(1, 5), self.within(1, 3), sectors), r)
+                (shape(self.within(1, 5), self.within(1, 6), sectors), r)
             }
-        }
+        };
+        (self.in_groups(shape), r)
     }
 
     /// A shape and r, now and then with a number outside its range, or with too many spares.

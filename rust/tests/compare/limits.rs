@@ -5,11 +5,13 @@ use tautberry::{
 };
 
 use crate::drawn_nights::Drawn;
-use crate::drawn_shapes::{paper, shape};
+use crate::drawn_shapes::{grouped, groupings, misgrouped, paper, shape};
 use crate::drawn_tables::descriptor;
 use crate::model::spares::{drive, empty_table, word, UNUSABLE};
 use crate::model::{self, skipping};
 use crate::nights::formatted;
+use crate::shape_calls::{every_call_gives, Rest};
+use crate::skipping::same_addresses;
 
 /// The first numbers, as many as asked for.
 fn first(count: usize) -> Vec<u32> {
@@ -81,18 +83,48 @@ fn n_of_16777216_and_one_more() {
 #[test]
 fn every_edge_of_a_shape() {
     let accepted = [(1, 1, 2), (4_096, 1, 2), (1, 64, 2), (1, 1, 64)];
-    let refused = [(0, 1, 2), (4_097, 1, 2), (1, 0, 2), (1, 65, 2), (1, 1, 1), (1, 1, 65)];
+    let refused = [(0, 1, 2), (4_097, 1, 2), (1, 0, 2), (1, 65, 2), (1, 1, 1), (1, 1, 65)]
+        .map(|(cylinders, heads, sectors)| shape(cylinders, heads, sectors));
+    // Too many heads in groups that are right for them.
+    let in_groups =
+        [grouped(shape(1, 65, 2), (5, 13, 0)), grouped(shape(1, 4_096, 2), (64, 64, 0))];
     for (cylinders, heads, sectors) in accepted {
         assert_eq!(
             shapes::address_of(shape(cylinders, heads, sectors), 0).map(|at| at.sector),
             Ok(0)
         );
     }
-    for (cylinders, heads, sectors) in refused {
-        let drive = shape(cylinders, heads, sectors);
+    for drive in refused.into_iter().chain(in_groups) {
         assert_eq!(shapes::address_of(drive, 0), Err(Refusal::OutOfRange));
         assert_eq!(shapes::sector_of(drive, 0, 0, 0), Err(Refusal::OutOfRange));
         assert_eq!(model::shape::address_of(paper(drive), 0), Err(1));
+    }
+}
+
+/// The fewest and the most groups, each at offset 0, at S − 1 and at S, asked of every call.
+#[test]
+fn every_edge_of_groups() {
+    for drive in [shape(16, 64, 64), shape(16, 64, 2), shape(1, 1, 2), shape(1, 1, 64)] {
+        let rest = Rest::proper(drive, 1);
+        for (groups, tracks) in [(1, drive.heads), (drive.heads, 1)] {
+            let at = |offset| grouped(drive, (groups, tracks, offset));
+            every_call_gives(at(0), &rest, |_| 0);
+            every_call_gives(at(drive.sectors - 1), &rest, |_| 0);
+            every_call_gives(at(drive.sectors), &rest, |_| 1);
+            for wrong in misgrouped(at(0)) {
+                every_call_gives(wrong, &rest, |_| 1);
+            }
+        }
+    }
+}
+
+/// 64 heads in groups of any size, from one group to one group a head.
+#[test]
+fn every_address_of_64_heads() {
+    for (groups, tracks) in groupings(64) {
+        for offset in [0, 1, 32, 63] {
+            same_addresses(grouped(shape(1, 64, 64), (groups, tracks, offset)));
+        }
     }
 }
 

@@ -31,5 +31,6 @@ mod paper;
 mod plainly;
 mod reads;
 mod rooms;
+mod shape_calls;
 mod skipping;
 mod tables;

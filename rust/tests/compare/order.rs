@@ -6,11 +6,12 @@
 use tautberry::{format, image, page, reading, shape as shapes, skip, skipped, spares, Cursor};
 use tautberry::{Refusal, Shape};
 
-use crate::drawn_shapes::{paper, shape};
+use crate::drawn_shapes::{grouped, misgrouped, paper, shape};
 use crate::model;
 use crate::model::format::Night;
 use crate::model::image::Read;
 use crate::model::skipping;
+use crate::shape_calls::{every_call_gives, Rest};
 
 /// N, a list and the number asked for, mended step by step: 1, 2, the lowest place at fault (3, then
 /// 4), then the number itself.
@@ -29,12 +30,12 @@ fn spaces() -> Vec<(u32, Vec<u32>, u32)> {
 }
 
 /// The numbers of a library's answers, 0 for accepted.
-fn number<T>(answer: Result<T, Refusal>) -> u32 {
+pub fn number<T>(answer: Result<T, Refusal>) -> u32 {
     answer.map_or_else(Refusal::number, |_| 0)
 }
 
 /// The same of the model.
-fn paper_number<T>(answer: Result<T, u32>) -> u32 {
+pub fn paper_number<T>(answer: Result<T, u32>) -> u32 {
     answer.map_or_else(|number| number, |_| 0)
 }
 
@@ -97,7 +98,8 @@ fn skipping_in_order() {
 
 #[test]
 fn shapes_in_order() {
-    let cases = [(shape(0, 1, 2), 9), (shape(5, 4, 5), 900), (shape(5, 4, 5), 2)];
+    let drive = shape(5, 4, 5);
+    let cases = [(shape(0, 1, 2), 9), (grouped(drive, (2, 3, 0)), 900), (drive, 900), (drive, 2)];
     same(
         "shape::sector_of",
         cases.map(|(drive, asked)| number(shapes::sector_of(drive, asked, 0, 0))).to_vec(),
@@ -106,7 +108,7 @@ fn shapes_in_order() {
                 paper_number(model::shape::sector_of(paper(drive), (asked, 0, 0)))
             })
             .to_vec(),
-        &[1, 6, 0],
+        &[1, 1, 6, 0],
     );
     same(
         "shape::address_of",
@@ -114,8 +116,27 @@ fn shapes_in_order() {
         cases
             .map(|(drive, asked)| paper_number(model::shape::address_of(paper(drive), asked)))
             .to_vec(),
-        &[1, 6, 0],
+        &[1, 1, 6, 0],
     );
+}
+
+/// The groups come before the list, the table, the number asked for, the room and the images.
+#[test]
+fn groups_before_all_else() {
+    let drives = [shape(5, 4, 5), grouped(shape(5, 4, 5), (2, 2, 3)), shape(2, 7, 64)];
+    for drive in drives {
+        let (proper, faulty) = (Rest::proper(drive, 2), Rest::faulty(2));
+        every_call_gives(drive, &proper, |_| 0);
+        every_call_gives(drive, &faulty, |call| match call {
+            "shape::sector_of" | "shape::address_of" => 6,
+            "skipped::address_of" | "skipped::block_at" | "spares::first_table" => 2,
+            _ => 11,
+        });
+        for drive in misgrouped(drive) {
+            every_call_gives(drive, &faulty, |_| 1);
+            every_call_gives(drive, &proper, |_| 1);
+        }
+    }
 }
 
 /// A drive of 100 sectors in the place of N; out of range where N is 0.
@@ -253,6 +274,7 @@ fn tables() -> Vec<(Shape, u32, Vec<u32>, u32)> {
     let drive = shape(2, 2, 5);
     vec![
         (shape(2, 2, 66), 0, vec![1; 5], 900),
+        (grouped(drive, (2, 1, 5)), 2, vec![1; 5], 900),
         (drive, 0, vec![1; 5], 900),
         (drive, 5, vec![1; 5], 900),
         (shape(2, 2, 64), 63, vec![1; 5], 900),
@@ -287,7 +309,7 @@ fn ask_tables(
 
 #[test]
 fn spares_in_order() {
-    let by_block = [1, 1, 1, 11, 1, 11, 5, 0];
+    let by_block = [1, 1, 1, 1, 11, 1, 11, 5, 0];
     ask_tables(
         "spares::sector_of",
         &|drive, r, table, block| number(spares::sector_of(drive, r, table, block)),
@@ -318,7 +340,7 @@ fn spares_in_order() {
         "spares::block_on",
         &|drive, r, table, sector| number(spares::block_on(drive, r, table, sector)),
         &|drive, r, table, sector| paper_number(model::spares::block_on(drive, r, table, sector)),
-        &[1, 1, 1, 11, 1, 11, 6, 0],
+        &[1, 1, 1, 1, 11, 1, 11, 6, 0],
     );
     ask_tables(
         "spares::block_at",
@@ -326,13 +348,13 @@ fn spares_in_order() {
         &|drive, r, table, asked| {
             paper_number(model::spares::block_at(drive, r, table, (asked / 9, 0, 0)))
         },
-        &[1, 1, 1, 11, 1, 11, 6, 0],
+        &[1, 1, 1, 1, 11, 1, 11, 6, 0],
     );
     ask_tables(
         "spares::census",
         &|drive, r, table, _| number(spares::census(drive, r, table)),
         &|drive, r, table, _| paper_number(model::spares::census(drive, r, table)),
-        &[1, 1, 1, 11, 1, 11, 0, 0],
+        &[1, 1, 1, 1, 11, 1, 11, 0, 0],
     );
 }
 
@@ -362,8 +384,9 @@ fn first_tables_in_order() {
     let too_many = [0, 1, 2, 5, 6, 7, 10, 11, 12];
     // Seven bad home sectors and two bad spares leave too few.
     let spares_too = [0, 1, 2, 3, 4, 5, 6, 7, 10];
-    let cases: [(Shape, u32, &[u32], usize); 9] = [
+    let cases: [(Shape, u32, &[u32], usize); 10] = [
         (shape(0, 2, 5), 2, &too_long, 0),
+        (grouped(drive, (1, 1, 0)), 2, &too_long, 0),
         (drive, 5, &too_long, 0),
         (drive, 2, &too_long, 0),
         (drive, 2, &[5, 5, 20], 0),
@@ -386,7 +409,7 @@ fn first_tables_in_order() {
                 paper_number(model::spares::first_table(paper(drive), r, list, room))
             })
             .to_vec(),
-        &[1, 1, 2, 3, 4, 7, 13, 13, 0],
+        &[1, 1, 1, 2, 3, 4, 7, 13, 13, 0],
     );
 }
 
@@ -445,7 +468,7 @@ fn reads_in_order() {
     let track = 5 * 530;
     let noise = vec![0xA5; track];
     let mut cases = Vec::new();
-    for (drive, r, table, block) in tables().into_iter().take(7) {
+    for (drive, r, table, block) in tables().into_iter().take(8) {
         cases.push((drive, r, table, block, noise.clone(), vec![0; 3]));
     }
     cases.push((drive, 2, table.clone(), 7, vec![0xA5; track + 1], noise.clone()));
@@ -456,7 +479,7 @@ fn reads_in_order() {
         spare[3 * 530..4 * 530].copy_from_slice(&image);
         cases.push((drive, 2, table.clone(), 7, noise.clone(), spare));
     }
-    let expected = [1, 1, 1, 11, 1, 11, 5, 14, 14, 15, 16, 18, 17, 0];
+    let expected = [1, 1, 1, 1, 11, 1, 11, 5, 14, 14, 15, 16, 18, 17, 0];
     for ((drive, r, table, block, home, spare), expected) in cases.iter().zip(expected) {
         let judged = reading::judge(*drive, *r, table, *block, home, spare);
         assert_eq!(number(judged), expected, "reading::judge");

@@ -1,11 +1,13 @@
 //! The paper's own numbers, asked of the library and of the model.
 
-use tautberry::{format, image, page, skip, spares, Refusal};
+use tautberry::{format, image, page, shape as shapes, skip, skipped, spares, Refusal, Shape};
 
 use crate::drawn_nights::Drawn;
-use crate::drawn_shapes::{paper, shape};
+use crate::drawn_shapes::{grouped, paper, shape};
 use crate::model::{self, skipping};
 use crate::nights::formatted;
+use crate::shape_calls::{every_call_gives, Rest};
+use crate::skipping::numbers;
 
 const CHART: [u32; 4] = [3, 7, 60, 61];
 
@@ -42,6 +44,87 @@ fn the_night_of_twenty_sectors() {
     let model = model::format::lists(night.lent());
     assert_eq!(model, Ok((vec![4, 18], vec![3, 4, 7, 18], 3)));
     assert_eq!(skipping::sector_of(20, &list, 15), Ok(19));
+}
+
+/// Library and model must find the sector at this place and angle, and the library finds it back.
+fn lies_at(drive: Shape, sector: u32, at: (u32, u32, u32, u32)) {
+    assert_eq!(shapes::address_of(drive, sector).map(numbers), Ok(at));
+    assert_eq!(skipped::address_of(drive, &[], sector).map(numbers), Ok(at));
+    assert_eq!(model::shape::address_of(paper(drive), sector), Ok(at));
+    assert_eq!(skipping::address_of(paper(drive), &[], sector), Ok(at));
+    let (cylinder, head, number, _) = at;
+    assert_eq!(shapes::sector_of(drive, cylinder, head, number), Ok(sector));
+    assert_eq!(skipped::block_at(drive, &[], cylinder, head, number), Ok(Some(sector)));
+}
+
+/// C 2, H 4, S 5 in two groups of two tracks, the second group three sectors after the first.
+fn two_groups() -> Shape {
+    grouped(shape(2, 4, 5), (2, 2, 3))
+}
+
+#[test]
+fn the_angles() {
+    let rows = [
+        (0, (0, 0, 0, 0)),
+        (9, (0, 1, 4, 4)),
+        (10, (0, 2, 0, 3)),
+        (13, (0, 2, 3, 1)),
+        (19, (0, 3, 4, 2)),
+        (20, (1, 0, 0, 0)),
+        (39, (1, 3, 4, 2)),
+    ];
+    for (sector, at) in rows {
+        lies_at(two_groups(), sector, at);
+    }
+    lies_at(grouped(shape(4_096, 64, 64), (64, 1, 63)), 16_777_215, (4_095, 63, 63, 0));
+}
+
+#[test]
+fn one_group_leaves_the_angle_at_the_sector() {
+    let all_heads = Shape { cylinders: 2, heads: 4, sectors: 5, groups: 1, tracks: 4, offset: 0 };
+    assert_eq!(Shape::ungrouped(2, 4, 5), all_heads);
+    for offset in 0..5 {
+        for sector in 0..40 {
+            let at = (sector / 20, sector / 5 % 4, sector % 5, sector % 5);
+            lies_at(grouped(shape(2, 4, 5), (1, 4, offset)), sector, at);
+        }
+    }
+}
+
+/// With r 2 block 6 is at home on sector 10, and place 4 is sector 13.
+#[test]
+fn the_angle_of_a_replaced_block() {
+    let drive = two_groups();
+    let mut table = Rest::proper(drive, 2).table;
+    for at in [(0, 2, 0, 3), (0, 2, 3, 1)] {
+        assert_eq!(spares::address_of(drive, 2, &table, 6).map(numbers), Ok(at));
+        assert_eq!(model::spares::address_of(paper(drive), 2, &table, 6), Ok(at));
+        table[4] = 0x2000_0006;
+    }
+}
+
+/// Groups of a drive of C 2, H 4, S 5, good and bad, asked of every call that takes a shape.
+#[test]
+fn good_and_bad_groups() {
+    let drive = shape(2, 4, 5);
+    let rest = Rest::proper(drive, 2);
+    let accepted = [(1, 4, 0), (2, 2, 3), (4, 1, 4)];
+    let refused = [
+        (0, 4, 0),
+        (1, 0, 0),
+        (2, 3, 0),
+        (4, 2, 0),
+        (2, 2, 5),
+        (2, 2, 4_294_967_295),
+        (65_536, 65_536, 0),
+        (1_073_741_825, 4, 0),
+    ];
+    for groups in accepted {
+        every_call_gives(grouped(drive, groups), &rest, |_| 0);
+    }
+    for groups in refused {
+        every_call_gives(grouped(drive, groups), &rest, |_| 1);
+    }
 }
 
 #[test]

@@ -1,7 +1,5 @@
 //! The benchmark's plain Rust against the model, so that both sides of a ratio do the same work.
 
-use tautberry::Shape;
-
 use crate::draw::Draw;
 use crate::drawn_nights::Drawn;
 use crate::drawn_shapes::paper;
@@ -43,14 +41,12 @@ fn plain_spare_sector() {
         let mut draw = Draw::of(seed);
         let tabled = draw.any_tabled();
         let block = draw.near(tabled.drive.blocks());
-        let Shape { cylinders, heads, sectors } = tabled.shape;
-        let shape = plain::Shape { cylinders, heads, sectors };
-        let plain = plain::spare_sector(shape, tabled.r, &tabled.table, block);
-        let drive = paper(tabled.shape);
-        let model = model::spares::sector_of(drive, tabled.r, &tabled.table, block);
-        tally.same_numbers(seed, plain, model);
-        let plain = plain::spare_sector_by_pairs(shape, tabled.r, &tabled.table, block);
-        tally.same_numbers(seed, plain, model);
+        let (r, table, shape) = (tabled.r, &tabled.table, plain::Shape::from(tabled.shape));
+        let drive = (tabled.shape, Some(r));
+        let model = model::spares::sector_of(paper(tabled.shape), r, table, block);
+        tally.same_numbers_on(seed, drive, plain::spare_sector(shape, r, table, block), model);
+        let by_pairs = plain::spare_sector_by_pairs(shape, r, table, block);
+        tally.same_numbers_on(seed, drive, by_pairs, model);
     }
     tally.saw(&[0, 1, 5, 11]);
 }

@@ -1,6 +1,7 @@
 //! Reads of revectored blocks against the model.
 
 use tautberry::reading::{self, Track};
+use tautberry::Shape;
 
 use crate::draw::Draw;
 use crate::drawn_shapes::paper;
@@ -20,6 +21,10 @@ struct Drawn {
 }
 
 impl Drawn {
+    fn drive(&self) -> (Shape, Option<u32>) {
+        (self.tabled.shape, Some(self.tabled.r))
+    }
+
     fn paper(&self) -> Read<'_> {
         Read {
             shape: paper(self.tabled.shape),
@@ -62,7 +67,7 @@ fn reading_judge() {
         let read = any_read(&mut Draw::of(seed));
         let Drawn { tabled, block, home, spare } = &read;
         let library = reading::judge(tabled.shape, tabled.r, &tabled.table, *block, home, spare);
-        tally.same(seed, library, model::image::judge_read(read.paper()));
+        tally.same_on(seed, read.drive(), library, model::image::judge_read(read.paper()));
     }
     tally.saw(&[0, 1, 5, 11, 14, 15, 16, 17, 18]);
 }
@@ -85,7 +90,7 @@ fn reading_spot_and_data() {
         });
         at_home += u32::from(matches!(library, Ok((0, _))));
         on_spare += u32::from(matches!(library, Ok((1, _))));
-        tally.same(seed, library, model::image::spot(read.paper()));
+        tally.same_on(seed, read.drive(), library, model::image::spot(read.paper()));
 
         let library = reading::data(shape, r, table, *block, home, spare);
         let model = model::image::read_data(read.paper());
@@ -94,7 +99,7 @@ fn reading_spot_and_data() {
             _ => true,
         };
         assert!(same_place, "reading::data lies elsewhere at seed {seed}");
-        parts.same(seed, library, model);
+        parts.same_on(seed, read.drive(), library, model);
     }
     tally.saw(&[0, 1, 5, 11, 14, 15, 16, 17, 18]);
     parts.saw(&[0, 1, 5, 11, 14, 15, 16, 17, 18]);

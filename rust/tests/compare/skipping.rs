@@ -1,9 +1,9 @@
 //! Skipping, the job cursor, shapes and the skipped drive against the model.
 
-use tautberry::{shape, skip, skipped, Address, Cursor, Refusal};
+use tautberry::{shape as shapes, skip, skipped, Address, Cursor, Refusal, Shape};
 
 use crate::draw::Draw;
-use crate::drawn_shapes::paper;
+use crate::drawn_shapes::{grouped, groupings, paper, shape};
 use crate::model::numbers::{check_list, check_size};
 use crate::model::{self, skipping};
 use crate::tally::Tally;
@@ -11,8 +11,13 @@ use crate::tally::Tally;
 const SEEDS: u64 = 20_000;
 
 /// An address as the model has it.
-pub fn numbers(address: Address) -> (u32, u32, u32) {
-    (address.cylinder, address.head, address.sector)
+pub fn numbers(address: Address) -> (u32, u32, u32, u32) {
+    (address.cylinder, address.head, address.sector, address.angle)
+}
+
+/// Whether an answered address has an angle other than its sector.
+pub fn turned<E>(answer: &Result<(u32, u32, u32, u32), E>) -> bool {
+    matches!(answer, Ok((_, _, sector, angle)) if sector != angle)
 }
 
 #[test]
@@ -123,8 +128,9 @@ fn shape_sector_of() {
         let address = draw.any_address(shape);
         let shape = draw.any_shape(shape);
         let (cylinder, head, sector) = address;
-        let library = shape::sector_of(shape, cylinder, head, sector);
-        tally.same(seed, library, model::shape::sector_of(paper(shape), address));
+        let library = shapes::sector_of(shape, cylinder, head, sector);
+        let model = model::shape::sector_of(paper(shape), address);
+        tally.same_on(seed, (shape, None), library, model);
     }
     tally.saw(&[0, 1, 6]);
 }
@@ -132,20 +138,49 @@ fn shape_sector_of() {
 #[test]
 fn shape_address_of() {
     let mut tally = Tally::of("shape::address_of");
+    let mut elsewhere = 0;
     for seed in tally.seeds(SEEDS) {
         let mut draw = Draw::of(seed);
         let shape = draw.shape();
         let sector = draw.near(shape.cylinders * shape.heads * shape.sectors);
         let shape = draw.any_shape(shape);
-        let library = shape::address_of(shape, sector).map(numbers);
-        tally.same(seed, library, model::shape::address_of(paper(shape), sector));
+        let library = shapes::address_of(shape, sector).map(numbers);
+        elsewhere += u32::from(turned(&library));
+        let model = model::shape::address_of(paper(shape), sector);
+        tally.same_on(seed, (shape, None), library, model);
     }
     tally.saw(&[0, 1, 6]);
+    assert!(elsewhere > 1_000, "{elsewhere} turned");
+}
+
+/// Library and model give every sector of a drive the same address, and the library finds it back.
+pub fn same_addresses(drive: Shape) {
+    for sector in 0..drive.cylinders * drive.heads * drive.sectors {
+        let library = shapes::address_of(drive, sector).map(numbers);
+        let model = model::shape::address_of(paper(drive), sector);
+        assert_eq!(library.map_err(Refusal::number), model, "sector {sector} of {drive:?}");
+        let (cylinder, head, at, _) = model.expect("a sector of the drive");
+        assert_eq!(shapes::sector_of(drive, cylinder, head, at), Ok(sector), "{drive:?}");
+    }
+}
+
+#[test]
+fn every_address_of_small_drives() {
+    for heads in 1..=12 {
+        for (groups, tracks) in groupings(heads) {
+            for sectors in 2..=7 {
+                for offset in 0..sectors {
+                    same_addresses(grouped(shape(2, heads, sectors), (groups, tracks, offset)));
+                }
+            }
+        }
+    }
 }
 
 #[test]
 fn skipped_address_of() {
     let mut tally = Tally::of("skipped::address_of");
+    let mut elsewhere = 0;
     for seed in tally.seeds(SEEDS) {
         let mut draw = Draw::of(seed);
         let shape = draw.shape();
@@ -154,9 +189,12 @@ fn skipped_address_of() {
         let block = draw.near(n.saturating_sub(list.len() as u32));
         let shape = draw.any_shape(shape);
         let library = skipped::address_of(shape, &list, block).map(numbers);
-        tally.same(seed, library, skipping::address_of(paper(shape), &list, block));
+        elsewhere += u32::from(turned(&library));
+        let model = skipping::address_of(paper(shape), &list, block);
+        tally.same_on(seed, (shape, None), library, model);
     }
     tally.saw(&[0, 1, 2, 3, 4, 5]);
+    assert!(elsewhere > 1_000, "{elsewhere} turned");
 }
 
 #[test]
@@ -173,7 +211,8 @@ fn skipped_block_at() {
         let library = skipped::block_at(shape, &list, cylinder, head, sector);
         blocks += u32::from(matches!(library, Ok(Some(_))));
         none += u32::from(library == Ok(None));
-        tally.same(seed, library, skipping::block_at(paper(shape), &list, address));
+        let model = skipping::block_at(paper(shape), &list, address);
+        tally.same_on(seed, (shape, None), library, model);
     }
     tally.saw(&[0, 1, 2, 3, 4, 6]);
     assert!(blocks > 1_000 && none > 1_000, "{blocks} blocks, {none} times none");

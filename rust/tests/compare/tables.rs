@@ -6,7 +6,7 @@ use crate::draw::Draw;
 use crate::drawn_shapes::paper;
 use crate::model;
 use crate::model::spares::empty_table;
-use crate::skipping::numbers;
+use crate::skipping::{numbers, turned};
 use crate::tally::Tally;
 
 const SEEDS: u64 = 20_000;
@@ -20,7 +20,8 @@ fn spares_sector_of() {
         let block = draw.near(tabled.drive.blocks());
         let (shape, r, table) = (tabled.shape, tabled.r, &tabled.table);
         let library = spares::sector_of(shape, r, table, block);
-        tally.same(seed, library, model::spares::sector_of(paper(shape), r, table, block));
+        let model = model::spares::sector_of(paper(shape), r, table, block);
+        tally.same_on(seed, (shape, Some(r)), library, model);
     }
     tally.saw(&[0, 1, 5, 11]);
 }
@@ -28,15 +29,19 @@ fn spares_sector_of() {
 #[test]
 fn spares_address_of() {
     let mut tally = Tally::of("spares::address_of");
+    let mut elsewhere = 0;
     for seed in tally.seeds(SEEDS) {
         let mut draw = Draw::of(seed);
         let tabled = draw.any_tabled();
         let block = draw.near(tabled.drive.blocks());
         let (shape, r, table) = (tabled.shape, tabled.r, &tabled.table);
         let library = spares::address_of(shape, r, table, block).map(numbers);
-        tally.same(seed, library, model::spares::address_of(paper(shape), r, table, block));
+        elsewhere += u32::from(turned(&library));
+        let model = model::spares::address_of(paper(shape), r, table, block);
+        tally.same_on(seed, (shape, Some(r)), library, model);
     }
     tally.saw(&[0, 1, 5, 11]);
+    assert!(elsewhere > 1_000, "{elsewhere} turned");
 }
 
 #[test]
@@ -51,7 +56,8 @@ fn spares_shift() {
         let library = spares::shift(shape, r, table, block);
         toward += u32::from(library.is_ok_and(|shift| shift < 0));
         away += u32::from(library.is_ok_and(|shift| shift > 0));
-        tally.same(seed, library, model::spares::shift(paper(shape), r, table, block));
+        let model = model::spares::shift(paper(shape), r, table, block);
+        tally.same_on(seed, (shape, Some(r)), library, model);
     }
     tally.saw(&[0, 1, 5, 11]);
     assert!(toward > 200 && away > 200, "{toward} negative, {away} positive");
@@ -69,7 +75,8 @@ fn spares_block_on() {
         let library = spares::block_on(shape, r, table, sector);
         blocks += u32::from(matches!(library, Ok(Some(_))));
         none += u32::from(library == Ok(None));
-        tally.same(seed, library, model::spares::block_on(paper(shape), r, table, sector));
+        let model = model::spares::block_on(paper(shape), r, table, sector);
+        tally.same_on(seed, (shape, Some(r)), library, model);
     }
     tally.saw(&[0, 1, 6, 11]);
     assert!(blocks > 1_000 && none > 1_000, "{blocks} blocks, {none} times none");
@@ -88,7 +95,8 @@ fn spares_block_at() {
         let library = spares::block_at(shape, r, table, cylinder, head, sector);
         blocks += u32::from(matches!(library, Ok(Some(_))));
         none += u32::from(library == Ok(None));
-        tally.same(seed, library, model::spares::block_at(paper(shape), r, table, address));
+        let model = model::spares::block_at(paper(shape), r, table, address);
+        tally.same_on(seed, (shape, Some(r)), library, model);
     }
     tally.saw(&[0, 1, 6, 11]);
     assert!(blocks > 1_000 && none > 1_000, "{blocks} blocks, {none} times none");
@@ -105,7 +113,7 @@ fn spares_replace() {
         let (mut ours, mut theirs) = (tabled.table.clone(), tabled.table.clone());
         let library = spares::replace(shape, r, &mut ours, block);
         let model = model::spares::replace(paper(shape), r, &mut theirs, block);
-        tally.same(seed, library, model);
+        tally.same_on(seed, (shape, Some(r)), library, model);
         assert_eq!(ours, theirs, "spares::replace: another table at seed {seed}");
         let altered = (0..ours.len()).filter(|place| ours[*place] != tabled.table[*place]);
         let expected = library.ok().map(|place| place as usize);
@@ -123,7 +131,8 @@ fn spares_census() {
         let (shape, r, table) = (tabled.shape, tabled.r, &tabled.table);
         let library = spares::census(shape, r, table)
             .map(|count| [count.free, count.primary, count.elsewhere, count.unusable, count.null]);
-        tally.same(seed, library, model::spares::census(paper(shape), r, table));
+        let model = model::spares::census(paper(shape), r, table);
+        tally.same_on(seed, (shape, Some(r)), library, model);
     }
     tally.saw(&[0, 1, 11]);
 }
@@ -148,7 +157,7 @@ fn spares_first_table() {
         let library = spares::first_table(shape, r, &list, ours.lent());
         let model = model::spares::first_table(paper(shape), r, &list, theirs.lent());
         let written = model.unwrap_or(0) as usize;
-        tally.same(seed, library, model);
+        tally.same_on(seed, (shape, Some(r)), library, model);
         tally.same_room(seed, &before, &ours, &theirs, written);
     }
     tally.saw(&[0, 1, 2, 3, 4, 7, 13]);

@@ -4,20 +4,51 @@ use std::collections::BTreeMap;
 use std::fmt::Debug;
 use std::ops::Range;
 
-use tautberry::Refusal;
+use tautberry::{Refusal, Shape};
 
 use crate::draw::Room;
+use crate::drawn_shapes::{grouped, paper};
+use crate::model;
 
 /// The answers of one call, counted by refusal number on both sides; 0 is accepted.
 pub struct Tally {
     call: &'static str,
     library: BTreeMap<u32, u32>,
     model: BTreeMap<u32, u32>,
+    groups: Option<Groups>,
+}
+
+/// What the groups of the shapes came to, of a call that takes a shape.
+#[derive(Debug, Default)]
+struct Groups {
+    /// Refused 1 for g or t alone.
+    heads: u32,
+    /// Refused 1 for the offset alone.
+    offset: u32,
+    /// Accepted with more than one group, and with an offset that is not 0.
+    accepted: u32,
+}
+
+/// Every comparison of a call that takes a shape must have seen each of the three so often.
+const GROUPS_LEAST: u32 = 100;
+
+impl Groups {
+    /// Counts one answer about a drive, with r where it has spares.
+    fn count(&mut self, (shape, r): (Shape, Option<u32>), number: u32) {
+        let in_range = |shape: Shape| match r {
+            Some(r) => model::spares::drive(paper(shape), r).is_ok(),
+            None => model::shape::check(paper(shape)).is_ok(),
+        };
+        let one_group = grouped(shape, (1, shape.heads, shape.offset));
+        self.heads += u32::from(number == 1 && in_range(one_group));
+        self.offset += u32::from(number == 1 && in_range(Shape { offset: 0, ..shape }));
+        self.accepted += u32::from(number == 0 && shape.groups > 1 && shape.offset > 0);
+    }
 }
 
 impl Tally {
     pub fn of(call: &'static str) -> Tally {
-        Tally { call, library: BTreeMap::new(), model: BTreeMap::new() }
+        Tally { call, library: BTreeMap::new(), model: BTreeMap::new(), groups: None }
     }
 
     /// So many seeds that no other call has, as its name gives them.
@@ -54,6 +85,30 @@ impl Tally {
         );
     }
 
+    /// The same for a call that takes a shape, and r where the drive has spares: what its groups came to
+    /// is counted too.
+    pub fn same_on<T: PartialEq + Debug>(
+        &mut self,
+        seed: u64,
+        drive: (Shape, Option<u32>),
+        library: Result<T, Refusal>,
+        model: Result<T, u32>,
+    ) {
+        self.same_numbers_on(seed, drive, library.map_err(Refusal::number), model);
+    }
+
+    /// The same for a side that gives numbers.
+    pub fn same_numbers_on<T: PartialEq + Debug>(
+        &mut self,
+        seed: u64,
+        drive: (Shape, Option<u32>),
+        library: Result<T, u32>,
+        model: Result<T, u32>,
+    ) {
+        self.groups.get_or_insert_default().count(drive, number(&library));
+        self.same_numbers(seed, library, model);
+    }
+
     /// The rooms after one input: the same on both sides, and as before past what was written, which
     /// is nothing on a refusal.
     pub fn same_room<T: PartialEq + Copy + Debug>(
@@ -75,10 +130,17 @@ impl Tally {
         );
     }
 
-    /// Both sides must have given these numbers, 0 for accepted, and no others.
+    /// Both sides must have given these numbers, 0 for accepted, and no others. A call that takes a shape
+    /// must have been refused for its groups alone, and accepted with groups.
     pub fn saw(self, numbers: &[u32]) {
         let inputs: u32 = self.library.values().sum();
         println!("{}: {inputs} inputs, answers {:?}", self.call, self.library);
+        if let Some(groups) = &self.groups {
+            println!("{}: {groups:?}", self.call);
+            for seen in [groups.heads, groups.offset, groups.accepted] {
+                assert!(seen >= GROUPS_LEAST, "{}: too few of {groups:?}", self.call);
+            }
+        }
         for (side, seen) in [("library", &self.library), ("model", &self.model)] {
             let given: Vec<u32> = seen.keys().copied().collect();
             assert_eq!(given, numbers, "{}: numbers that the {side} gave", self.call);
