@@ -24,6 +24,7 @@ use Rattle.shape.specs.declared.Located.the-variants.{At as LocatedAt, Refused 
 use Rattle.shape.specs.Shapes.{Shaped, sizeOf, shapeFault}
 use Rattle.shape.specs.Addresses.{OnDrive, sectorAt, withAngle, addressAt, sectorOfFault, addressOfFault}
 use Rattle.shape.specs.Promises.{SectorOf as ShapeSectorOf, AddressOf as ShapeAddressOf}
+use Rattle.shape.proofs.Answered.{located-passes, located-is}
 use Rattle.shape.proofs.Bounds.{sector-below}
 use Rattle.shape.proofs.Inverse.{there-and-back, back-and-there, address-on-drive}
 use Rattle.shape.proofs.Exact.{tells-on-drive, place-shows, shape-shows}
@@ -184,26 +185,20 @@ module _ (shape : Shape) (r : ℕ) (t : List ℕ) where
       gives-one located (accepts (λ k. refl) none (promised .answers ∙ rw fault (ap (λ (sector : ℕ). LocatedAt (addressAt shape sector)) is)))
 
   module _ (b : ℕ) (address : Address) (promise : AddressOf shape r t b (LocatedAt address)) where
-    located-passes : blockFault shape r t b ≡ 0
-    located-passes = sym (gives-number promise (λ said. said .0) (λ k. refl) refl)
-
-    located-is : address ≡ addressAt shape (liesOn (driveOf shape r) t b)
-    located-is = let same : LocatedAt address ≡ LocatedAt (addressAt shape (liesOn (driveOf shape r) t b)) = located-answers b located-passes (LocatedAt address) promise in cc
-
     -- the address that is answered is on the drive, and its sector is the one that the block lies on
     located-on-drive : OnDrive shape (address .cylinder) (address .head) (address .sector)
-    located-on-drive = rw located-is (address-on-drive (block-ready shape r t b located-passes .shaped) (lies-inside b located-passes))
+    located-on-drive = rw (located-is promise) (address-on-drive (block-ready shape r t b (located-passes promise) .shaped) (lies-inside b (located-passes promise)))
 
     located-sector : sectorAt shape (address .cylinder) (address .head) (address .sector) ≡ liesOn (driveOf shape r) t b
-    located-sector = rw located-is (there-and-back (block-ready shape r t b located-passes .shaped) (lies-inside b located-passes))
+    located-sector = rw (located-is promise) (there-and-back (block-ready shape r t b (located-passes promise) .shaped) (lies-inside b (located-passes promise)))
 
     pub sector-of-address :
         (result sector : Placed) → SectorOf shape r t b result → ShapeSectorOf shape (address .cylinder) (address .head) (address .sector) sector →
         result ≡ sector
     sector-of-address result sector placed promised =
         let fault : sectorOfFault shape (address .cylinder) (address .head) (address .sector) ≡ 0 =
-        rw (shape-passes b located-passes, tells-on-drive shape (address .cylinder) (address .head) (address .sector) .told located-on-drive) in
-        gives-one placed (accepts (λ k. refl) located-passes (promised .answers ∙ rw fault (ap At located-sector)))
+        rw (shape-passes b (located-passes promise), tells-on-drive shape (address .cylinder) (address .head) (address .sector) .told located-on-drive) in
+        gives-one placed (accepts (λ k. refl) (located-passes promise) (promised .answers ∙ rw fault (ap At located-sector)))
 
   -- what is asked by cylinder, head and sector is what is asked by their sector number
   module _ (cylinder head sector : ℕ) where
@@ -231,7 +226,7 @@ module _ (shape : Shape) (r : ℕ) (t : List ℕ) where
       (b : ℕ) (address : Address) → AddressOf shape r t b (LocatedAt address) →
       (result : Named) → BlockAt shape r t (address .cylinder) (address .head) (address .sector) result → result ≡ Block b
   address-names-block b address promise result names =
-      let none = located-passes b address promise in
+      let none = located-passes promise in
       let asked = asked-at _ _ _ (block-ready shape r t b none .shaped) (located-on-drive b address promise) result names in
       sector-names-block b _ (accepts (λ k. refl) none (ap At (located-sector b address promise))) result asked
 
@@ -319,7 +314,7 @@ module _ (shape : Shape) (r : ℕ) (t : List ℕ) where
       leads address located =
           goes
           ∙ (ap (λ (long : ℕ). pos (liesOn (driveOf shape r) t b / long / shape .heads)) (track-whole (block-ready shape r t b none .drives))
-          ∙ ap (λ (there : Address). pos (there .cylinder)) (sym (located-is b address located)))
+          ∙ ap (λ (there : Address). pos (there .cylinder)) (sym (located-is located)))
 
       stays : SectorOf shape r t b (At (homeSector (driveOf shape r) b)) → Replaced t b → ⊥
       stays home replaced =

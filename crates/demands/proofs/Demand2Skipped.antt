@@ -24,12 +24,13 @@ use Rattle.lists.specs.Proper.{Proper, listFault, spaceFault}
 use Rattle.lists.specs.Union.{isIn}
 use Rattle.lists.proofs.Exact.{space-exactly, space-list}
 use Rattle.shape.specs.Shapes.{Shaped, sizeOf, shapeFault}
-use Rattle.shape.specs.Addresses.{OnDrive, sectorAt, withAngle, addressAt, offDriveFault, sectorOfFault as shapeSectorFault, addressOfFault as shapeAddressFault}
+use Rattle.shape.specs.Addresses.{OnDrive, sectorAt, withAngle, offDriveFault, sectorOfFault as shapeSectorFault, addressOfFault as shapeAddressFault}
 use Rattle.shape.specs.Promises.{SectorOf as ShapeSectorOf, AddressOf as ShapeAddressOf}
 use Rattle.shape.specs.declared.Shape.{Shape}
 use Rattle.shape.specs.declared.Address.{Address}
 use Rattle.shape.specs.declared.Located.{Located}
 use Rattle.shape.specs.declared.Located.the-variants.{At as LocatedAt, Refused as NotLocated}
+use Rattle.shape.proofs.Answered.{located-passes, located-is}
 use Rattle.shape.proofs.Bounds.{size-fits, sector-below}
 use Rattle.shape.proofs.Exact.{tells-on-drive, shape-shows, place-shows}
 use Rattle.shape.proofs.Inverse.{there-and-back, back-and-there, address-on-drive}
@@ -206,31 +207,19 @@ module _ (shape : Shape) (a : List ℕ) where
       (rw (one, ← is) at (here .answers)) ∙ sym (rw other at (there .answers))
 
   module _ (b : ℕ) (address : Address) (promise : AddressOf shape a b (LocatedAt address)) where
-    located-passes : addressOfFault shape a b ≡ 0
-    located-passes = sym (gives-number promise (λ said. said .0) (λ k. refl) refl)
-
     drive-passes : skippedFault shape a ≡ 0
-    drive-passes = block-drive shape a b located-passes
+    drive-passes = block-drive shape a b (located-passes promise)
 
     block-there : Lies (isIn a) (sizeOf shape) b (place (isIn a) (sizeOf shape) b)
-    block-there = each-lies (sizeOf shape) a (drive-proper shape a drive-passes) b (skipped-block-below shape a b located-passes)
-
-    same-cylinder : address .cylinder ≡ addressAt shape (place (isIn a) (sizeOf shape) b) .cylinder
-    same-cylinder = rw located-passes at (ap (λ (said : ℕ × ℕ × ℕ × ℕ × ℕ). said .1) (promise .says))
-
-    same-head : address .head ≡ addressAt shape (place (isIn a) (sizeOf shape) b) .head
-    same-head = rw located-passes at (ap (λ (said : ℕ × ℕ × ℕ × ℕ × ℕ). said .2) (promise .says))
-
-    same-sector : address .sector ≡ addressAt shape (place (isIn a) (sizeOf shape) b) .sector
-    same-sector = rw located-passes at (ap (λ (said : ℕ × ℕ × ℕ × ℕ × ℕ). said .3) (promise .says))
+    block-there = each-lies (sizeOf shape) a (drive-proper shape a drive-passes) b (skipped-block-below shape a b (located-passes promise))
 
     -- the address that is answered is on the drive
     pub address-is-on-drive : OnDrive shape (address .cylinder) (address .head) (address .sector)
-    address-is-on-drive = rw (same-cylinder, same-head, same-sector) (address-on-drive (drive-shaped shape a drive-passes) (block-there .inside))
+    address-is-on-drive = rw (located-is promise) (address-on-drive (drive-shaped shape a drive-passes) (block-there .inside))
 
     -- and its sector is the one that the block lies on
     pub address-lies : Lies (isIn a) (sizeOf shape) b (sectorAt shape (address .cylinder) (address .head) (address .sector))
-    address-lies = rw (same-cylinder, same-head, same-sector) (rw (there-and-back (drive-shaped shape a drive-passes) (block-there .inside)) block-there)
+    address-lies = rw (located-is promise, there-and-back (drive-shaped shape a drive-passes) (block-there .inside)) block-there
 
     -- so `shape::sector_of` answers that sector
     pub sector-of-address :

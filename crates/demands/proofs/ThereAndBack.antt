@@ -10,15 +10,16 @@ use Rattle.paper.specs.Exactly.{When, later}
 use Rattle.paper.specs.Limits.{dataSize}
 use Rattle.paper.specs.Refusals.{noSuchSector}
 use Rattle.paper.specs.declared.Placed.the-variants.{At}
-use Rattle.paper.proofs.Chain.{orElse-first, orElse-next, answer-accepted}
+use Rattle.paper.proofs.Chain.{orElse-first, orElse-next}
 use Rattle.paper.proofs.Kept.{gives, accepts, gives-number, gives-accepted, fills-gives}
 use Rattle.paper.proofs.Rows.{below-shows}
 use Rattle.shape.specs.declared.Shape.{Shape}
 use Rattle.shape.specs.declared.Address.{Address}
-use Rattle.shape.specs.declared.Located.the-variants.{At as LocatedAt, Refused as NotLocated}
+use Rattle.shape.specs.declared.Located.the-variants.{At as LocatedAt}
 use Rattle.shape.specs.Shapes.{Shaped, sizeOf, shapeFault}
-use Rattle.shape.specs.Addresses.{OnDrive, sectorAt, withAngle, addressAt, sectorOfFault, addressOfFault}
+use Rattle.shape.specs.Addresses.{OnDrive, sectorAt, withAngle, sectorOfFault, addressOfFault}
 use Rattle.shape.specs.Promises as Shapes
+use Rattle.shape.proofs.Answered.{located-passes, located-is}
 use Rattle.shape.proofs.Bounds.{sector-below}
 use Rattle.shape.proofs.Exact.{shape-shows, place-shows, sector-of-exactly, address-of-exactly}
 use Rattle.shape.proofs.Inverse.{there-and-back, address-on-drive, back-and-there}
@@ -50,12 +51,10 @@ module _ (shape : Shape) where
   address-numbered :
       (address : Address) (x : ℕ) → Shapes.AddressOf shape x (LocatedAt address) → Shapes.SectorOf shape (address .cylinder) (address .head) (address .sector) (At x)
   address-numbered address x given =
-      let passes : addressOfFault shape x ≡ 0 = sym (gives-number given (λ said. said .0) (λ k. refl) refl) in
-      let found : LocatedAt address ≡ LocatedAt (addressAt shape x) = given .answers ∙ answer-accepted (addressOfFault shape x) NotLocated (LocatedAt (addressAt shape x)) passes in
-      let is : address ≡ addressAt shape x = cc in
+      let passes : addressOfFault shape x ≡ 0 = located-passes given in
       let shaped : Shaped shape = shape-shows shape (orElse-first _ _ passes) in
       let below : x < sizeOf shape = below-shows (sizeOf shape) x noSuchSector (omega arith) (orElse-next (shapeFault shape) _ passes) in
-      rw is
+      rw (located-is given)
       (accepts (λ k. refl)
       (sector-of-exactly shape _ _ _ .only 0 (later (When.passed (λ bad. bad shaped)) (When.passed (λ off. off (address-on-drive shaped below)))))
       (ap At (sym (there-and-back shaped below))))

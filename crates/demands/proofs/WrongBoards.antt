@@ -73,7 +73,7 @@ use Rattle.demands.specs.Relations.{Keeps, Handed, Onward, Counts}
 use Rattle.demands.proofs.Demand3.{Arrives}
 use Rattle.demands.specs.Demand2Revectored.{AltersOne, ShiftLeads}
 use Rattle.demands.specs.Numbered.{PlacedBy}
-use Rattle.demands.specs.Angles.{Angled, Turned}
+use Rattle.demands.specs.Angles.{Angled, BothAngled}
 use Rattle.demands.specs.Inputs.{few, chart, small, noneReplaced, afterSix, twoGroups}
 use Rattle.demands.proofs.Boards.{made, scan, lent, pageWith, begun, damaged, older, newer, blank, trackWith, refusesAll, sameSector, addsOnce, skipsNothing, opened, runsAhead, cursorAfter, sectorsAfter, madeUpEntries, writesEarly, madeUpLengths, takesSectors, Composes, sameSpare, sparesNone, leavesTable, groupByRemainder, offsetOnce, neverRound, stoppedOrder, stopsSearch, madeUpCensus, censusWith, truncatedShift, wrappedShift, everyForced, homeImage, readsHome}
 
@@ -260,15 +260,15 @@ locatedAt cylinder head sector angle = record { cylinder = cylinder; head = head
 pub group-by-remainder-stays :
     (groupByRemainder twoGroups 0 ≡ LocatedAt (locatedAt 0 0 0 0))
     × (groupByRemainder twoGroups 10 ≡ LocatedAt (locatedAt 0 2 0 0))
-    × (Turned twoGroups (locatedAt 0 0 0 0) (locatedAt 0 2 0 0) → ⊥)
-group-by-remainder-stays = (refl, refl, λ turned. omega (arith, turned .further refl refl))
+    × (BothAngled twoGroups (locatedAt 0 0 0 0) (locatedAt 0 2 0 0) → ⊥)
+group-by-remainder-stays = (refl, refl, λ angled. omega (arith, angled .further refl refl))
 
 -- the offset once: both begin at angle 3, and from there it would be 1
 pub offset-once-stays :
     (offsetOnce twoGroups 0 ≡ LocatedAt (locatedAt 0 0 0 3))
     × (offsetOnce twoGroups 10 ≡ LocatedAt (locatedAt 0 2 0 3))
-    × (Turned twoGroups (locatedAt 0 0 0 3) (locatedAt 0 2 0 3) → ⊥)
-offset-once-stays = (refl, refl, λ turned. omega (arith, turned .further refl refl))
+    × (BothAngled twoGroups (locatedAt 0 0 0 3) (locatedAt 0 2 0 3) → ⊥)
+offset-once-stays = (refl, refl, λ angled. omega (arith, angled .further refl refl))
 
 -- never round: a track of five sectors has no angle 6
 pub never-round-beyond : (neverRound twoGroups 13 ≡ LocatedAt (locatedAt 0 2 3 6)) × (Angled twoGroups (locatedAt 0 2 3 6) → ⊥)

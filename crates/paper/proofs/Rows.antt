@@ -6,7 +6,7 @@ use mathlib.Core.Bool.{Bool, true, false, not, _&&_, _||_, true≢false}
 use mathlib.Core.Logic.{_⊎_, inl, inr, ⊎-elim}
 use native.Mathlib.Omega.{arith}
 use lib.Dec.{leb, ltb, eqb}
-use borrow.Author.Tests.{ltb-true, lt-ltb, leb-true, le-leb, eqb-true, eq-eqb, not-true}
+use borrow.Author.Tests.{ltb-true, lt-ltb, leb-true, le-leb, eqb-true, eq-eqb, not-true, not-false}
 use Rattle.paper.specs.Checks.{refuse, _orElse_}
 use Rattle.paper.specs.Exactly.{When, _andThen_, earlier, later, Exactly}
 use Rattle.paper.specs.Limits.{Within, within, unitsMost, sizeFault, SizeJudged}
@@ -39,6 +39,14 @@ module _ {test : Bool} {Fault : Type 0} (tells : Tells test Fault) where
       passed-only : test ≡ false → (k : ℕ) → When number Fault k → 0 ≡ k
       passed-only e k (When.given f) = absurd (tells-false e f)
       passed-only e k (When.passed f) = refl
+
+-- the number of one row where its condition holds, and where it does not
+module _ {number fault : ℕ} {Fault : Type 0} (exactly : Exactly (When number Fault) fault) where
+  pub row-given : Fault → number ≡ fault
+  row-given holds = sym (exactly .only number (When.given holds))
+
+  pub row-passed : (Fault → ⊥) → 0 ≡ fault
+  row-passed fails = sym (exactly .only 0 (When.passed fails))
 
 -- rows in their order, where the later ones are known only once the earlier ones give no number
 pub rows-passed :
@@ -91,6 +99,14 @@ tells-either {s} {t} {F} {G} f g = record { holds = held; told = ⊎-elim (λ h.
 
 pub tells-within : (least most number : ℕ) → Tells (within least most number) (Within least most number)
 tells-within least most number = tells-both (tells-le least number) (tells-le number most)
+
+-- what `paper::within` has answered, after `if !paper::within(..)`
+module _ (least most number : ℕ) {answered : Bool} (is : answered ≡ within least most number) where
+  pub answered-outside : not answered ≡ true → Within least most number → ⊥
+  answered-outside taken = tells-false (tells-within least most number) (sym is ∙ not-true answered taken)
+
+  pub answered-within : not answered ≡ false → Within least most number
+  answered-within left = tells-within least most number .holds (sym is ∙ not-false answered left)
 
 pub size-exactly : (n : ℕ) → Exactly (SizeJudged n) (sizeFault n)
 size-exactly n = row (tells-not (tells-within 1 unitsMost n)) outOfRange

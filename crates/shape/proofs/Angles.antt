@@ -1,31 +1,25 @@
 -- Angles: each is below S, those of one track are all different, and each group starts an offset after the one before it.
 -- Assumes nothing.
-use Prim.Native.Nat.{ℕ, _+_, _-_, _*_, _%_, _<_, _≤_}
+use Prim.Native.Nat.{ℕ, _+_, _-_, _*_, _%_, _<_}
 use mathlib.Core.Path.{_≡_, sym, _∙_, ap}
-use native.Mathlib.Nat.{mod-lt, mod-eq-of-lt, mod-eq-sub-mod, add-mod-mod, mod-add-mod, add-div-right, mul-add, mul-one, mul-zero, add-assoc, add-zero}
+use native.Mathlib.Nat.{mod-lt, mod-eq-of-lt, add-mod-right, add-mod-mod, mod-add-mod, add-div-right, mul-add, mul-one, mul-zero, add-assoc, add-zero}
 use native.Mathlib.Omega.{arith}
 use lib.Arith.{lt-one}
-use Rattle.paper.proofs.Cases.{byLt}
 use Rattle.shape.specs.declared.Shape.{Shape}
 use Rattle.shape.specs.Shapes.{Shaped}
 use Rattle.shape.specs.Addresses.{groupOf, angleAt}
 use Rattle.shape.proofs.Bounds.{group-below}
 
--- once round a track: a turn by c sectors takes different sectors to different ones
+-- c sectors on and then the rest of a turn leads back to where it began
+turned-back : {s a c : ℕ} → a < s → c < s → ((a + c) % s + (s - c)) % s ≡ a
+turned-back {s} {a} {c} below less =
+    let whole : a + c + (s - c) ≡ a + s = omega arith in
+    mod-add-mod (a + c) s (s - c) ∙ rw whole (add-mod-right a s ∙ mod-eq-of-lt below)
+
+-- so c sectors on, no two sectors of a track meet
 turned-apart : {s a b c : ℕ} → a < s → b < s → c < s → (a + c) % s ≡ (b + c) % s → a ≡ b
-turned-apart {s} {a} {b} {c} a-below b-below c-below same =
-    byLt (a + c) s
-    (λ a-short.
-    byLt (b + c) s
-    (λ b-short. let e : a + c ≡ b + c = sym (mod-eq-of-lt a-short) ∙ same ∙ mod-eq-of-lt b-short in omega arith)
-    (λ b-round. let e : a + c ≡ b + c - s = sym (mod-eq-of-lt a-short) ∙ same ∙ around b-below b-round in omega arith))
-    (λ a-round.
-    byLt (b + c) s
-    (λ b-short. let e : a + c - s ≡ b + c = sym (around a-below a-round) ∙ same ∙ mod-eq-of-lt b-short in omega arith)
-    (λ b-round. let e : a + c - s ≡ b + c - s = sym (around a-below a-round) ∙ same ∙ around b-below b-round in omega arith))
-  where
-    around : {x : ℕ} → x < s → s ≤ x + c → (x + c) % s ≡ x + c - s
-    around {x} x-below round = mod-eq-sub-mod round ∙ mod-eq-of-lt (omega arith)
+turned-apart {s} {c = c} first second less same =
+    sym (turned-back first less) ∙ (ap (λ (there : ℕ). (there + (s - c)) % s) same ∙ turned-back second less)
 
 module _ {shape : Shape} (shaped : Shaped shape) where
   some-sectors : 0 < shape .sectors
@@ -44,9 +38,13 @@ module _ {shape : Shape} (shaped : Shaped shape) where
   pub angle-further : (head sector : ℕ) → angleAt shape (head + shape .tracks) sector ≡ (angleAt shape head sector + shape .offset) % shape .sectors
   angle-further head sector =
       let start : ℕ = shape .offset * groupOf shape head in
-      ap (λ (group : ℕ). (sector + shape .offset * group) % shape .sectors) (add-div-right head (shaped .groups .tracks .0))
-      ∙ (ap (λ (far : ℕ). far % shape .sectors) (rw (mul-add (shape .offset) (groupOf shape head) 1, mul-one (shape .offset)) (sym (add-assoc sector start (shape .offset))))
-      ∙ sym (mod-add-mod (sector + start) (shape .sectors) (shape .offset)))
+      rw (
+        add-div-right head (shaped .groups .tracks .0),
+        mul-add (shape .offset) (groupOf shape head) 1,
+        mul-one (shape .offset),
+        ← add-assoc sector start (shape .offset),
+      )
+      (sym (mod-add-mod (sector + start) (shape .sectors) (shape .offset)))
 
   -- with one group the angle is the sector, whatever the offset
   pub angle-one-group : shape .groups ≡ 1 → {head sector : ℕ} → head < shape .heads → sector < shape .sectors → angleAt shape head sector ≡ sector

@@ -1,6 +1,5 @@
 -- `shape::address_at` meets its contract: a shape in its ranges has no divisor 0, and the quotients and remainders are the definition's.
 -- Assumes nothing.
-use mathlib.Core.Path.{refl}
 use native.Mathlib.Nat.{mod-lt}
 use native.Mathlib.Omega.{arith}
 use Rattle.shape.proofs.address_at.Statement.{statement}
