@@ -24,6 +24,7 @@ use Rattle.image.specs.declared.Verdict.the-variants.{Refused as NotGood}
 use Rattle.image.specs.Promises.{Lends}
 use Rattle.reading.specs.declared.answers.Spot.the-variants.{Refused as NotSpotted}
 use Rattle.reading.specs.Promises as Reading
+use Rattle.demands.specs.Relations.{partShown}
 
 -- an address that one of the three calls answers: for a sector number, or for a block of a skipped or of a revectored drive
 pub data Answered (shape : Shape) (address : Address) : Type 0 where
@@ -96,10 +97,9 @@ pub record EachCall : Type 0 where
   pub spare-first : (r : ℕ) (list room : List ℕ) → SameFilled NotWritten room (λ shape. FirstTable shape r list room)
   pub read-judge : (r : ℕ) (t : List ℕ) (b : ℕ) (home spare : List ℕ) → SameAnswer NotGood (λ shape. Reading.Judge shape r t b home spare)
   pub read-spot : (r : ℕ) (t : List ℕ) (b : ℕ) (home spare : List ℕ) → SameAnswer NotSpotted (λ shape. Reading.Spots shape r t b home spare)
-  -- of a part its bytes and its place are shown
   pub read-data :
       (r : ℕ) (t : List ℕ) (b : ℕ) (home spare : RefT (List ℕ)) →
-      InAnyGroups {Shown = List ℕ × (ℕ × ℕ)} (λ (part : RefT (List ℕ)). (part .now, part .ptr)) (Lends home 0 []) (λ shape. Reading.Data shape r t b home spare)
+      InAnyGroups partShown (Lends home 0 []) (λ shape. Reading.Data shape r t b home spare)
 
 pub record Angles : Type 0 where
   -- An address that is answered has its angle, (sector + offset × group) mod S.

@@ -71,5 +71,8 @@ OneFilledTwice {Result} Promise =
     One (λ (outcome : Result × List ℕ × List ℕ). outcome) (λ outcome. Promise (outcome .0) (outcome .1) (outcome .2))
 
 -- a part of lent bytes shows what it holds and where it lies; its third field is a name that only proofs have
+abbrev pub partShown : RefT (List ℕ) → List ℕ × (ℕ × ℕ)
+partShown part = (part .now, part .ptr)
+
 abbrev pub OneLent : (RefT (List ℕ) → Type 0) → Type 0
-OneLent Promise = One {Shown = List ℕ × (ℕ × ℕ)} (λ (part : RefT (List ℕ)). (part .now, part .ptr)) Promise
+OneLent = One partShown
