@@ -186,7 +186,7 @@ pub extern "C" fn tb_spare_block_at(
     answers::named(spares::block_at(shape, r, table, cylinder, head, sector))
 }
 
-// Replaces a block: writes its descriptor, and answers its place. Checks 1, 11, 5, 12, 13.
+// Replaces a block, at home or on a spare: writes its new descriptor, marks its old one unusable, and answers its new place. Checks 1, 11, 5, 13.
 #[no_mangle]
 pub extern "C" fn tb_spare_replace(
     shape: Shape,

@@ -10,7 +10,7 @@ use lib.Seq.{sets}
 use denote.Ref.{RefT}
 use Rattle.paper.specs.Checks.{pick, refuse, _orElse_, answer}
 use Rattle.paper.specs.Limits.{tableBlock, dataSize, headerSize, imageExtra}
-use Rattle.paper.specs.Refusals.{alreadyReplaced, noSpare, otherBlock, forcedError}
+use Rattle.paper.specs.Refusals.{noSpare, otherBlock, forcedError}
 use Rattle.paper.specs.declared.Placed.{Placed}
 use Rattle.paper.specs.declared.Placed.the-variants.{At, Refused as NotPlaced}
 use Rattle.seek.specs.Search.{firstOr, rising}
@@ -39,12 +39,12 @@ use Rattle.format.specs.declared.Formatted.{Formatted}
 use Rattle.format.specs.declared.Formatted.the-variants.{Done, Refused as NotFormatted}
 use Rattle.layout.specs.declared.Drive.{Drive}
 use Rattle.layout.specs.Layouts.{driveOf, homeCylinder, spareCylinder}
-use Rattle.layout.specs.Descriptors.{primary}
+use Rattle.layout.specs.Descriptors.{free, wordOf, primary}
 use Rattle.table.specs.Rules.{tableFault, blockFault as spareBlockFault}
 use Rattle.table.specs.Lookup.{placeOf, isReplaced}
 use Rattle.order.specs.Order.{inBlock, outward, blockStart, freeAt}
 use Rattle.table.specs.declared.Census.{Census}
-use Rattle.replacing.specs.Replacing.{spareFor, descriptorAt}
+use Rattle.replacing.specs.Replacing.{spareFor, descriptorAt, replacedIn, killedIn, movedIn}
 use Rattle.spares.specs.Spares.{replaceFault}
 use Rattle.spares.specs.declared.Replaced.{Replaced}
 use Rattle.spares.specs.declared.Replaced.the-variants.{Place, Refused as NotReplaced}
@@ -57,7 +57,7 @@ use Rattle.image.specs.declared.Verdict.{Verdict}
 use Rattle.image.specs.declared.Verdict.the-variants.{Good, Refused as NotGood}
 use Rattle.reading.specs.Tracks.{bytesIn, imageAt}
 use Rattle.reading.specs.Faults.{lentFault}
-use Rattle.demands.specs.Inputs.{few}
+use Rattle.demands.specs.Inputs.{few, eight}
 
 -- demand 3's law over any map from blocks to units: each new block lies where you arrive by skipping the named blocks in the old numbering and following the old map
 abbrev pub Composes : ((ℕ → Bool) → ℕ → ℕ → ℕ) → Type 0
@@ -85,7 +85,7 @@ pageWith last = 0 ∷ 0 ∷ 0 ∷ 22 ∷ 1 ∷ 0 ∷ 0 ∷ 0 ∷ 0 ∷ 20 ∷ 0 
 
 -- blocks 0 and 1 are replaced, at places 0 and 1
 abbrev pub begun : List ℕ
-begun = 0x20000000 ∷ 0x30000001 ∷ 0 ∷ 0 ∷ 0 ∷ 0 ∷ 0 ∷ 0 ∷ replicate 120 0x80000000
+begun = eight 0x20000000 0x30000001 0 0 0 0 0 0
 
 -- 512 bytes that were written to a block's home before it was replaced, and to its spare after
 abbrev pub older : List ℕ
@@ -224,19 +224,37 @@ stoppedOrder places p =
 abbrev pub stoppedSpare : Drive → List ℕ → ℕ → ℕ
 stoppedSpare g t b = firstOr (length t) (freeAt t) (stoppedOrder (length t) (primary g b))
 
--- checks 1, 11, 5, 12, 13 with it
+-- checks 1, 11, 5, 13 with it
 abbrev pub stoppedFault : Shape → ℕ → List ℕ → ℕ → ℕ
-stoppedFault shape r t b =
-    spareBlockFault shape r t b
-    orElse refuse (isReplaced t b) alreadyReplaced
-    orElse refuse (leb (length t) (stoppedSpare (driveOf shape r) t b)) noSpare
+stoppedFault shape r t b = spareBlockFault shape r t b orElse refuse (leb (length t) (stoppedSpare (driveOf shape r) t b)) noSpare
 
 -- spares::replace: searches in that order
 abbrev pub stopsSearch : Shape → ℕ → List ℕ → ℕ → Replaced × List ℕ
 stopsSearch shape r t b = (
   answer (stoppedFault shape r t b) NotReplaced (Place (stoppedSpare (driveOf shape r) t b)),
   answer (stoppedFault shape r t b) (λ fault. t)
-      (set t (stoppedSpare (driveOf shape r) t b) (descriptorAt (driveOf shape r) (stoppedSpare (driveOf shape r) t b) b)),
+      (set (killedIn t b) (stoppedSpare (driveOf shape r) t b) (descriptorAt (driveOf shape r) (stoppedSpare (driveOf shape r) t b) b)),
+)
+
+-- spares::replace: leaves the descriptor that the block had
+abbrev pub leavesOld : Shape → ℕ → List ℕ → ℕ → Replaced × List ℕ
+leavesOld shape r t b = (
+  answer (replaceFault shape r t b) NotReplaced (Place (spareFor (driveOf shape r) t b)),
+  answer (replaceFault shape r t b) (λ fault. t) (replacedIn (driveOf shape r) t b),
+)
+
+-- spares::replace: sets it free
+abbrev pub freesOld : Shape → ℕ → List ℕ → ℕ → Replaced × List ℕ
+freesOld shape r t b = (
+  answer (replaceFault shape r t b) NotReplaced (Place (spareFor (driveOf shape r) t b)),
+  answer (replaceFault shape r t b) (λ fault. t) (set (replacedIn (driveOf shape r) t b) (placeOf t b) (wordOf free 0)),
+)
+
+-- spares::replace: marks it unusable before it looks for a spare
+abbrev pub killsEarly : Shape → ℕ → List ℕ → ℕ → Replaced × List ℕ
+killsEarly shape r t b = (
+  answer (replaceFault shape r t b) NotReplaced (Place (spareFor (driveOf shape r) t b)),
+  answer (replaceFault shape r t b) (λ fault. killedIn t b) (movedIn (driveOf shape r) t b),
 )
 
 -- spares::census: any census

@@ -1,4 +1,4 @@
--- A census counts the places of each code. A first table has as many free places as the list of bad sectors leaves, an accepted replacement takes one of them, and no other call takes any.
+-- A census counts the places of each code. A first table has as many free places as the list of bad sectors leaves, an accepted replacement takes one of them, and no other call takes any. Its unusable places are the bad spares, and an accepted replacement adds the spare that its block lay on, if it lay on one.
 -- Assumes nothing.
 use Prim.Native.Nat.{ℕ, _+_, _≤_}
 use mathlib.Core.Path.{_≡_, sym, _∙_, ap, refl}
@@ -16,7 +16,7 @@ use Rattle.seek.specs.Search.{firstOr, rising}
 use Rattle.seek.proofs.Counts.{count-le}
 use Rattle.shape.specs.declared.Shape.{Shape}
 use Rattle.layout.specs.Layouts.{driveOf, driveFault}
-use Rattle.layout.specs.Descriptors.{free}
+use Rattle.layout.specs.Descriptors.{free, unusable}
 use Rattle.layout.specs.declared.Drive.{Drive}
 use Rattle.table.specs.Rules.{tableFault}
 use Rattle.table.specs.Places.{tableLength}
@@ -35,10 +35,10 @@ use Rattle.spares.specs.Promises.{Replacement, CensusOf, saidCounted}
 use Rattle.spares.specs.declared.Replaced.the-variants.{Place, Refused as NotReplaced}
 use Rattle.spares.specs.declared.Counted.{Counted}
 use Rattle.spares.specs.declared.Counted.the-variants.{Counts as Counted-as}
-use Rattle.spares.proofs.Accepted.{census-whole, replace-block, replace-free-less, after-passes}
+use Rattle.spares.proofs.Accepted.{census-whole, replace-block, replace-free-less, replace-unusable-more, after-passes}
 use Rattle.demands.specs.Relations.{Counts}
 use Rattle.demands.specs.Inputs.{small, noneReplaced}
-use Rattle.demands.specs.Histories.{History, made, replaced, refused, CensusLaw}
+use Rattle.demands.specs.Histories.{killedBy, History, made, replaced, refused, CensusLaw}
 use Rattle.demands.proofs.Rooms.{first-table-hands}
 
 module _ (shape : Shape) (r : ℕ) (t : List ℕ) (census : Census) (promise : CensusOf shape r t (Counted-as census)) where
@@ -84,7 +84,10 @@ module _ (shape : Shape) (r : ℕ) (list room : List ℕ) (long : ℕ) (after : 
       rw first-is
       (omega (arith, first-made shape r list room first-fault .free-left, first-shows shape r list room first-fault .enough, spares-hold (driveOf shape r) list))
 
--- what a replacement shows: an accepted one leaves a table that passes, with one free place less
+  first-unusable : codeCount (take long after) unusable ≡ badSpares (driveOf shape r) list
+  first-unusable = rw first-is (first-made shape r list room first-fault .unusable-count)
+
+-- what a replacement shows: an accepted one leaves a table that passes, with one free place less, and one unusable place more where it killed a spare
 module _ (shape : Shape) (r : ℕ) (t : List ℕ) (b : ℕ) (after : List ℕ) where
   module _ (q : ℕ) (step : Replacement shape r t b (Place q) after) where
     accepted : replaceFault shape r t b ≡ 0
@@ -95,6 +98,9 @@ module _ (shape : Shape) (r : ℕ) (t : List ℕ) (b : ℕ) (after : List ℕ) w
 
     step-frees : codeCount after free + 1 ≡ codeCount t free
     step-frees = rw (step .holds) (replace-free-less shape r t b accepted)
+
+    step-kills : codeCount after unusable ≡ codeCount t unusable + killedBy t b
+    step-kills = rw (step .holds) (replace-unusable-more shape r t b accepted)
 
   -- and a refused one leaves the table as it was
   step-leaves : (fault : ℕ) → Replacement shape r t b (NotReplaced fault) after → after ≡ t
@@ -107,28 +113,37 @@ module _ (shape : Shape) (r : ℕ) (t : List ℕ) (b : ℕ) (after : List ℕ) w
       (λ some. fills-refused step some)
 
 module _ {shape : Shape} {r : ℕ} {list : List ℕ} where
-  history-passes : {k : ℕ} {last : Shape} {last-r : ℕ} {t : List ℕ} → History shape r list k last last-r t → tableFault last last-r t ≡ 0
+  history-passes : {k killed : ℕ} {last : Shape} {last-r : ℕ} {t : List ℕ} → History shape r list k killed last last-r t → tableFault last last-r t ≡ 0
   history-passes (made room after long first) = first-passes shape r list room long after first
   history-passes (replaced {t} history asked asked-r b q after step) = step-passes asked asked-r t b after q step
   history-passes (refused {t} history asked asked-r b fault after step) = rw (step-leaves asked asked-r t b after fault step) (history-passes history)
 
   history-frees :
-      {k : ℕ} {last : Shape} {last-r : ℕ} {t : List ℕ} → History shape r list k last last-r t →
+      {k killed : ℕ} {last : Shape} {last-r : ℕ} {t : List ℕ} → History shape r list k killed last last-r t →
       codeCount t free + (k + (length (badHomes (driveOf shape r) list) + badSpares (driveOf shape r) list)) ≡ driveOf shape r .spares
   history-frees (made room after long first) = omega (arith, first-frees shape r list room long after first)
   history-frees (replaced {t} history asked asked-r b q after step) = omega (arith, history-frees history, step-frees asked asked-r t b after q step)
   history-frees (refused {t} history asked asked-r b fault after step) = rw (step-leaves asked asked-r t b after fault step) (history-frees history)
+
+  history-kills :
+      {k killed : ℕ} {last : Shape} {last-r : ℕ} {t : List ℕ} → History shape r list k killed last last-r t →
+      codeCount t unusable ≡ badSpares (driveOf shape r) list + killed
+  history-kills (made room after long first) = omega (arith, first-unusable shape r list room long after first)
+  history-kills (replaced {t} history asked asked-r b q after step) = omega (arith, history-kills history, step-kills asked asked-r t b after q step)
+  history-kills (refused {t} history asked asked-r b fault after step) = rw (step-leaves asked asked-r t b after fault step) (history-kills history)
 
 pub census-law : CensusLaw
 census-law =
     record {
       counts-codes = census-counts;
       leaves-none-out = census-leaves-none-out;
-      answered = λ shape last r last-r k list t history result promise.
+      answered = λ shape last r last-r k killed list t history result promise.
           gives-number promise (λ said. said .0) (λ k. refl) refl ∙ history-passes history;
-      free-left = λ shape last r last-r k list t history asked asked-r census promise.
+      free-left = λ shape last r last-r k killed list t history asked asked-r census promise.
           omega (arith, census-counts asked asked-r t census promise .are-free, history-frees history);
-      make-up-spares = λ shape last r last-r k list t history asked asked-r census promise.
+      unusable-made = λ shape last r last-r k killed list t history asked asked-r census promise.
+          census-counts asked asked-r t census promise .are-unusable ∙ history-kills history;
+      make-up-spares = λ shape last r last-r k killed list t history asked asked-r census promise.
           rw (census-counts asked asked-r t census promise .are-free) (history-frees history);
     }
 

@@ -1,8 +1,8 @@
--- Demand 2 on a revectored drive: every block has one sector, its home or else the spare whose descriptor names it, and no other block has that sector. An unusable spare has no block. A replacement changes a single descriptor, and 13 means that every spare is taken.
+-- Demand 2 on a revectored drive: every block has one sector, its home or else the spare whose descriptor names it, and no other block has that sector. An unusable spare has no block, and stays unusable. A replacement changes the descriptor that the block had and the one that it takes, and 13 means that every spare is taken.
 -- Assumes nothing.
 use Rattle.paper.proofs.Kept.{accepts, gives-one, gives-number, fills-gives}
 use Prim.Native.Nat.{ℕ, _*_, _/_, _<_}
-use mathlib.Core.Path.{_≡_, refl, sym, _∙_, ap}
+use mathlib.Core.Path.{_≡_, refl, sym, _∙_, ap, subst}
 use mathlib.Core.List.{List}
 use native.Mathlib.Omega.{arith}
 use lib.IntN.{ℤ, pos, _+ℤ_, +ℤ-idr}
@@ -38,7 +38,7 @@ use Rattle.layout.proofs.Words.{tells-names}
 use Rattle.table.specs.Rules.{tableFault, blockFault, TableJudged, BlockJudged}
 use Rattle.table.specs.Lookup.{Replaced, isReplaced, placeOf, liesOn, lyingOn, Resides, Vacant, home-left, spare-unused}
 use Rattle.table.proofs.Lookups.{tells-replaced, place-once, lies-shows, lies-only, lies-apart, none-on-unusable, lying-of-lies, vacant-told, lies-below, lies-of-lying, vacant-shows}
-use Rattle.replacing.specs.Replacing.{NoneFree, Altered, spareFor}
+use Rattle.replacing.specs.Replacing.{NoneFree, Moved, spareFor}
 use Rattle.spares.specs.Spares.{shiftOf, blockOnFault, blockAtFault, replaceFault}
 use Rattle.spares.specs.Promises.{SectorOf, AddressOf, ShiftOf, BlockOn, BlockAt, Replacement}
 use Rattle.spares.specs.declared.Shifted.the-variants.{By}
@@ -46,10 +46,11 @@ use Rattle.spares.specs.declared.Replaced.{Replaced as ReplaceAnswer}
 use Rattle.spares.specs.declared.Replaced.the-variants.{Place, Refused as NotReplaced}
 use Rattle.spares.proofs.Exact.{sector-within}
 use Rattle.table.proofs.Exact.{Ready, table-ready, table-exactly, block-ready, block-below, block-exactly}
-use Rattle.spares.proofs.Accepted.{replace-block, after-passes, replace-alters, no-spare-shows, no-spare-told}
+use Rattle.spares.proofs.Accepted.{replace-block, after-passes, after-stays, replace-moves, no-spare-shows, no-spare-told}
 use Rattle.spares.proofs.Shifts.{shift-at-home, shift-leads, shift-answered}
 use Rattle.demands.proofs.ByKind.{naming-says, lying-naming}
-use Rattle.demands.specs.Demand2Revectored.{LiesThere, AltersOne, ShiftLeads}
+use Rattle.demands.specs.Demand2Revectored.{LiesThere, Alters, ShiftLeads}
+use Rattle.demands.specs.Histories.{Later, at-once, called}
 
 -- a vacant sector is one of the drive's
 vacant-inside : {drive : Drive} {t : List ℕ} {s : ℕ} → Laid drive → Vacant drive t s → s < drive .tracks * sectorsPerTrack drive
@@ -243,30 +244,31 @@ module _ (shape : Shape) (r : ℕ) (t : List ℕ) where
       let there = named-there s b (asked-at cylinder head sector shaped on-drive (Block b) promise) in
       located-answers b (there .0) result located ∙ rw (there .1) (ap LocatedAt (back-and-there shaped on-drive))
 
-  -- an accepted replacement alters one descriptor, which was free, and leaves a table that obeys the rules, with every other block where it was
-  pub replacement-alters : (b q : ℕ) (after : List ℕ) → Replacement shape r t b (Place q) after → Altered (driveOf shape r) t b q after
-  replacement-alters b q after promise =
+  -- an accepted replacement alters the old descriptor and the new one, which was free, and leaves a table that obeys the rules, with every other block where it was
+  pub replacement-moves : (b q : ℕ) (after : List ℕ) → Replacement shape r t b (Place q) after → Moved (driveOf shape r) t b q after
+  replacement-moves b q after promise =
       let accepted : replaceFault shape r t b ≡ 0 = sym (gives-number (fills-gives promise) (λ said. said .0) (λ k. refl) refl) in
       let place : q ≡ spareFor (driveOf shape r) t b = rw accepted at (ap (λ (said : ℕ × ℕ). said .1) (promise .says)) in
-      rw (place, promise .holds) (replace-alters shape r t b accepted)
+      rw (place, promise .holds) (replace-moves shape r t b accepted)
 
   -- said of the calls: the block lies on its spare, and every other block where it lay
-  pub replacement-alters-one : (b q : ℕ) (after : List ℕ) → Replacement shape r t b (Place q) after → AltersOne shape r t b q after
-  replacement-alters-one b q after promise =
+  pub replacement-alters : (b q : ℕ) (after : List ℕ) → Replacement shape r t b (Place q) after → Alters shape r t b q after
+  replacement-alters b q after promise =
       record {
-        in-table = altered .in-table;
-        was-free = altered .was-free;
-        searched-first = altered .searched-first;
-        names-block = altered .names-block;
-        others-stand = altered .others-stand;
-        same-length = altered .same-length;
-        breaks-none = altered .breaks-none;
-        lies = λ result placed. placed .answers ∙ answer-accepted (blockFault shape r after b) NotPlaced (At (liesOn (driveOf shape r) after b)) (same-fault b ∙ block) ∙ ap At (altered .lies);
-        others-lie = λ a other was is first then. then .answers ∙ rw (same-fault a, altered .others-lie a other) (sym (first .answers));
+        in-table = moved .in-table;
+        was-free = moved .was-free;
+        searched-first = moved .searched-first;
+        names-block = moved .names-block;
+        old-unusable = moved .old-unusable;
+        others-stand = moved .others-stand;
+        same-length = moved .same-length;
+        breaks-none = moved .breaks-none;
+        lies = λ result placed. placed .answers ∙ answer-accepted (blockFault shape r after b) NotPlaced (At (liesOn (driveOf shape r) after b)) (same-fault b ∙ block) ∙ ap At (moved .lies);
+        others-lie = λ a other was is first then. then .answers ∙ rw (same-fault a, moved .others-lie a other) (sym (first .answers));
       }
     where
-      altered : Altered (driveOf shape r) t b q after
-      altered = replacement-alters b q after promise
+      moved : Moved (driveOf shape r) t b q after
+      moved = replacement-moves b q after promise
 
       block : blockFault shape r t b ≡ 0
       block = replace-block shape r t b (sym (gives-number (fills-gives promise) (λ said. said .0) (λ k. refl) refl))
@@ -277,16 +279,18 @@ module _ (shape : Shape) (r : ℕ) (t : List ℕ) where
           let table : tableFault shape r after ≡ 0 = rw (promise .holds) (after-passes shape r t b before) in
           rw (table, before)
 
-  -- it is refused for want of a spare only when none is free
-  pub no-spare-none-free : (b : ℕ) (after : List ℕ) → Replacement shape r t b (NotReplaced noSpare) after → NoneFree t
-  no-spare-none-free b after promise = no-spare-shows shape r t b (sym (gives-number (fills-gives promise) (λ said. said .0) (λ k. refl) refl)) .1 .1
+  -- it is refused for want of a spare only when 1, 11 and 5 do not refuse it and none is free
+  pub no-spare-none-free : (b : ℕ) (after : List ℕ) → Replacement shape r t b (NotReplaced noSpare) after → NoneFree t × BlockJudged shape r t b 0
+  no-spare-none-free b after promise =
+      let shows = no-spare-shows shape r t b (sym (gives-number (fills-gives promise) (λ said. said .0) (λ k. refl) refl)) in
+      (shows .1, subst (BlockJudged shape r t b) (shows .0) (block-exactly shape r t b .judged))
 
-  -- and exactly then, where 1, 11, 5 and 12 do not refuse
+  -- and exactly then
   pub none-free-no-spare :
-      (b : ℕ) → BlockJudged shape r t b 0 → (Replaced t b → ⊥) → NoneFree t → (result : ReplaceAnswer) (after : List ℕ) →
+      (b : ℕ) → BlockJudged shape r t b 0 → NoneFree t → (result : ReplaceAnswer) (after : List ℕ) →
       Replacement shape r t b result after → result ≡ NotReplaced noSpare
-  none-free-no-spare b judged at-home none-free result after promise =
-      promise .answers ∙ rw (no-spare-told shape r t b (block-exactly shape r t b .only 0 judged) at-home none-free)
+  none-free-no-spare b judged none-free result after promise =
+      promise .answers ∙ rw (no-spare-told shape r t b (block-exactly shape r t b .only 0 judged) none-free)
 
   -- the shift leads from the cylinder of the home to that of the address, is less than C to either side, and 0 at home
   pub shift-leads-there : (b : ℕ) (shift : ℤ) → ShiftOf shape r t b (By shift) → ShiftLeads shape r t b shift
@@ -320,3 +324,17 @@ module _ (shape : Shape) (r : ℕ) (t : List ℕ) where
       stays home replaced =
           let lies = answered-is b (homeSector (driveOf shape r) b) home in
           home-no-spare laid b (placeOf t b) (lies ∙ rw (tells-replaced t b .told replaced))
+
+-- a spare that is marked unusable stays so through any calls
+pub stays-unusable : (t later : List ℕ) (q : ℕ) → Later t later → codeOf (getD t q 0) ≡ unusable → codeOf (getD later q 0) ≡ unusable
+stays-unusable t later q at-once e = e
+stays-unusable t later q (called {between} before asked asked-r b result after step) e =
+    rw (step .holds) (after-stays asked asked-r between b q (stays-unusable t between q before e))
+
+-- and so does the spare that a replaced block left, and no block lies there
+pub left-for-good :
+    (shape : Shape) (r : ℕ) (t : List ℕ) (b p q : ℕ) (after later : List ℕ) → Replacement shape r t b (Place q) after → Names (getD t p 0) b →
+    Later after later →
+    (asked : Shape) (asked-r a : ℕ) → SectorOf asked asked-r later a (At (spareSector (driveOf asked asked-r) p)) → ⊥
+left-for-good shape r t b p q after later step named since asked asked-r a =
+    never-on-unusable asked asked-r later a p (stays-unusable after later p since (ap codeOf (replacement-moves shape r t b q after step .old-unusable p named)))

@@ -1,18 +1,21 @@
 -- The paper's "Numbers to try" and ours beside them: every row of the table holds. Where a block lies is told by the walk, which is the definition; the rest is computed.
 -- Assumes nothing.
-use Prim.Native.Nat.{ℕ, suc, _+_, _≤_}
-use mathlib.Core.Path.{_≡_, refl, _∙_}
-use mathlib.Core.Bool.{Bool, true, false}
+use Prim.Native.Nat.{ℕ, suc, _+_, _<_, _≤_}
+use mathlib.Core.Path.{_≡_, refl, sym, _∙_}
+use mathlib.Core.Bool.{Bool, true, false, not, true≢false}
 use mathlib.Core.List.{List, [], _∷_}
-use lib.ListN.{length}
-use borrow.Author.Tests.{le-ltb}
+use lib.Dec.{eqb}
+use lib.ListN.{length, getD}
+use borrow.Author.Tests.{le-ltb, lt-leb}
 use Rattle.paper.specs.Limits.{dataSize, imageExtra}
+use Rattle.paper.specs.Refusals.{noSpare}
 use Rattle.paper.specs.Promise.{Gives, Fills}
 use Rattle.paper.specs.Checks.{answer}
 use Rattle.paper.proofs.Kept.{gives, fills}
 use Rattle.words.specs.Words.{bytes16, bytes32, bytesOf, word16At}
 use Rattle.seek.specs.Count.{countBelow}
 use Rattle.seek.specs.Every.{allBelow}
+use Rattle.seek.proofs.Everys.{every-here}
 use Rattle.seek.specs.Lowest.{firstBelow, faultBelow}
 use Rattle.seek.specs.Search.{firstOr, rising}
 use Rattle.lists.specs.Proper.{listFault}
@@ -29,21 +32,23 @@ use Rattle.format.proofs.Answering.{format-accepts}
 use Rattle.format.proofs.Held.{grown-holds, list-holds}
 use Rattle.format.proofs.Named.{scan-grown, scan-list, scan-accepted, next-grown, next-list, next-accepted, both-grown, both-list, both-accepted}
 use Rattle.layout.specs.Layouts.{driveOf, driveFault}
+use Rattle.layout.specs.Descriptors.{free, codeOf}
+use Rattle.table.specs.Rules.{tableFault}
 use Rattle.table.specs.Places.{tableLength}
 use Rattle.table.specs.Lookup.{placeOf}
 use Rattle.order.specs.Order.{outward}
-use Rattle.replacing.specs.Replacing.{spareFor}
+use Rattle.replacing.specs.Replacing.{spareFor, NoneFree}
 use Rattle.first_table.specs.Marks.{passing, badSpares, badHomes, marked}
 use Rattle.first_table.specs.Tables.{replacedAll, firstTable, spareFault, firstTableFault as startFault}
 use Rattle.first_table.proofs.Exact.{spares-judge}
 use Rattle.spares.specs.Spares as Spares
-use Rattle.spares.proofs.Accepted.{tableAfter}
+use Rattle.spares.proofs.Accepted.{tableAfter, no-spare-told}
 use Rattle.image.specs.Code.{wordsOf, rotated, codeAfter, codeFrom, dataCode, carried}
 use Rattle.image.specs.Image.{storedIn, imageOf, writeFault}
 use Rattle.image.proofs.Exact.{length-passes}
 use Rattle.demands.specs.Relations.{AllowsOnly}
-use Rattle.demands.specs.Inputs.{chart, small, noneReplaced, afterSeven, afterEight}
-use Rattle.demands.specs.Rows.{skip-sector, skip-block, format, spare-first, spare-replace, image-write, Holds, AllHold, done, _also_, zeros, firstOne, lastOne, paperRows}
+use Rattle.demands.specs.Inputs.{chart, small, noneReplaced, afterSeven, afterEight, afterSix, afterSecond, afterThird, afterFourth, afterFifth, afterSixth, afterSeventh, afterEighth}
+use Rattle.demands.specs.Rows.{skip-sector, skip-block, format, spare-first, spare-replace, spare-full, image-write, Holds, AllHold, done, _also_, zeros, firstOne, lastOne, paperRows}
 
 module _ {Answer Said : Type 0} {said : Answer → Said} {nothing : ℕ → Said} {refused : ℕ → Answer} {fault : ℕ} {accepted : Answer} (alone : (k : ℕ) → said (refused k) ≡ nothing k) where
   -- a promise allows the answer that its chain makes, and what holds of every answer that it allows
@@ -115,6 +120,14 @@ module _ (shape : Shape) (r : ℕ) where
   spare-taken table block {spare} {after} none found stored =
       allows-room (λ k. refl) (rw (none, found)) (λ held. held ≡ after) stored
 
+  -- a table that passes and has no free place
+  spare-wanting :
+      (table : List ℕ) → tableFault shape r table ≡ 0 → allBelow (λ q. not (eqb (codeOf (getD table q 0)) free)) (length table) ≡ true → Holds (spare-full shape r table)
+  spare-wanting table passes taken block below =
+      let none-free : NoneFree table = λ q h e. true≢false (sym (every-here (λ q. not (eqb (codeOf (getD table q 0)) free)) (length table) taken q h) ∙ rw e) in
+      let none : Spares.replaceFault shape r table block ≡ noSpare = no-spare-told shape r table block (rw (passes, lt-leb (driveOf shape r .blocks) block below)) none-free in
+      allows-room (λ k. refl) (rw none) (λ held. held ≡ table) (rw none)
+
 -- an image of data of the right length, in a room that is long enough
 code-carried :
     (forced : Bool) (bytes : List ℕ) {code : ℕ} → length bytes ≡ dataSize →
@@ -174,4 +187,19 @@ numbers-to-try =
     also allows (λ k. refl) refl
     also allows (λ k. refl) refl
     also allows (λ k. refl) refl
+    also spare-taken small 2 afterSeven 7 refl refl refl
+    also spare-taken small 2 afterSecond 8 refl refl refl
+    also spare-taken small 2 afterThird 7 refl refl refl
+    also spare-taken small 2 afterFourth 6 refl refl refl
+    also spare-taken small 2 afterFifth 7 refl refl refl
+    also spare-taken small 2 afterSixth 0 refl refl refl
+    also spare-taken small 2 afterSeventh 7 refl refl refl
+    also spare-wanting small 2 afterEighth refl refl
+    also allows (λ k. refl) refl
+    also allows (λ k. refl) refl
+    also allows (λ k. refl) refl
+    also spare-taken small 2 afterSix 6 refl refl refl
+    also allows (λ k. refl) refl
+    also spare-taken small 2 _ 7 refl refl refl
+    also spare-wanting small 2 _ refl refl
     also done

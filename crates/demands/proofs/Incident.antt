@@ -28,7 +28,7 @@ use Rattle.table.specs.Lookup.{placeOf, Replaced, isReplaced}
 use Rattle.table.proofs.Lookups.{tells-replaced, replaced-place}
 use Rattle.order.specs.Order.{outward}
 use Rattle.order.proofs.Signs.{minus-below}
-use Rattle.replacing.specs.Replacing.{spareFor, Altered}
+use Rattle.replacing.specs.Replacing.{spareFor, Moved}
 use Rattle.spares.specs.declared.Replaced as Answers
 use Rattle.spares.specs.declared.Replaced.the-variants.{Place, Refused as NotReplaced}
 use Rattle.spares.specs.Spares.{shiftOf, replaceFault}
@@ -53,7 +53,7 @@ use Rattle.demands.proofs.ByKind.{spot-says}
 use Rattle.demands.specs.Relations.{AllowsOnly}
 use Rattle.demands.specs.Inputs.{small, afterEight}
 use Rattle.demands.specs.Incident.{spareStart, spareData, imageFrom, WholeTrack, SamePart, HandsBack, Safe}
-use Rattle.demands.proofs.Demand2Revectored.{replacement-alters}
+use Rattle.demands.proofs.Demand2Revectored.{replacement-moves}
 use Rattle.demands.proofs.Examples.{allows, allows-where}
 
 -- a read allows what holds of every part that it hands back, and nothing else
@@ -194,8 +194,8 @@ module _ (shape : Shape) (r : ℕ) (t : List ℕ) (b q : ℕ) (after : List ℕ)
   passes : replaceFault shape r t b ≡ 0
   passes = sym (gives-number (fills-gives replacement) (λ said. said .0) (λ k. refl) refl)
 
-  altered : Altered (driveOf shape r) t b q after
-  altered = replacement-alters shape r t b q after replacement
+  moved : Moved (driveOf shape r) t b q after
+  moved = replacement-moves shape r t b q after replacement
 
   block-passes : blockFault shape r after b ≡ 0
   block-passes =
@@ -205,7 +205,7 @@ module _ (shape : Shape) (r : ℕ) (t : List ℕ) (b q : ℕ) (after : List ℕ)
 
   -- reads of a replaced block are safe, and the shift leads from its home's cylinder to its spare's
   pub replaced-safe : Safe shape r after b q (pos (spareCylinder (driveOf shape r) q) -ℤ pos (homeCylinder (driveOf shape r) b))
-  replaced-safe = named-safe shape r after b q block-passes (rw (altered .same-length) (altered .in-table)) (altered .names-block)
+  replaced-safe = named-safe shape r after b q block-passes (rw (moved .same-length) (moved .in-table)) (moved .names-block)
 
   -- the incident: the spare lies one cylinder nearer to cylinder 0 than the block's home
   pub outward-safe : spareCylinder (driveOf shape r) q + 1 ≡ homeCylinder (driveOf shape r) b → Safe shape r after b q (negsuc 0)

@@ -4,7 +4,7 @@ use Rattle.demands.specs.Mission.{Mission}
 use Rattle.demands.specs.Demand2Revectored.{Demand2Revectored}
 use Rattle.demands.proofs.Demand1.{demand1}
 use Rattle.demands.proofs.Demand2Skipped.{demand2-skipped}
-use Rattle.demands.proofs.Demand2Revectored.{address-names-block, address-of-sector, answered-lies, block-at-sector, every-block-answered, named-has-address, named-lies, never-on-unusable, never-share, no-spare-none-free, none-free-no-spare, none-is-vacant, one-descriptor, replacement-alters-one, sector-names-block, sector-of-address, shift-leads-there, vacant-has-none}
+use Rattle.demands.proofs.Demand2Revectored.{address-names-block, address-of-sector, answered-lies, block-at-sector, every-block-answered, named-has-address, named-lies, never-on-unusable, never-share, no-spare-none-free, none-free-no-spare, none-is-vacant, one-descriptor, left-for-good, replacement-alters, sector-names-block, sector-of-address, shift-leads-there, stays-unusable, vacant-has-none}
 use Rattle.demands.proofs.ReadsInPlace.{reads-in-place}
 use Rattle.demands.proofs.Demand2Census.{census-law}
 use Rattle.demands.proofs.Demand3.{demand3}
@@ -27,9 +27,11 @@ demand2-revectored =
       block-at-sector = block-at-sector;
       address-names-block = address-names-block;
       named-has-address = named-has-address;
-      replacement-alters-one = replacement-alters-one;
+      replacement-alters = replacement-alters;
       no-spare-none-free = no-spare-none-free;
       none-free-no-spare = none-free-no-spare;
+      stays-unusable = stays-unusable;
+      left-for-good = left-for-good;
       shift-leads-there = shift-leads-there;
       reads = reads-in-place;
       census = census-law;

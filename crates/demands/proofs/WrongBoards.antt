@@ -1,13 +1,13 @@
 -- Each wrong board breaks, at a named input, the demand that the paper sets against it.
 -- Assumes nothing.
-use Prim.Native.Nat.{ℕ, zero, suc, _+_, _<_}
+use Prim.Native.Nat.{ℕ, zero, suc, _+_, _-_, _<_}
 use mathlib.Core.Path.{_≡_, refl, sym, _∙_, ap}
 use mathlib.Core.Bool.{Bool, true, false, true≢false}
-use mathlib.Core.Logic.{inr, ⊎-elim}
+use mathlib.Core.Logic.{inl, inr, ⊎-elim}
 use mathlib.Core.List.{List, [], _∷_}
 use native.Mathlib.Omega.{arith}
 use lib.IntN.{pos}
-use lib.ListN.{length, take, drop, getD, replicate, length-replicate}
+use lib.ListN.{length, take, drop, getD, set, replicate, length-replicate}
 use lib.Seq.{length-sets}
 use denote.Ref.{RefT}
 use Rattle.paper.proofs.Kept.{accepts}
@@ -42,12 +42,13 @@ use Rattle.format.specs.Spaces.{newGrown, newList}
 use Rattle.format.specs.declared.Formatted.the-variants.{Done}
 use Rattle.layout.specs.Layouts.{driveOf}
 use Rattle.layout.specs.Descriptors.{free, codeOf}
-use Rattle.table.specs.Rules.{tableFault}
+use Rattle.table.specs.Rules.{Breaks, named-twice, tableFault}
 use Rattle.table.specs.Lookup as Table
 use Rattle.table.specs.Lookup.{placeOf}
 use Rattle.table.proofs.Lookups.{lies-only, lies-apart}
 use Rattle.order.specs.Order.{outward, order}
 use Rattle.table.specs.declared.Census.{Census}
+use Rattle.first_table.specs.Marks.{badSpares, badHomes}
 use Rattle.spares.specs.Spares.{ReplaceJudged}
 use Rattle.spares.specs.Promises.{saidReplaced}
 use Rattle.spares.specs.declared.Replaced.the-variants.{Place, Refused as NotReplaced}
@@ -71,11 +72,12 @@ use Rattle.reading.proofs.Tracks.{image-inside, data-inside}
 use Rattle.reading.proofs.Written.{good-read}
 use Rattle.demands.specs.Relations.{Keeps, Handed, Onward, Counts}
 use Rattle.demands.proofs.Demand3.{Arrives}
-use Rattle.demands.specs.Demand2Revectored.{AltersOne, ShiftLeads}
+use Rattle.demands.specs.Demand2Revectored.{Alters, ShiftLeads}
+use Rattle.demands.specs.Histories.{killedBy}
 use Rattle.demands.specs.Numbered.{PlacedBy}
 use Rattle.demands.specs.Angles.{Angled, BothAngled}
-use Rattle.demands.specs.Inputs.{few, chart, small, noneReplaced, afterSix, twoGroups}
-use Rattle.demands.proofs.Boards.{made, scan, lent, pageWith, begun, damaged, older, newer, blank, trackWith, refusesAll, sameSector, addsOnce, skipsNothing, opened, runsAhead, cursorAfter, sectorsAfter, madeUpEntries, writesEarly, madeUpLengths, takesSectors, Composes, sameSpare, sparesNone, leavesTable, groupByRemainder, offsetOnce, neverRound, stoppedOrder, stopsSearch, madeUpCensus, censusWith, truncatedShift, wrappedShift, everyForced, homeImage, readsHome}
+use Rattle.demands.specs.Inputs.{few, chart, small, holding, noneReplaced, afterSeven, afterSix, afterEighth, twoGroups}
+use Rattle.demands.proofs.Boards.{made, scan, lent, pageWith, begun, damaged, older, newer, blank, trackWith, refusesAll, sameSector, addsOnce, skipsNothing, opened, runsAhead, cursorAfter, sectorsAfter, madeUpEntries, writesEarly, madeUpLengths, takesSectors, Composes, sameSpare, sparesNone, leavesTable, groupByRemainder, offsetOnce, neverRound, stoppedOrder, stopsSearch, leavesOld, freesOld, killsEarly, madeUpCensus, censusWith, truncatedShift, wrappedShift, everyForced, homeImage, readsHome}
 
 -- a number that is given exactly is the only one
 no-other : {Rows : ℕ → Type 0} {number k : ℕ} → Exactly Rows number → (number ≡ k → ⊥) → Rows k → ⊥
@@ -135,16 +137,51 @@ same-spare-shared s = (rw noneReplaced-passes, rw noneReplaced-passes, shared)
         omega arith
 
 -- a replacement that leaves the table: it answers the right place, and of no place is the descriptor altered
-pub leaves-table-unaltered : (leavesTable small 2 noneReplaced 7 ≡ (Place 4, noneReplaced)) × ((q : ℕ) → AltersOne small 2 noneReplaced 7 q noneReplaced → ⊥)
+pub leaves-table-unaltered : (leavesTable small 2 noneReplaced 7 ≡ (Place 4, noneReplaced)) × ((q : ℕ) → Alters small 2 noneReplaced 7 q noneReplaced → ⊥)
 unfolding allBelow placeOf firstBelow firstOr outward rising
 leaves-table-unaltered = (refl, unaltered)
   where
-    unaltered : (q : ℕ) → AltersOne small 2 noneReplaced 7 q noneReplaced → ⊥
+    unaltered : (q : ℕ) → Alters small 2 noneReplaced 7 q noneReplaced → ⊥
     unaltered q altered =
         ⊎-elim
         (λ at-primary. omega (arith, altered .was-free, at-primary))
         (λ elsewhere. omega (arith, altered .was-free, elsewhere))
         (altered .names-block .0)
+
+-- a replacement of block 7, which lies on place 4, that leaves its old descriptor: the table names the block twice and breaks the rules
+pub leaves-old-breaks :
+    (leavesOld small 2 afterSeven 7 ≡ (Place 5, holding 0 0x20000007 0x30000007))
+    × Breaks (driveOf small 2) (holding 0 0x20000007 0x30000007)
+    × (Alters small 2 afterSeven 7 5 (holding 0 0x20000007 0x30000007) → ⊥)
+unfolding allBelow placeOf firstBelow firstOr outward rising
+leaves-old-breaks = (refl, twice, λ altered. altered .breaks-none twice)
+  where
+    twice : Breaks (driveOf small 2) (holding 0 0x20000007 0x30000007)
+    twice = named-twice 4 5 (omega arith) (omega arith) (inl refl) (inr refl) refl
+
+-- one that sets it free: the old place is not unusable; and of two replacements since the first table, the second of which killed a spare, a census finds 7 free and none unusable, where the law asks for 6 and 1
+pub frees-old-unkilled :
+    (freesOld small 2 noneReplaced 7 ≡ (Place 4, afterSeven))
+    × (freesOld small 2 afterSeven 7 ≡ (Place 5, holding 0 0 0x30000007))
+    × (Alters small 2 afterSeven 7 5 (holding 0 0 0x30000007) → ⊥)
+unfolding allBelow placeOf firstBelow firstOr outward rising
+frees-old-unkilled = (refl, refl, λ altered. omega (arith, altered .old-unusable 4 (inl refl, refl)))
+
+pub frees-old-miscounted :
+    (census : Census) → Counts (holding 0 0 0x30000007) census →
+    (census .free ≡ driveOf small 2 .spares - badSpares (driveOf small 2) [] - length (badHomes (driveOf small 2) []) - 2 → ⊥)
+    × (census .unusable ≡ badSpares (driveOf small 2) [] + (killedBy noneReplaced 7 + killedBy afterSeven 7) → ⊥)
+unfolding countBelow badSpares badHomes placeOf firstBelow
+frees-old-miscounted census counts =
+    let seven : census .free ≡ 7 = counts .are-free in
+    let none : census .unusable ≡ 0 = counts .are-unusable in
+    (λ law. omega arith, λ law. omega arith)
+
+-- one that marks it before it looks for a spare: none is free, and the table is not kept
+pub kills-early-keeps-not :
+    (killsEarly small 2 afterEighth 7 ≡ (NotReplaced noSpare, set afterEighth 1 0x40000000)) × (Keeps noSpare afterEighth (set afterEighth 1 0x40000000) → ⊥)
+unfolding allBelow placeOf firstBelow firstOr outward rising
+kills-early-keeps-not = (refl, λ keeps. omega (arith, ap (λ (l : List ℕ). getD l 1 0) (keeps (λ none. omega arith))))
 
 -- a cursor that runs ahead is not that of the next block after its first step, and after its second neither
 pub runs-ahead-first : Onward 6 few (cursorAfter (runsAhead 6 few) 0 opened) (cursorAfter (runsAhead 6 few) 1 opened) → ⊥

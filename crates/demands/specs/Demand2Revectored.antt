@@ -1,4 +1,4 @@
--- Demand 2 on a revectored drive: a field for each sentence, said of whatever results the promises of the calls allow.
+-- Demand 2 on a revectored drive, with document 02, Q-3: a field for each sentence, said of whatever results the promises of the calls allow.
 use Prim.Native.Nat.{ℕ, _<_}
 use mathlib.Core.Path.{_≡_}
 use mathlib.Core.List.{List}
@@ -16,16 +16,16 @@ use Rattle.shape.specs.declared.Located.the-variants.{At as LocatedAt}
 use Rattle.shape.specs.Addresses.{withAngle}
 use Rattle.shape.specs.Promises.{SectorOf as ShapeSectorOf, AddressOf as ShapeAddressOf}
 use Rattle.layout.specs.Layouts.{driveOf, homeSector, spareSector, homeCylinder}
-use Rattle.layout.specs.Descriptors.{free, unusable, codeOf, Names}
+use Rattle.layout.specs.Descriptors.{free, unusable, wordOf, codeOf, Names}
 use Rattle.table.specs.Rules.{Breaks, TableJudged, BlockJudged}
-use Rattle.table.specs.Lookup.{Replaced, Resides, Vacant}
+use Rattle.table.specs.Lookup.{Resides, Vacant}
 use Rattle.replacing.specs.Replacing.{NoneFree, ComesFirst}
 use Rattle.spares.specs.declared.Shifted.the-variants.{By}
 use Rattle.spares.specs.declared.Replaced as Answers
 use Rattle.spares.specs.declared.Replaced.the-variants.{Place, Refused as NotReplaced}
 use Rattle.spares.specs.Promises.{SectorOf, AddressOf, ShiftOf, BlockOn, BlockAt, Replacement}
 use Rattle.demands.specs.Reads.{ReadsInPlace}
-use Rattle.demands.specs.Histories.{CensusLaw}
+use Rattle.demands.specs.Histories.{Later, CensusLaw}
 
 -- the result is a sector that block b lies on, and the block lies on no other
 pub record LiesThere (shape : Shape) (r : ℕ) (t : List ℕ) (b : ℕ) (result : Placed) : Type 0 where
@@ -35,14 +35,17 @@ pub record LiesThere (shape : Shape) (r : ℕ) (t : List ℕ) (b : ℕ) (result 
   pub nowhere-else : (s : ℕ) → Resides (driveOf shape r) t b s → s ≡ sector
 
 -- what a replacement that gives block b the spare q does to the table
-pub record AltersOne (shape : Shape) (r : ℕ) (before : List ℕ) (b q : ℕ) (after : List ℕ) : Type 0 where
+pub record Alters (shape : Shape) (r : ℕ) (before : List ℕ) (b q : ℕ) (after : List ℕ) : Type 0 where
   -- place q of the table was free, and no place before it in the search order was
   pub in-table : q < length before
   pub was-free : codeOf (getD before q 0) ≡ free
   pub searched-first : ComesFirst (driveOf shape r) before b q
-  -- it names the block now, and every other place keeps its descriptor
+  -- it names the block now
   pub names-block : Names (getD after q 0) b
-  pub others-stand : (p : ℕ) → (p ≡ q → ⊥) → getD after p 0 ≡ getD before p 0
+  -- a place that named the block before is marked unusable
+  pub old-unusable : (p : ℕ) → Names (getD before p 0) b → getD after p 0 ≡ wordOf unusable 0
+  -- and every other place keeps its descriptor
+  pub others-stand : (p : ℕ) → (p ≡ q → ⊥) → (Names (getD before p 0) b → ⊥) → getD after p 0 ≡ getD before p 0
   -- the table is as long as it was, and breaks no rule
   pub same-length : length after ≡ length before
   pub breaks-none : Breaks (driveOf shape r) after → ⊥
@@ -110,20 +113,28 @@ pub record Demand2Revectored : Type 0 where
   pub named-has-address :
       (shape : Shape) (r : ℕ) (t : List ℕ) (b cylinder head sector : ℕ) → BlockAt shape r t cylinder head sector (Block b) →
       (result : Located) → AddressOf shape r t b result → result ≡ LocatedAt (withAngle shape cylinder head sector)
-  -- A replacement alters one descriptor.
-  pub replacement-alters-one :
-      (shape : Shape) (r : ℕ) (t : List ℕ) (b q : ℕ) (after : List ℕ) → Replacement shape r t b (Place q) after → AltersOne shape r t b q after
-  -- It is refused for want of a spare only when none is free.
+  -- A replacement alters its old descriptor, where it has one, and its new one, and no other.
+  pub replacement-alters :
+      (shape : Shape) (r : ℕ) (t : List ℕ) (b q : ℕ) (after : List ℕ) → Replacement shape r t b (Place q) after → Alters shape r t b q after
+  -- It is refused for want of a spare only when none is free, and 1, 11 and 5 do not refuse it.
   pub no-spare-none-free :
-      (shape : Shape) (r : ℕ) (t : List ℕ) (b : ℕ) (after : List ℕ) → Replacement shape r t b (NotReplaced noSpare) after → NoneFree t
-  -- And always then, where 1, 11, 5 and 12 do not refuse it.
+      (shape : Shape) (r : ℕ) (t : List ℕ) (b : ℕ) (after : List ℕ) → Replacement shape r t b (NotReplaced noSpare) after →
+      NoneFree t × BlockJudged shape r t b 0
+  -- And always then.
   pub none-free-no-spare :
-      (shape : Shape) (r : ℕ) (t : List ℕ) (b : ℕ) → BlockJudged shape r t b 0 → (Replaced t b → ⊥) → NoneFree t →
+      (shape : Shape) (r : ℕ) (t : List ℕ) (b : ℕ) → BlockJudged shape r t b 0 → NoneFree t →
       (result : Answers.Replaced) (after : List ℕ) → Replacement shape r t b result after → result ≡ NotReplaced noSpare
+  -- A spare that is marked unusable stays so, whatever replacements follow.
+  pub stays-unusable : (t later : List ℕ) (q : ℕ) → Later t later → codeOf (getD t q 0) ≡ unusable → codeOf (getD later q 0) ≡ unusable
+  -- So on no later day does any block lie on a spare that a replacement has left.
+  pub left-for-good :
+      (shape : Shape) (r : ℕ) (t : List ℕ) (b p q : ℕ) (after later : List ℕ) → Replacement shape r t b (Place q) after → Names (getD t p 0) b →
+      Later after later →
+      (asked : Shape) (asked-r a : ℕ) → SectorOf asked asked-r later a (At (spareSector (driveOf asked asked-r) p)) → ⊥
   -- The shift leads from the cylinder of a block's home to the cylinder that the block lies on.
   pub shift-leads-there :
       (shape : Shape) (r : ℕ) (t : List ℕ) (b : ℕ) (shift : ℤ) → ShiftOf shape r t b (By shift) → ShiftLeads shape r t b shift
   -- A read of a block goes by the one sector image that the block lies on, and hands its data back in place.
   pub reads : ReadsInPlace
-  -- A census counts each code, and after any calls the free spares are those that no bad sector and no accepted replacement has taken.
+  -- A census counts each code, and after any calls the free spares are those that no bad sector and no accepted replacement has taken, and the unusable ones the bad spares and those that a replacement has left.
   pub census : CensusLaw

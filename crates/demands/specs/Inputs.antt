@@ -1,4 +1,4 @@
--- The paper's small inputs and those of request Q-9, which the rows of the table and the wrong boards share.
+-- The paper's small inputs and those of requests Q-9 and Q-3, which the rows of the table and the wrong boards share.
 use Prim.Native.Nat.{ℕ}
 use mathlib.Core.List.{List, [], _∷_}
 use lib.ListN.{replicate}
@@ -16,9 +16,13 @@ chart = 3 ∷ 7 ∷ 60 ∷ 61 ∷ []
 abbrev pub small : Shape
 small = record { cylinders = 2; heads = 2; sectors = 5; groups = 2; tracks = 1; offset = 2 }
 
--- the table of that drive at r 2: eight spares, of which places 3, 4 and 5 hold these words and the others are free, and null beyond them
+-- the table of that drive at r 2: eight spares, which hold these words, and null beyond them
+abbrev pub eight : ℕ → ℕ → ℕ → ℕ → ℕ → ℕ → ℕ → ℕ → List ℕ
+eight w0 w1 w2 w3 w4 w5 w6 w7 = w0 ∷ w1 ∷ w2 ∷ w3 ∷ w4 ∷ w5 ∷ w6 ∷ w7 ∷ replicate 120 0x80000000
+
+-- the same with words at places 3, 4 and 5, and the others free
 abbrev pub holding : ℕ → ℕ → ℕ → List ℕ
-holding third fourth fifth = 0 ∷ 0 ∷ 0 ∷ third ∷ fourth ∷ fifth ∷ 0 ∷ 0 ∷ replicate 120 0x80000000
+holding third fourth fifth = eight 0 0 0 third fourth fifth 0 0
 
 -- no block is replaced; then block 7 is, at its primary; then 8 and then 6, elsewhere
 abbrev pub noneReplaced : List ℕ
@@ -32,6 +36,28 @@ afterEight = holding 0 0x20000007 0x30000008
 
 abbrev pub afterSix : List ℕ
 afterSix = holding 0x30000006 0x20000007 0x30000008
+
+-- block 7 is replaced again and again from there: the table after the second to the eighth of the replacements of blocks 7, 7, 8, 7, 6, 7, 0, 7
+abbrev pub afterSecond : List ℕ
+afterSecond = eight 0 0 0 0 0x40000000 0x30000007 0 0
+
+abbrev pub afterThird : List ℕ
+afterThird = eight 0 0 0 0x30000008 0x40000000 0x30000007 0 0
+
+abbrev pub afterFourth : List ℕ
+afterFourth = eight 0 0 0 0x30000008 0x40000000 0x40000000 0x30000007 0
+
+abbrev pub afterFifth : List ℕ
+afterFifth = eight 0 0 0x30000006 0x30000008 0x40000000 0x40000000 0x30000007 0
+
+abbrev pub afterSixth : List ℕ
+afterSixth = eight 0 0 0x30000006 0x30000008 0x40000000 0x40000000 0x40000000 0x30000007
+
+abbrev pub afterSeventh : List ℕ
+afterSeventh = eight 0x20000000 0 0x30000006 0x30000008 0x40000000 0x40000000 0x40000000 0x30000007
+
+abbrev pub afterEighth : List ℕ
+afterEighth = eight 0x20000000 0x30000007 0x30000006 0x30000008 0x40000000 0x40000000 0x40000000 0x40000000
 
 -- C 2, H 4, S 5, with these groups, tracks of a group and offset
 abbrev pub fourHeads : ℕ → ℕ → ℕ → Shape

@@ -1,9 +1,9 @@
--- Document 01, "Numbers to try": those that are marked P, and some of ours beside them; document 02, Q-9: angles; all as the rows of one table, and what it is for a row to hold.
-use Prim.Native.Nat.{ℕ, _+_, _≤_}
+-- Document 01, "Numbers to try": those that are marked P, and some of ours beside them; document 02, Q-9: angles, and Q-3: spares that die; all as the rows of one table, and what it is for a row to hold.
+use Prim.Native.Nat.{ℕ, _+_, _<_, _≤_}
 use mathlib.Core.Path.{_≡_}
 use mathlib.Core.Bool.{Bool, true, false}
 use mathlib.Core.List.{List, [], _∷_, _++_}
-use lib.IntN.{ℤ, negsuc}
+use lib.IntN.{ℤ, pos, negsuc}
 use lib.ListN.{length, replicate}
 use Rattle.paper.specs.Answers.{saidPlaced, saidNamed, saidWritten}
 use Rattle.paper.specs.Limits.{dataSize, imageExtra}
@@ -14,13 +14,14 @@ use Rattle.shape.specs.Promises as Shapes
 use Rattle.skip.specs.Promises as Skip
 use Rattle.format.specs.declared.Formatted.{Formatted}
 use Rattle.format.specs.Promises.{saidFormatted, Formats}
+use Rattle.layout.specs.Layouts.{driveOf}
 use Rattle.first_table.specs.Promises.{FirstTable}
 use Rattle.spares.specs.declared.Replaced.{Replaced}
 use Rattle.spares.specs.Promises as Spares
 use Rattle.image.specs.Image.{storedIn}
 use Rattle.image.specs.Promises.{Write}
 use Rattle.demands.specs.Relations.{AllowsOnly}
-use Rattle.demands.specs.Inputs.{few, chart, small, noneReplaced, afterSeven, afterEight, afterSix, fourHeads, twoGroups, largest}
+use Rattle.demands.specs.Inputs.{few, chart, small, eight, noneReplaced, afterSeven, afterEight, afterSix, afterSecond, afterThird, afterFourth, afterFifth, afterSixth, afterSeventh, afterEighth, fourHeads, twoGroups, largest}
 
 -- a row: a call, what goes into it, and the paper's figures for what comes out; the refusal comes first, 0 where the call accepts
 pub data Row : Type 0 where
@@ -36,6 +37,8 @@ pub data Row : Type 0 where
   spare-first : (shape : Shape) (r : ℕ) (list table : List ℕ) → Row
   -- spares::replace, accepted: the place, and the table after it
   spare-replace : (shape : Shape) (r : ℕ) (table : List ℕ) (block place : ℕ) (after : List ℕ) → Row
+  -- spares::replace, of whatever block: refused 13, and the table as it was
+  spare-full : (shape : Shape) (r : ℕ) (table : List ℕ) → Row
   -- spares::shift: refusal, shift
   spare-shift : (shape : Shape) (r : ℕ) (table : List ℕ) (block : ℕ) (figures : ℕ × ℤ) → Row
   -- spares::address_of: refusal, cylinder, head, sector, angle
@@ -68,6 +71,11 @@ Holds (spare-replace shape r table block place after) =
     AllowsOnly
     (λ (answer : Replaced × List ℕ). Spares.Replacement shape r table block (answer .0) (answer .1))
     (λ answer. (Spares.saidReplaced (answer .0) ≡ (0, place)) × (answer .1 ≡ after))
+Holds (spare-full shape r table) =
+    (block : ℕ) → block < driveOf shape r .blocks →
+    AllowsOnly
+    (λ (answer : Replaced × List ℕ). Spares.Replacement shape r table block (answer .0) (answer .1))
+    (λ answer. (Spares.saidReplaced (answer .0) ≡ (13, 0)) × (answer .1 ≡ table))
 Holds (spare-shift shape r table block figures) = AllowsOnly (Spares.ShiftOf shape r table block) (λ answer. Spares.saidShifted answer ≡ figures)
 Holds (spare-address shape r table block figures) = AllowsOnly (Spares.AddressOf shape r table block) (λ answer. Shapes.saidLocated answer ≡ figures)
 Holds (spare-sector shape r table block figures) = AllowsOnly (Spares.SectorOf shape r table block) (λ answer. saidPlaced answer ≡ figures)
@@ -95,7 +103,7 @@ firstOne = 0 ∷ 1 ∷ replicate 510 0
 abbrev pub lastOne : List ℕ
 lastOne = replicate 511 0 ++ (1 ∷ [])
 
--- the table, in the paper's order, and then the rows of request Q-9; what the paper does not mark P is said to be ours
+-- the table, in the paper's order, and then the rows of requests Q-9 and Q-3; what the paper does not mark P is said to be ours
 abbrev pub paperRows : List Row
 paperRows =
     -- the chart's blocks 3, 57, 58 and 843
@@ -166,4 +174,26 @@ paperRows =
     ∷ shape-address (fourHeads 2 2 4) 10 (0, 0, 2, 0, 4)
     ∷ shape-address (fourHeads 2 2 5) 10 (1, 0, 0, 0, 0)
     ∷ shape-address (fourHeads 2 2 4294967295) 10 (1, 0, 0, 0, 0)
+    -- Q-3: block 7, which lies on place 4, is replaced again, by 5; then 8 goes to 3, 7 to 6, 6 to 2, 7 to 7, 0 to 0, and 7 to 1
+    ∷ spare-replace small 2 afterSeven 7 5 afterSecond
+    ∷ spare-replace small 2 afterSecond 8 3 afterThird
+    ∷ spare-replace small 2 afterThird 7 6 afterFourth
+    ∷ spare-replace small 2 afterFourth 6 2 afterFifth
+    ∷ spare-replace small 2 afterFifth 7 7 afterSixth
+    ∷ spare-replace small 2 afterSixth 0 0 afterSeventh
+    ∷ spare-replace small 2 afterSeventh 7 1 afterEighth
+    -- no spare is left for any block, at home or not
+    ∷ spare-full small 2 afterEighth
+    -- four spares hold blocks and four are unusable
+    ∷ spare-census small 2 afterEighth (0, 0, 1, 3, 4, 120)
+    -- block 7 lies on sector 4, the second spare of track 0, and its shift is −1
+    ∷ spare-sector small 2 afterEighth 7 (0, 4)
+    ∷ spare-shift small 2 afterEighth 7 (0, negsuc 0)
+    -- block 6, which lies on place 3 beside blocks 7 and 8, goes to place 6, in its own cylinder
+    ∷ spare-replace small 2 afterSix 6 6 (eight 0 0 0 0x40000000 0x20000007 0x30000008 0x30000006 0)
+    ∷ spare-shift small 2 (eight 0 0 0 0x40000000 0x20000007 0x30000008 0x30000006 0) 6 (0, pos 0)
+    -- block 7 on place 5, with its primary free, goes to its primary
+    ∷ spare-replace small 2 (eight 0 0 0 0 0 0x30000007 0 0) 7 4 (eight 0 0 0 0 0x20000007 0x40000000 0 0)
+    -- block 0 on its spare, with every other spare unusable, keeps it
+    ∷ spare-full small 2 (eight 0x20000000 0x40000000 0x40000000 0x40000000 0x40000000 0x40000000 0x40000000 0x40000000)
     ∷ []

@@ -11,6 +11,8 @@ use borrow.Author.Tests.{eqb-true, eq-eqb, not-true}
 use Rattle.paper.specs.Promise.{written}
 use Rattle.paper.proofs.Cases.{byBool, byLt}
 use Rattle.paper.proofs.Rows.{tells-false}
+use Rattle.seek.specs.Count.{countBelow}
+use Rattle.seek.proofs.Counts.{count-alike}
 use Rattle.lists.specs.Union.{isIn}
 use Rattle.lists.proofs.Members.{members-inside}
 use Rattle.layout.specs.declared.Drive.{Drive}
@@ -19,13 +21,14 @@ use Rattle.layout.specs.Descriptors.{unusable, codeOf}
 use Rattle.table.specs.Rules.{Breaks}
 use Rattle.table.specs.Places.{tableLength}
 use Rattle.table.specs.Steps.{obeys, Obeys}
+use Rattle.table.specs.Counting.{codedAt}
 use Rattle.table.proofs.Obeying.{tells-obeys, tells-breaks}
 use Rattle.table.proofs.Lookups.{tells-replaced}
 use Rattle.first_table.specs.Marks.{isBadSpare, isBadHome, badHomes, goodSpares, marked}
 use Rattle.first_table.specs.Tables.{replacedAll, firstTable, OnGoodSpare, IsFirstTable}
 use Rattle.first_table.specs.Steps.{Replaceable}
 use Rattle.first_table.proofs.Bads.{tells-bad-home, bad-homes-rise}
-use Rattle.first_table.proofs.Marked.{marked-length, marked-at, marked-obeys, marked-none-replaced, marked-free, tells-unusable, word-null}
+use Rattle.first_table.proofs.Marked.{marked-length, marked-at, marked-obeys, marked-none-replaced, marked-free, marked-unusable, tells-unusable, word-null}
 use Rattle.first_table.proofs.Replacings.{OnFreeSpare, AllReplaced, all-replaced}
 
 module _ (drive : Drive) (list : List ℕ) (enough : length (badHomes drive list) ≤ goodSpares drive list) where
@@ -94,6 +97,10 @@ module _ (drive : Drive) (list : List ℕ) (enough : length (badHomes drive list
               unusable-marked q (omega (arith, first-length))
               (eqb-true (codeOf (getD (marked drive list) q 0)) unusable
               (sym (first-replaced .unusable-kept q) ∙ eq-eqb (codeOf (getD (firstTable drive list) q 0)) unusable e));
+          unusable-count =
+              count-alike (codedAt (firstTable drive list) unusable) (codedAt (marked drive list) unusable) (length (firstTable drive list)) (λ q h. first-replaced .unusable-kept q)
+              ∙ ap (countBelow (codedAt (marked drive list) unusable)) (first-length ∙ sym (marked-length drive list))
+              ∙ marked-unusable drive list;
           free-left = omega (arith, first-replaced .fewer-free, marked-free drive list);
         }
 

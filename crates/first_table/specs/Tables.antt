@@ -20,7 +20,7 @@ use Rattle.table.specs.Places.{tableLength}
 use Rattle.table.specs.Lookup.{liesOn}
 use Rattle.table.specs.Counting.{codeCount}
 use Rattle.replacing.specs.Replacing.{replacedIn}
-use Rattle.first_table.specs.Marks.{isBadSpare, isBadHome, badHomes, goodSpares, marked}
+use Rattle.first_table.specs.Marks.{isBadSpare, isBadHome, badSpares, badHomes, goodSpares, marked}
 
 -- blocks replaced one after another, in the order given
 unfoldable pub replacedAll : Drive → List ℕ → List ℕ → List ℕ
@@ -58,11 +58,12 @@ pub record OnGoodSpare (drive : Drive) (list t : List ℕ) (b : ℕ) : Type 0 wh
   pub good : isBadSpare drive list place ≡ false
   pub lies : liesOn drive t b ≡ spareSector drive place
 
--- what a first table is: it breaks no rule, every bad home block lies on a good spare and every other block at home, exactly the bad spares are unusable, and so many spares are left free
+-- what a first table is: it breaks no rule, every bad home block lies on a good spare and every other block at home, exactly the bad spares are unusable, so many as there are, and so many spares are left free
 pub record IsFirstTable (drive : Drive) (list t : List ℕ) : Type 0 where
   pub breaks-none : Breaks drive t → ⊥
   pub bad-homes-spared : (b : ℕ) → b < drive .blocks → isBadHome drive list b ≡ true → OnGoodSpare drive list t b
   pub others-at-home : (b : ℕ) → isBadHome drive list b ≡ false → liesOn drive t b ≡ homeSector drive b
   pub bad-unusable : (q : ℕ) → q < drive .spares → isBadSpare drive list q ≡ true → codeOf (getD t q 0) ≡ unusable
   pub unusable-bad : (q : ℕ) → q < length t → codeOf (getD t q 0) ≡ unusable → (q < drive .spares) × (isBadSpare drive list q ≡ true)
+  pub unusable-count : codeCount t unusable ≡ badSpares drive list
   pub free-left : codeCount t free ≡ goodSpares drive list - length (badHomes drive list)

@@ -45,9 +45,7 @@ badOption = 10
 abbrev pub badTable : ℕ
 badTable = 11
 
--- the block is already replaced
-abbrev pub alreadyReplaced : ℕ
-alreadyReplaced = 12
+-- 12 is no longer given, and no other refusal takes the number: a block that is replaced already is replaced again
 
 -- no spare is left, or too few for all bad homes of a first table
 abbrev pub noSpare : ℕ

@@ -2,7 +2,7 @@
 ghost use mathlib.Core.Path.{_≡_};
 ghost use Prim.Native.Nat.{_≤_};
 ghost use Rattle.paper.specs.Checks.{oneIf};
-ghost use Rattle.paper.specs.Refusals.{outOfRange, tooLong, notRising, outside, noSuchBlock, noSuchSector, noRoom, badPage, strayCursor, badOption, badTable, alreadyReplaced, noSpare, wrongLength, noAddress, otherBlock, forcedError, badCode};
+ghost use Rattle.paper.specs.Refusals.{outOfRange, tooLong, notRising, outside, noSuchBlock, noSuchSector, noRoom, badPage, strayCursor, badOption, badTable, noSpare, wrongLength, noAddress, otherBlock, forcedError, badCode};
 ghost use Rattle.paper.specs.Limits.{unitsMost, cylindersMost, headsMost, sectorsLeast, sectorsMost, listMost, sparesMost, tableBlock, dataSize, headerSize, imageExtra, pageFrame, entrySize, pageMost, optionMost, spaceMost, kindMost, listingMost, startCode, within, sizeFault};
 
 pub const OUT_OF_RANGE: u32 = 1;
@@ -27,7 +27,7 @@ pub const BAD_OPTION: u32 = 10;
 
 pub const BAD_TABLE: u32 = 11;
 
-pub const ALREADY_REPLACED: u32 = 12;
+// 12 is no longer given, and no other refusal takes the number.
 
 pub const NO_SPARE: u32 = 13;
 
@@ -92,7 +92,6 @@ fn refusals_agree()
     ensures { λ result. do ⌜ (← ⟦STRAY_CURSOR⟧ .entry) ≡ strayCursor ⌝ }
     ensures { λ result. do ⌜ (← ⟦BAD_OPTION⟧ .entry) ≡ badOption ⌝ }
     ensures { λ result. do ⌜ (← ⟦BAD_TABLE⟧ .entry) ≡ badTable ⌝ }
-    ensures { λ result. do ⌜ (← ⟦ALREADY_REPLACED⟧ .entry) ≡ alreadyReplaced ⌝ }
     ensures { λ result. do ⌜ (← ⟦NO_SPARE⟧ .entry) ≡ noSpare ⌝ }
     ensures { λ result. do ⌜ (← ⟦WRONG_LENGTH⟧ .entry) ≡ wrongLength ⌝ }
     ensures { λ result. do ⌜ (← ⟦NO_ADDRESS⟧ .entry) ≡ noAddress ⌝ }

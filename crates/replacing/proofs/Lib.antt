@@ -1,2 +1,3 @@
 pub mod Replacements
 pub mod Censuses
+pub mod Moves

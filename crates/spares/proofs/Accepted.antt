@@ -1,39 +1,42 @@
--- What an accepted replacement does, and what any call of it leaves: one altered descriptor or the table as it was, a table that still passes, and a census with one free place less for each accepted call.
+-- What an accepted replacement does, and what any call of it leaves: the old and the new descriptor altered or the table as it was, a table that still passes, and a census with one free place less for each accepted call, and one unusable place more where the block lay on a spare.
 -- Assumes nothing.
 use Prim.Native.Nat.{ℕ, _+_, _<_, _≤_}
-use mathlib.Core.Path.{_≡_, sym, _∙_, subst}
+use mathlib.Core.Path.{_≡_, refl, sym, _∙_, ap, subst}
 use mathlib.Core.Bool.{Bool, true, false, not}
 use mathlib.Core.List.{List}
 use native.Mathlib.Omega.{arith}
-use lib.Dec.{leb}
-use lib.ListN.{length}
-use Rattle.paper.specs.Checks.{refuse, _orElse_, answer}
-use Rattle.paper.specs.Refusals.{outOfRange, noSuchBlock, badTable, alreadyReplaced, noSpare}
+use lib.Dec.{leb, ltb}
+use lib.ListN.{length, getD}
+use borrow.Author.Tests.{le-leb, lt-leb, lt-ltb, le-ltb}
+use Rattle.paper.specs.Checks.{pick, refuse, _orElse_, answer, oneIf}
+use Rattle.paper.specs.Refusals.{outOfRange, noSuchBlock, badTable, noSpare}
 use Rattle.paper.specs.Exactly.{When, later}
 use Rattle.paper.proofs.Cases.{byBool, byLt, byFault}
 use Rattle.paper.proofs.Chain.{orElse-some, orElse-none, orElse-first, orElse-next, answer-refused, answer-accepted}
-use Rattle.paper.proofs.Rows.{tells-le, tells-false, passed-not}
+use Rattle.paper.proofs.Kept.{fills-refuses, fills-accepts}
+use Rattle.paper.proofs.Rows.{tells-le, passed-not}
 use Rattle.shape.specs.declared.Shape.{Shape}
 use Rattle.shape.specs.Shapes.{shaped, shapeFault}
 use Rattle.layout.specs.Layouts.{spared, driveOf, driveFault}
-use Rattle.layout.specs.Descriptors.{free, atPrimary, elsewhere, unusable, null}
+use Rattle.layout.specs.Descriptors.{free, atPrimary, elsewhere, unusable, null, codeOf}
 use Rattle.table.specs.Rules.{tableFault, blockFault, BlockJudged}
-use Rattle.table.specs.Places.{codeAt, tableLength}
+use Rattle.table.specs.Places.{tableLength}
 use Rattle.table.specs.Steps.{obeys, Obeys}
-use Rattle.table.specs.Lookup.{Replaced, isReplaced}
+use Rattle.table.specs.Lookup.{isReplaced}
 use Rattle.table.specs.Counting.{codeCount}
-use Rattle.table.proofs.Lookups.{tells-replaced}
 use Rattle.table.proofs.Censuses.{five-counts}
 use Rattle.table.proofs.Exact.{Ready, table-ready, table-passes, block-ready, block-below, block-exactly}
-use Rattle.replacing.specs.Replacing.{spareFor, NoneFree, replacedIn, Altered}
-use Rattle.replacing.proofs.Replacements.{tells-none-free, spare-free, stored-obeys, replacement-alters}
-use Rattle.replacing.proofs.Censuses.{free-less, code-more, others-counted}
+use Rattle.replacing.specs.Replacing.{spareFor, NoneFree, movedIn, Moved}
+use Rattle.replacing.proofs.Replacements.{tells-none-free}
+use Rattle.replacing.proofs.Moves.{moved-obeys, moved-stays, replacement-moves, moved-free-less, moved-unusable}
+use Rattle.spares.specs.declared.Replaced.the-variants.{Place, Refused as NotReplaced}
 use Rattle.spares.specs.Spares.{replaceFault}
+use Rattle.spares.specs.Promises.{Replacement}
 use Rattle.spares.proofs.Exact.{replace-exactly}
 
 -- the table that a replacement leaves
 abbrev pub tableAfter : Shape → ℕ → List ℕ → ℕ → List ℕ
-tableAfter shape r t b = answer (replaceFault shape r t b) (λ fault. t) (replacedIn (driveOf shape r) t b)
+tableAfter shape r t b = answer (replaceFault shape r t b) (λ fault. t) (movedIn (driveOf shape r) t b)
 
 -- a chain gives no number above those of its checks
 refuse-few : (test : Bool) (number most : ℕ) → number ≤ most → refuse test number ≤ most
@@ -52,13 +55,9 @@ module _ (shape : Shape) (r : ℕ) (t : List ℕ) where
   census-whole none = let ready = table-ready shape r t none in five-counts (ready .obeys) ∙ ready .obeys .long
 
   module _ (b : ℕ) where
-    -- an accepted replacement: checks 1, 11 and 5 pass, the block is not replaced, and there is a spare
+    -- an accepted replacement: checks 1, 11 and 5 pass, and there is a spare
     pub replace-block : replaceFault shape r t b ≡ 0 → blockFault shape r t b ≡ 0
     replace-block none = orElse-first (blockFault shape r t b) _ none
-
-    pub replace-at-home : replaceFault shape r t b ≡ 0 → Replaced t b → ⊥
-    replace-at-home none =
-        passed-not (tells-replaced t b) alreadyReplaced (omega arith) (orElse-first (refuse (isReplaced t b) alreadyReplaced) _ (orElse-next (blockFault shape r t b) _ none))
 
     pub replace-spare : replaceFault shape r t b ≡ 0 → spareFor (driveOf shape r) t b < length t
     replace-spare none =
@@ -67,33 +66,30 @@ module _ (shape : Shape) (r : ℕ) (t : List ℕ) where
         (λ past.
         absurd
         (passed-not (tells-le (length t) (spareFor (driveOf shape r) t b)) noSpare (omega arith)
-        (orElse-next (refuse (isReplaced t b) alreadyReplaced) _ (orElse-next (blockFault shape r t b) _ none))
+        (orElse-next (blockFault shape r t b) _ none)
         past))
 
-    -- the chain's number, by the tests that lead to it
-    module _ (none : blockFault shape r t b ≡ 0) where
-      pub replace-twice : isReplaced t b ≡ true → replaceFault shape r t b ≡ alreadyReplaced
-      replace-twice e = rw (none, e)
+    -- past 1, 11 and 5 the promise is kept by the place that is searched for, and by the table that is altered where it is a place
+    module _ (none : blockFault shape r t b ≡ 0) {place : ℕ} (is : place ≡ spareFor (driveOf shape r) t b) {after : List ℕ} (left : after ≡ pick (ltb place (length t)) (movedIn (driveOf shape r) t b) t) where
+      pub keeps-refused : length t ≤ place → Replacement shape r t b (NotReplaced noSpare) after
+      keeps-refused past =
+          rw (left, le-ltb place (length t) past)
+          (fills-refuses (λ k. refl) noSpare (rw (none, ← is, le-leb (length t) place past)) (omega arith))
 
-      pub replace-fails : isReplaced t b ≡ false → leb (length t) (spareFor (driveOf shape r) t b) ≡ true → replaceFault shape r t b ≡ noSpare
-      replace-fails e f = rw (none, e, f)
+      pub keeps-accepted : place < length t → Replacement shape r t b (Place place) after
+      keeps-accepted found =
+          fills-accepts (λ k. refl) (rw (none, ← is, lt-leb (length t) place found)) (ap Place is) (rw (lt-ltb place (length t) found) at left)
 
-      pub replace-passes : isReplaced t b ≡ false → leb (length t) (spareFor (driveOf shape r) t b) ≡ false → replaceFault shape r t b ≡ 0
-      replace-passes e f = rw (none, e, f)
-
-    -- refused 13 exactly when 1, 11, 5 and 12 do not refuse and no place is free
-    pub no-spare-shows : replaceFault shape r t b ≡ noSpare → (blockFault shape r t b ≡ 0) × ((Replaced t b → ⊥) × NoneFree t)
+    -- refused 13 exactly when 1, 11 and 5 do not refuse and no place is free
+    pub no-spare-shows : replaceFault shape r t b ≡ noSpare → (blockFault shape r t b ≡ 0) × NoneFree t
     no-spare-shows thirteen =
         byFault (blockFault shape r t b)
         (λ none.
         let ready = block-ready shape r t b none in
         let rest = sym (orElse-none (blockFault shape r t b) _ none) ∙ thirteen in
-        byBool (isReplaced t b)
-        (λ e. let other : alreadyReplaced ≡ noSpare = rw e at rest in absurd (omega arith))
-        (λ e.
         byBool (leb (length t) (spareFor (driveOf shape r) t b))
-        (λ f. (none, (tells-false (tells-replaced t b) e, tells-none-free (ready .laid) (ready .obeys) (block-below shape r t b none) .holds f)))
-        (λ f. let other : 0 ≡ noSpare = rw (e, f) at rest in absurd (omega arith))))
+        (λ e. (none, tells-none-free (ready .laid) (ready .obeys) (block-below shape r t b none) .holds e))
+        (λ e. let other : 0 ≡ noSpare = rw e at rest in absurd (omega arith)))
         (λ some.
         let same : blockFault shape r t b ≡ noSpare = sym (orElse-some (blockFault shape r t b) _ some) ∙ thirteen in
         absurd (omega (arith, few)))
@@ -108,33 +104,40 @@ module _ (shape : Shape) (r : ℕ) (t : List ℕ) where
             (refuse-few (not (obeys (driveOf shape r) t)) badTable badTable (omega arith)))
             (refuse-few (leb (driveOf shape r .blocks) b) noSuchBlock badTable (omega arith))
 
-    pub no-spare-told : blockFault shape r t b ≡ 0 → (Replaced t b → ⊥) → NoneFree t → replaceFault shape r t b ≡ noSpare
-    no-spare-told none at-home none-free =
-        replace-exactly shape r t b .only noSpare (later (subst (BlockJudged shape r t b) none (block-exactly shape r t b .judged)) (later (When.passed at-home) (When.given none-free)))
+    pub no-spare-told : blockFault shape r t b ≡ 0 → NoneFree t → replaceFault shape r t b ≡ noSpare
+    no-spare-told none none-free =
+        replace-exactly shape r t b .only noSpare (later (subst (BlockJudged shape r t b) none (block-exactly shape r t b .judged)) (When.given none-free))
 
     -- the table that an accepted replacement leaves
-    pub replace-leaves : replaceFault shape r t b ≡ 0 → tableAfter shape r t b ≡ replacedIn (driveOf shape r) t b
-    replace-leaves none = answer-accepted (replaceFault shape r t b) (λ k. t) (replacedIn (driveOf shape r) t b) none
+    pub replace-leaves : replaceFault shape r t b ≡ 0 → tableAfter shape r t b ≡ movedIn (driveOf shape r) t b
+    replace-leaves none = answer-accepted (replaceFault shape r t b) (λ k. t) (movedIn (driveOf shape r) t b) none
 
     -- and that a refused one leaves
     pub refusal-leaves : (replaceFault shape r t b ≡ 0 → ⊥) → tableAfter shape r t b ≡ t
-    refusal-leaves some = answer-refused (replaceFault shape r t b) (λ k. t) (replacedIn (driveOf shape r) t b) some
+    refusal-leaves some = answer-refused (replaceFault shape r t b) (λ k. t) (movedIn (driveOf shape r) t b) some
 
-    -- it obeys the rules
-    pub replace-obeys : replaceFault shape r t b ≡ 0 → Obeys (driveOf shape r) (tableAfter shape r t b)
-    replace-obeys none =
-        let block = replace-block none in
-        let ready = block-ready shape r t b block in
-        let below = block-below shape r t b block in
-        let found = replace-spare none in
-        rw (replace-leaves none) (stored-obeys (ready .laid) (ready .obeys) below found (spare-free (ready .laid) (ready .obeys) below found) (replace-at-home none))
+    -- what an accepted one does, and what it does to a census
+    module _ (accepted : replaceFault shape r t b ≡ 0) where
+      ready : Ready shape r t
+      ready = block-ready shape r t b (replace-block accepted)
 
-    -- one descriptor is altered, which was free, and every other block lies where it lay
-    pub replace-alters : replaceFault shape r t b ≡ 0 → Altered (driveOf shape r) t b (spareFor (driveOf shape r) t b) (tableAfter shape r t b)
-    replace-alters none =
-        let block = replace-block none in
-        let ready = block-ready shape r t b block in
-        rw (replace-leaves none) (replacement-alters (ready .laid) (ready .obeys) (block-below shape r t b block) (replace-at-home none) (replace-spare none))
+      below : b < driveOf shape r .blocks
+      below = block-below shape r t b (replace-block accepted)
+
+      replace-obeys : Obeys (driveOf shape r) (tableAfter shape r t b)
+      replace-obeys = rw (replace-leaves accepted) (moved-obeys (ready .laid) (ready .obeys) below (replace-spare accepted))
+
+      -- the old descriptor and the new one are altered, and every other block lies where it lay
+      pub replace-moves : Moved (driveOf shape r) t b (spareFor (driveOf shape r) t b) (tableAfter shape r t b)
+      replace-moves = rw (replace-leaves accepted) (replacement-moves (ready .laid) (ready .obeys) below (replace-spare accepted))
+
+      -- one place fewer is free
+      pub replace-free-less : codeCount (tableAfter shape r t b) free + 1 ≡ codeCount t free
+      replace-free-less = rw (replace-leaves accepted) (moved-free-less (ready .laid) (ready .obeys) below (replace-spare accepted))
+
+      -- and one more is unusable where the block lay on a spare
+      pub replace-unusable-more : codeCount (tableAfter shape r t b) unusable ≡ codeCount t unusable + oneIf (isReplaced t b)
+      replace-unusable-more = rw (replace-leaves accepted) (moved-unusable (ready .laid) (ready .obeys) below (replace-spare accepted))
 
     -- a table that passes passes after any call, accepted or refused
     pub after-passes : tableFault shape r t ≡ 0 → tableFault shape r (tableAfter shape r t b) ≡ 0
@@ -144,28 +147,9 @@ module _ (shape : Shape) (r : ℕ) (t : List ℕ) where
         table-passes shape r (tableAfter shape r t b) (orElse-first (driveFault shape r) _ none) (replace-obeys accepted))
         (λ refused. rw (refusal-leaves refused) none)
 
-    -- an accepted call takes one free place, and the code of the place has one more
-    module _ (accepted : replaceFault shape r t b ≡ 0) where
-      altered : Altered (driveOf shape r) t b (spareFor (driveOf shape r) t b) (tableAfter shape r t b)
-      altered = replace-alters accepted
-
-      ready : Ready shape r t
-      ready = block-ready shape r t b (replace-block accepted)
-
-      below : b < driveOf shape r .blocks
-      below = block-below shape r t b (replace-block accepted)
-
-      pub replace-free-less : codeCount (tableAfter shape r t b) free + 1 ≡ codeCount t free
-      replace-free-less = rw (replace-leaves accepted) (free-less (ready .laid) t below (altered .in-table) (altered .was-free))
-
-      pub replace-code-more :
-          codeCount (tableAfter shape r t b) (codeAt (driveOf shape r) (spareFor (driveOf shape r) t b) b)
-          ≡ codeCount t (codeAt (driveOf shape r) (spareFor (driveOf shape r) t b) b) + 1
-      replace-code-more = rw (replace-leaves accepted) (code-more (ready .laid) t below (altered .in-table) (altered .was-free))
-
-      -- every other code has as many places as it had
-      pub replace-others-counted :
-          (code : ℕ) → (code ≡ free → ⊥) → (code ≡ codeAt (driveOf shape r) (spareFor (driveOf shape r) t b) b → ⊥) →
-          codeCount (tableAfter shape r t b) code ≡ codeCount t code
-      replace-others-counted code used apart =
-          rw (replace-leaves accepted) (others-counted (ready .laid) t below (altered .in-table) (altered .was-free) code used apart)
+    -- and a place that is unusable stays so
+    pub after-stays : (p : ℕ) → codeOf (getD t p 0) ≡ unusable → codeOf (getD (tableAfter shape r t b) p 0) ≡ unusable
+    after-stays p e =
+        byFault (replaceFault shape r t b)
+        (λ accepted. moved-stays (replace-moves accepted) p e)
+        (λ refused. rw (refusal-leaves refused) e)

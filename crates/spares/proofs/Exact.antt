@@ -2,8 +2,8 @@
 -- Assumes nothing.
 use Prim.Native.Nat.{ℕ, _*_, _<_, _≤_}
 use mathlib.Core.List.{List}
-use Rattle.paper.specs.Refusals.{noSuchSector, alreadyReplaced, noSpare}
-use Rattle.paper.specs.Exactly.{Exactly, When, _andThen_}
+use Rattle.paper.specs.Refusals.{noSuchSector, noSpare}
+use Rattle.paper.specs.Exactly.{Exactly, When}
 use Rattle.paper.proofs.Rows.{tells-le, row, rows, rows-passed}
 use Rattle.shape.specs.declared.Shape.{Shape}
 use Rattle.shape.specs.Shapes.{sizeOf}
@@ -12,9 +12,7 @@ use Rattle.shape.proofs.Exact.{place-exactly}
 use Rattle.layout.specs.Layouts.{Spared, driveOf, sectorsPerTrack}
 use Rattle.layout.proofs.Layings.{drive-whole}
 use Rattle.table.specs.Rules.{TableJudged, BlockJudged}
-use Rattle.table.specs.Lookup.{Replaced}
 use Rattle.table.proofs.Exact.{table-exactly, block-ready, block-below, block-exactly}
-use Rattle.table.proofs.Lookups.{tells-replaced}
 use Rattle.replacing.specs.Replacing.{NoneFree}
 use Rattle.replacing.proofs.Replacements.{tells-none-free}
 use Rattle.spares.specs.Spares.{blockOnFault, blockAtFault, replaceFault, BlockOnJudged, BlockAtJudged, ReplaceJudged}
@@ -26,13 +24,10 @@ sector-within drives below = rw (drive-whole drives) below
 module _ (shape : Shape) (r : ℕ) (t : List ℕ) where
   pub replace-exactly : (b : ℕ) → Exactly (ReplaceJudged shape r t b) (replaceFault shape r t b)
   replace-exactly b =
-      rows-passed (BlockJudged shape r t b) (When alreadyReplaced (Replaced t b) andThen When noSpare (NoneFree t))
-      (block-exactly shape r t b)
+      rows-passed (BlockJudged shape r t b) (When noSpare (NoneFree t)) (block-exactly shape r t b)
       (λ none.
       let ready = block-ready shape r t b none in
-      rows (When alreadyReplaced (Replaced t b)) (When noSpare (NoneFree t))
-      (row (tells-replaced t b) alreadyReplaced)
-      (row (tells-none-free (ready .laid) (ready .obeys) (block-below shape r t b none)) noSpare))
+      row (tells-none-free (ready .laid) (ready .obeys) (block-below shape r t b none)) noSpare)
 
   pub block-on-exactly : (s : ℕ) → Exactly (BlockOnJudged shape r t s) (blockOnFault shape r t s)
   block-on-exactly s =

@@ -16,7 +16,7 @@ use Rattle.layout.specs.Layouts.{driveOf}
 use Rattle.table.specs.Rules.{tableFault, blockFault}
 use Rattle.table.specs.Lookup.{liesOn, lyingOn}
 use Rattle.table.specs.Counting.{censusOf}
-use Rattle.replacing.specs.Replacing.{spareFor, replacedIn}
+use Rattle.replacing.specs.Replacing.{spareFor, movedIn}
 use Rattle.spares.specs.declared.Shifted.{Shifted}
 use Rattle.spares.specs.declared.Shifted.the-variants.{By, Refused as NotShifted}
 use Rattle.spares.specs.declared.Replaced.{Replaced}
@@ -70,9 +70,9 @@ abbrev pub BlockAt : Shape → ℕ → List ℕ → ℕ → ℕ → ℕ → Name
 BlockAt shape r t cylinder head sector =
     GivesNamed (blockAtFault shape r t cylinder head sector) (lyingOn (driveOf shape r) t (sectorAt shape cylinder head sector))
 
--- the place that a replacement takes; the table then has the block's descriptor there
+-- the place that a replacement takes; the table then has the block's descriptor there, and the place that it had is unusable
 abbrev pub Replacement : Shape → ℕ → List ℕ → ℕ → Replaced → List ℕ → Type 0
-Replacement shape r t b = FillsReplaced (replaceFault shape r t b) (Place (spareFor (driveOf shape r) t b)) t (replacedIn (driveOf shape r) t b)
+Replacement shape r t b = FillsReplaced (replaceFault shape r t b) (Place (spareFor (driveOf shape r) t b)) t (movedIn (driveOf shape r) t b)
 
 -- how many places of the table have each code
 abbrev pub CensusOf : Shape → ℕ → List ℕ → Counted → Type 0

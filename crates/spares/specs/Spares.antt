@@ -1,11 +1,11 @@
--- Document 01, "Descriptors and spares": the checks of the calls on a revectored drive, and the shift from home to spare.
+-- Document 01, "Descriptors and spares", and document 02, Q-3: the checks of the calls on a revectored drive, and the shift from home to spare.
 use Prim.Native.Nat.{ℕ}
 use mathlib.Core.List.{List}
 use lib.Dec.{leb}
 use lib.IntN.{ℤ, pos, _-ℤ_}
 use lib.ListN.{length}
 use Rattle.paper.specs.Checks.{pick, refuse, _orElse_}
-use Rattle.paper.specs.Refusals.{noSuchSector, alreadyReplaced, noSpare}
+use Rattle.paper.specs.Refusals.{noSuchSector, noSpare}
 use Rattle.paper.specs.Exactly.{When, _andThen_}
 use Rattle.paper.specs.Conditions.{NotBelow}
 use Rattle.shape.specs.declared.Shape.{Shape}
@@ -14,7 +14,7 @@ use Rattle.shape.specs.Addresses.{offDriveFault, OffDriveJudged}
 use Rattle.layout.specs.declared.Drive.{Drive}
 use Rattle.layout.specs.Layouts.{driveOf, homeCylinder, spareCylinder}
 use Rattle.table.specs.Rules.{tableFault, blockFault, TableJudged, BlockJudged}
-use Rattle.table.specs.Lookup.{placeOf, Replaced, isReplaced}
+use Rattle.table.specs.Lookup.{placeOf, isReplaced}
 use Rattle.replacing.specs.Replacing.{spareFor, NoneFree}
 
 -- the cylinder of the spare less that of the home, and 0 for a block at home
@@ -29,12 +29,9 @@ blockOnFault shape r t s = tableFault shape r t orElse refuse (leb (sizeOf shape
 abbrev pub blockAtFault : Shape → ℕ → List ℕ → ℕ → ℕ → ℕ → ℕ
 blockAtFault shape r t cylinder head sector = tableFault shape r t orElse offDriveFault shape cylinder head sector
 
--- checks 1, 11, 5, 12, 13
+-- checks 1, 11, 5, 13
 abbrev pub replaceFault : Shape → ℕ → List ℕ → ℕ → ℕ
-replaceFault shape r t b =
-    blockFault shape r t b
-    orElse refuse (isReplaced t b) alreadyReplaced
-    orElse refuse (leb (length t) (spareFor (driveOf shape r) t b)) noSpare
+replaceFault shape r t b = blockFault shape r t b orElse refuse (leb (length t) (spareFor (driveOf shape r) t b)) noSpare
 
 -- exactly when `spares::block_on` gives each number
 abbrev pub BlockOnJudged : Shape → ℕ → List ℕ → ℕ → ℕ → Type 0
@@ -46,5 +43,4 @@ BlockAtJudged shape r t cylinder head sector = TableJudged shape r t andThen Off
 
 -- exactly when `spares::replace` gives each number: 13 only where no place is free
 abbrev pub ReplaceJudged : Shape → ℕ → List ℕ → ℕ → ℕ → Type 0
-ReplaceJudged shape r t b =
-    BlockJudged shape r t b andThen When alreadyReplaced (Replaced t b) andThen When noSpare (NoneFree t)
+ReplaceJudged shape r t b = BlockJudged shape r t b andThen When noSpare (NoneFree t)

@@ -9,7 +9,6 @@ ghost use Rattle.first_table.specs.Promises.{FirstTable};
 ghost use Rattle.spares.specs.Spares.{shiftOf};
 ghost use Rattle.spares.specs.Promises.{SectorOf, AddressOf, ShiftOf, BlockOn, BlockAt, Replacement, CensusOf};
 use layout::Drive;
-use paper::ALREADY_REPLACED;
 use paper::NO_SPARE;
 use paper::NO_SUCH_SECTOR;
 use paper::Named;
@@ -126,7 +125,7 @@ pub fn block_at(shape: Shape, r: u32, table: &[u32], cylinder: u32, head: u32, s
     table::lying_on(layout::drive_of(shape, r), table, sector)
 }
 
-// Replaces a block: writes its descriptor at the first free place in its search order, and answers the place. Checks 1, 11, 5, 12, 13.
+// Replaces a block, at home or on a spare: marks the spare that it lay on unusable, writes its descriptor at the first free place in its search order, and answers the place. Checks 1, 11, 5, 13.
 pub fn replace(shape: Shape, r: u32, table: &mut [u32], block: u32) -> Replaced
     ensures { λ result. ⌜ Replacement shape r (now (table .entry)) block result (now (table .exit)) ⌝ }
 {
@@ -134,15 +133,10 @@ pub fn replace(shape: Shape, r: u32, table: &mut [u32], block: u32) -> Replaced
     if fault != 0 {
         return Replaced::Refused(fault);
     }
-    if table::place_of(table, block) < table.len() {
-        return Replaced::Refused(ALREADY_REPLACED);
-    }
-    let drive = layout::drive_of(shape, r);
-    let place = replacing::spare_for(drive, table, block);
+    let place = replacing::move_in(layout::drive_of(shape, r), table, block);
     if table.len() <= place {
         return Replaced::Refused(NO_SPARE);
     }
-    replacing::store(drive, table, block, place);
     Replaced::Place(place as u32)
 }
 
