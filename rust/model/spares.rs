@@ -204,7 +204,8 @@ pub fn search_order(length: usize, primary: usize) -> Vec<usize> {
     order
 }
 
-/// Writes the block's descriptor at its first free place and answers the place.
+/// Writes the block's descriptor at its first free place and answers the place; with none free it
+/// writes nothing.
 fn allocate(drive: Drive, table: &mut [u32], block: u32) -> Answer<u32> {
     let primary = drive.primary(block);
     for place in search_order(table.len(), primary) {
@@ -217,10 +218,15 @@ fn allocate(drive: Drive, table: &mut [u32], block: u32) -> Answer<u32> {
     Err(13)
 }
 
+/// The block's new place; the spare that it lay on, if it did, is unusable from then on.
 pub fn replace(shape: Shape, r: u32, table: &mut [u32], block: u32) -> Answer<u32> {
     let drive = checked_block(shape, r, table, block)?;
-    refuse(drive.place_of(table, block).is_some(), 12)?;
-    allocate(drive, table, block)
+    let old = drive.place_of(table, block);
+    let new = allocate(drive, table, block)?;
+    if let Some(old) = old {
+        table[old as usize] = word(UNUSABLE, 0);
+    }
+    Ok(new)
 }
 
 /// How many descriptors have code 0, 2, 3, 4 and 8.

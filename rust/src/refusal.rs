@@ -30,8 +30,7 @@ pub enum Refusal {
     BadOption = 10,
     /// The table is not one of this drive, or a descriptor breaks a rule.
     BadTable = 11,
-    /// The block lies on a spare already.
-    AlreadyReplaced = 12,
+    // 12 is no longer given, and no other refusal takes it.
     /// No spare is free, or a first table would need more good spares than there are.
     NoSpare = 13,
     /// Data or an image is not as long as it must be.
@@ -48,7 +47,7 @@ pub enum Refusal {
 
 impl Refusal {
     /// Every refusal, by rising number.
-    pub const ALL: [Refusal; 18] = [
+    pub const ALL: [Refusal; 17] = [
         Refusal::OutOfRange,
         Refusal::TooLong,
         Refusal::NotRising,
@@ -60,7 +59,6 @@ impl Refusal {
         Refusal::StrayCursor,
         Refusal::BadOption,
         Refusal::BadTable,
-        Refusal::AlreadyReplaced,
         Refusal::NoSpare,
         Refusal::WrongLength,
         Refusal::NoAddress,
@@ -69,12 +67,12 @@ impl Refusal {
         Refusal::BadCode,
     ];
 
-    /// The refusal's number, 1 to 18.
+    /// The refusal's number, 1 to 18 without 12.
     pub const fn number(self) -> u32 {
         self as u32
     }
 
-    /// The refusal of a number, none for 0 and above 18.
+    /// The refusal of a number, none for 0, for 12 and above 18.
     pub fn of_number(number: u32) -> Option<Refusal> {
         Refusal::ALL.into_iter().find(|each| each.number() == number)
     }
@@ -93,7 +91,6 @@ impl Refusal {
             Refusal::StrayCursor => "stray cursor",
             Refusal::BadOption => "bad option",
             Refusal::BadTable => "bad table",
-            Refusal::AlreadyReplaced => "already replaced",
             Refusal::NoSpare => "no spare",
             Refusal::WrongLength => "wrong length",
             Refusal::NoAddress => "no address",

@@ -67,11 +67,24 @@ pub fn block_at(
 }
 
 /// Sends `block` to the first free place in its search order, writes its descriptor there and answers
-/// the place, which is the spare's number.
+/// the place, which is the spare's number. A block that lies on a spare leaves it for good: its old
+/// descriptor becomes unusable. The call writes these one or two descriptors and no other.
 ///
 /// Checks: [`OutOfRange`](Refusal::OutOfRange) for shape, `r` and the number of spares;
 /// [`BadTable`](Refusal::BadTable); [`NoSuchBlock`](Refusal::NoSuchBlock);
-/// [`AlreadyReplaced`](Refusal::AlreadyReplaced); [`NoSpare`](Refusal::NoSpare).
+/// [`NoSpare`](Refusal::NoSpare).
+///
+/// ```
+/// use tautberry::{spares, Shape};
+///
+/// let shape = Shape::ungrouped(2, 2, 5);
+/// let mut table = [0; 128];
+/// spares::first_table(shape, 2, &[], &mut table)?;
+/// assert_eq!(spares::replace(shape, 2, &mut table, 7), Ok(4));
+/// assert_eq!(spares::replace(shape, 2, &mut table, 7), Ok(5));
+/// assert_eq!(table[4..6], [0x4000_0000, 0x3000_0007]);
+/// # Ok::<(), tautberry::Refusal>(())
+/// ```
 pub fn replace(shape: Shape, r: u32, table: &mut [u32], block: u32) -> Result<u32, Refusal> {
     // SAFETY: the pointer and length are those of a live slice, which overlaps nothing.
     let answer = unsafe { ffi::tb_spare_replace(shape, r, table.as_mut_ptr(), table.len(), block) };
@@ -86,6 +99,7 @@ pub struct Census {
     pub primary: u32,
     /// Allocated at another place.
     pub elsewhere: u32,
+    /// Bad in the first table, or left by a block that was replaced again.
     pub unusable: u32,
     /// Past the last spare.
     pub null: u32,

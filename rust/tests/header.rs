@@ -55,15 +55,21 @@ fn refusals_are_those_of_the_header() {
         ours.push((format!("TB_{name}"), refusal.number()));
     }
     assert_eq!(theirs, ours);
+
+    // 17 names beside the first; 12 has none.
+    let numbers: Vec<u32> = theirs.into_iter().map(|(_, number)| number).collect();
+    let expected: Vec<u32> = (0..12).chain(13..=18).collect();
+    assert_eq!(numbers, expected);
 }
 
 #[test]
 fn numbers_turn_into_refusals_and_back() {
-    for number in 1..=18 {
+    for number in (1..12).chain(13..=18) {
         assert_eq!(Refusal::of_number(number).map(Refusal::number), Some(number));
     }
-    assert_eq!(Refusal::of_number(0), None);
-    assert_eq!(Refusal::of_number(19), None);
+    for number in [0, 12, 19, u32::MAX] {
+        assert_eq!(Refusal::of_number(number), None);
+    }
     assert_eq!(Refusal::NoSpare.to_string(), "refused 13: no spare");
 }
 

@@ -230,11 +230,13 @@ fn refused_spares_answer_zeros() {
             refused("tb_spare_replace", by_block, replaced);
         }
     }
-    for (number, block) in [(12, 7), (13, 0)] {
+    // Block 7 lies on a spare, block 0 at home.
+    for block in [7, 0] {
         let mut table = full_table();
         // SAFETY: the pointer and length are those of a live slice.
         let answer = unsafe { tb_spare_replace(SHAPE, R, table.as_mut_ptr(), table.len(), block) };
-        refused("tb_spare_replace", number, answer);
+        refused("tb_spare_replace", 13, answer);
+        assert_eq!(table, full_table(), "tb_spare_replace");
     }
 
     let first = |number: u32, r: u32, list: &[u32], length: usize| {
@@ -250,6 +252,22 @@ fn refused_spares_answer_zeros() {
     }
     first(7, R, &[3], 127);
     first(13, R, &[0, 1, 2, 5, 6, 7, 10, 11, 12], 128);
+}
+
+/// A block at home writes the descriptor at its place, a block on a spare also that of its old place.
+#[test]
+fn a_replacement_answers_its_place() {
+    let (mut table, mut expected) = (table(), table());
+    expected[5] = 0x3000_0008;
+    let mut replace = |block: u32, place: u32, expected: &[u32]| {
+        // SAFETY: the pointer and length are those of a live slice.
+        let answer = unsafe { tb_spare_replace(SHAPE, R, table.as_mut_ptr(), table.len(), block) };
+        assert_eq!(numbers(answer), [0, place], "tb_spare_replace");
+        assert_eq!(table, expected, "tb_spare_replace");
+    };
+    replace(8, 5, &expected);
+    (expected[4], expected[3]) = (0x4000_0000, 0x3000_0007);
+    replace(7, 3, &expected);
 }
 
 /// Every call that takes a shape, where the groups are at fault and nothing else is.

@@ -1,4 +1,4 @@
-// The day of a block on a small drive: the gauge log of a vacuum turntable is written, moved to a spare, read back and refused, and at night a scan changes the map of a drive that skips.
+// The day of a block on a small drive: the gauge log of a vacuum turntable is written, moved to a spare, read back and refused, moved to another spare, and at night a scan changes the map of a drive that skips.
 ghost use Prim.Native.Nat.{_+_, _≤_};
 use format::Formatted;
 use paper::Placed;
@@ -168,8 +168,8 @@ fn noon(table: &mut [u32]) {
     telling::end();
 }
 
-// The gauge log on its spare, while its home still holds the morning's reading; then the spare is damaged.
-fn afternoon(table: &[u32], home: &[u8; 2_650]) {
+// The gauge log on its spare, while its home still holds the morning's reading; then the spare goes bad, and the gauge log moves again.
+fn afternoon(table: &mut [u32], home: &[u8; 2_650]) {
     telling::line(b"Afternoon: the pump slows down");
     let mut second = track_with(b"vacuum 79 kPa", 2_120);
     tell_read(table, home, &second);
@@ -177,8 +177,12 @@ fn afternoon(table: &[u32], home: &[u8; 2_650]) {
     telling::text(b"Its old sector is still good, and still says: ");
     telling::line(comparing::first_bytes(old, READING));
     second[2_136] = second[2_136] ^ 1;
-    telling::line(b"One bit on the spare turns over.");
+    telling::line(b"The spare goes bad: one bit turns over.");
     tell_read(table, home, &second);
+    tell_replacement(GAUGE, b", the gauge log,", table);
+    tell_place(b"The gauge log now", table);
+    let third = track_with(b"vacuum 78 kPa", 1_590);
+    tell_read(table, home, &third);
     telling::end();
 }
 
@@ -240,7 +244,7 @@ fn main() {
     telling::end();
     let home = morning(&table);
     noon(&mut table);
-    afternoon(&table, &home);
+    afternoon(&mut table, &home);
     telling::line(b"Evening: the spares are counted");
     tell_spares(&table);
     telling::end();

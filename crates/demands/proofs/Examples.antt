@@ -1,6 +1,6 @@
 -- The paper's "Numbers to try" and ours beside them: every row of the table holds. Where a block lies is told by the walk, which is the definition; the rest is computed.
 -- Assumes nothing.
-use Prim.Native.Nat.{ℕ, suc, _+_, _<_, _≤_}
+use Prim.Native.Nat.{ℕ, suc, _+_, _≤_}
 use mathlib.Core.Path.{_≡_, refl, sym, _∙_}
 use mathlib.Core.Bool.{Bool, true, false, not, true≢false}
 use mathlib.Core.List.{List, [], _∷_}

@@ -1,13 +1,13 @@
--- What a descriptor that is stored at a free place does to a census: one free place less, one more with its code, and every other code as it was.
+-- What a descriptor that is stored at a free place does to a census: one free place less, and every code but its own and free as it was.
 -- Assumes nothing.
 use Prim.Native.Nat.{ℕ, _+_, _<_}
-use mathlib.Core.Path.{_≡_, refl, sym, _∙_, ap}
+use mathlib.Core.Path.{_≡_, sym, _∙_, ap}
 use mathlib.Core.Bool.{false}
 use mathlib.Core.List.{List}
 use native.Mathlib.Omega.{arith}
 use lib.Dec.{eqb}
 use lib.ListN.{length, getD, set}
-use borrow.Author.Tests.{eq-eqb, ne-eqb, eqb-false}
+use borrow.Author.Tests.{ne-eqb}
 use Rattle.paper.specs.Checks.{pick}
 use Rattle.paper.proofs.Cases.{byBool}
 use Rattle.layout.specs.declared.Drive.{Drive}
@@ -39,11 +39,7 @@ module _ {drive : Drive} (laid : Laid drive) (t : List ℕ) {b : ℕ} (below : b
   pub free-less : codeCount (set t q (descriptorAt drive q b)) free + 1 ≡ codeCount t free
   free-less = omega (arith, rw not-free at (code-set free))
 
-  -- one place more has the code of the stored descriptor
-  pub code-more : codeCount (set t q (descriptorAt drive q b)) (codeAt drive q b) ≡ codeCount t (codeAt drive q b) + 1
-  code-more = omega (arith, rw (ne-eqb free (codeAt drive q b) (λ e. eqb-false (codeAt drive q b) free not-free (sym e)), eq-eqb (codeAt drive q b) (codeAt drive q b) refl) at (code-set (codeAt drive q b)))
-
-  -- and every other code is counted as it was
+  -- and every code but that of the stored descriptor is counted as it was
   pub others-counted :
       (code : ℕ) → (code ≡ free → ⊥) → (code ≡ codeAt drive q b → ⊥) → codeCount (set t q (descriptorAt drive q b)) code ≡ codeCount t code
   others-counted code used apart =

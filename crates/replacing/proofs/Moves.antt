@@ -6,11 +6,11 @@ use mathlib.Core.Bool.{true, false, true≢false}
 use mathlib.Core.Logic.{⊎-elim}
 use mathlib.Core.List.{List}
 use native.Mathlib.Omega.{arith}
-use lib.Dec.{eqb, ltb}
-use lib.ListN.{length, getD, set, length-set, List·getD-eq-default}
+use lib.Dec.{eqb}
+use lib.ListN.{length, getD, length-set, List·getD-eq-default}
 use lib.Seq.{getD-set-same, getD-set-other}
 use borrow.Author.Tests.{lt-ltb, ne-eqb}
-use Rattle.paper.specs.Checks.{pick, oneIf}
+use Rattle.paper.specs.Checks.{oneIf}
 use Rattle.paper.proofs.Cases.{byBool, byLt, byEq}
 use Rattle.paper.proofs.Rows.{tells-lt, tells-false}
 use Rattle.seek.proofs.Searches.{firstOr-alike}
@@ -22,27 +22,24 @@ use Rattle.table.specs.Steps.{Obeys}
 use Rattle.table.specs.Lookup.{placeOf, Replaced, isReplaced, liesOn}
 use Rattle.table.specs.Counting.{codeCount}
 use Rattle.table.proofs.Standings.{is-unusable, tells-standing}
-use Rattle.table.proofs.Obeying.{store-keeps}
+use Rattle.table.proofs.Obeying.{store-keeps, unbroken-obeys}
 use Rattle.table.proofs.Lookups.{place-names, place-once, place-spare, lies-kept}
 use Rattle.table.proofs.Censuses.{count-set}
 use Rattle.order.specs.Order.{freeAt, order}
-use Rattle.replacing.specs.Replacing.{spareFor, replacedIn, killedIn, movedIn, Altered, Moved}
-use Rattle.replacing.proofs.Replacements.{code-few, spare-free, spare-first, stored-obeys, replacement-alters}
+use Rattle.replacing.specs.Replacing.{spareFor, killedIn, movedIn, Altered, Moved}
+use Rattle.replacing.proofs.Replacements.{code-few, spare-free, spare-first, replacement-alters}
 use Rattle.replacing.proofs.Censuses.{free-less, others-counted}
 
 -- an allocated word is neither free nor unusable
-not-free : (w : ℕ) → Allocated w → codeOf w ≡ free → ⊥
-not-free w allocated e = ⊎-elim (λ x. omega arith) (λ x. omega arith) allocated
+allocated-not-free : (w : ℕ) → Allocated w → codeOf w ≡ free → ⊥
+allocated-not-free w allocated e = ⊎-elim (λ x. omega arith) (λ x. omega arith) allocated
 
-not-unusable : (w : ℕ) → Allocated w → codeOf w ≡ unusable → ⊥
-not-unusable w allocated e = ⊎-elim (λ x. omega arith) (λ x. omega arith) allocated
+allocated-not-unusable : (w : ℕ) → Allocated w → codeOf w ≡ unusable → ⊥
+allocated-not-unusable w allocated e = ⊎-elim (λ x. omega arith) (λ x. omega arith) allocated
 
 module _ (t : List ℕ) (b : ℕ) where
-  -- a block at home has no spare to mark
-  killed-at-home : isReplaced t b ≡ false → killedIn t b ≡ t
-  killed-at-home e = rw e
-
-  pub killed-length : length (killedIn t b) ≡ length t
+  -- the table is as long as it was
+  killed-length : length (killedIn t b) ≡ length t
   killed-length = byBool (isReplaced t b) (λ e. rw e (length-set t (placeOf t b) (wordOf unusable 0))) (λ e. rw e)
 
   -- a block that lies on a spare: its place names it, and is the one that is marked
@@ -60,7 +57,7 @@ module _ (t : List ℕ) (b : ℕ) where
     killed-other p apart = rw e (getD-set-other t (placeOf t b) p (wordOf unusable 0) 0 apart)
 
   -- a place that does not name the block keeps its word
-  pub killed-stands : (p : ℕ) → (Names (getD t p 0) b → ⊥) → getD (killedIn t b) p 0 ≡ getD t p 0
+  killed-stands : (p : ℕ) → (Names (getD t p 0) b → ⊥) → getD (killedIn t b) p 0 ≡ getD t p 0
   killed-stands p unnamed =
       byBool (isReplaced t b)
       (λ e. killed-other e p (λ same. unnamed (rw same (old-names e))))
@@ -78,31 +75,31 @@ module _ (t : List ℕ) (b : ℕ) where
           byEq p (placeOf t b)
           (λ same.
           rw (same, killed-here e)
-          (sym (ne-eqb (getD t (placeOf t b) 0) 0 (λ none. not-free _ (old-names e .0) (ap codeOf none)))))
+          (sym (ne-eqb (getD t (placeOf t b) 0) 0 (λ none. allocated-not-free _ (old-names e .0) (ap codeOf none)))))
           (λ apart. ap (λ (w : ℕ). eqb w 0) (killed-other e p apart)))
           (λ e. rw e)
 
 module _ {drive : Drive} {t : List ℕ} (o : Obeys drive t) (b : ℕ) where
   -- every place that named the block is unusable
-  pub killed-unusable : (p : ℕ) → p < length t → Names (getD t p 0) b → getD (killedIn t b) p 0 ≡ wordOf unusable 0
+  killed-unusable : (p : ℕ) → p < length t → Names (getD t p 0) b → getD (killedIn t b) p 0 ≡ wordOf unusable 0
   killed-unusable p h named =
       let place : placeOf t b ≡ p = place-once o p b h (tells-names (getD t p 0) b .told named) in
       let e : isReplaced t b ≡ true = rw place (lt-ltb p (length t) h) in
       ap (λ (q : ℕ). getD (killedIn t b) q 0) (sym place) ∙ killed-here t b e
 
   -- so none names it now
-  pub killed-unnamed : Replaced (killedIn t b) b → ⊥
+  killed-unnamed : Replaced (killedIn t b) b → ⊥
   killed-unnamed replaced =
       byBool (names (getD t (replaced .place) 0) b)
       (λ e.
       let there = killed-unusable (replaced .place) (rw (killed-length t b) at (replaced .in-table)) (tells-names (getD t (replaced .place) 0) b .holds e) in
-      not-unusable _ (replaced .named .0) (ap codeOf there))
+      allocated-not-unusable _ (replaced .named .0) (ap codeOf there))
       (λ e.
       let unnamed = tells-false (tells-names (getD t (replaced .place) 0) b) e in
       unnamed (rw (killed-stands t b (replaced .place) unnamed) at (replaced .named)))
 
   -- an unusable word names no block, and may stand where a block was named
-  pub killed-obeys : Obeys drive (killedIn t b)
+  killed-obeys : Obeys drive (killedIn t b)
   killed-obeys =
       byBool (isReplaced t b)
       (λ e.
@@ -113,7 +110,7 @@ module _ {drive : Drive} {t : List ℕ} (o : Obeys drive t) (b : ℕ) where
       (λ e. rw e o)
 
 -- every other block lies where it lay
-pub killed-lies : (drive : Drive) (t : List ℕ) (b a : ℕ) → (a ≡ b → ⊥) → liesOn drive (killedIn t b) a ≡ liesOn drive t a
+killed-lies : (drive : Drive) (t : List ℕ) (b a : ℕ) → (a ≡ b → ⊥) → liesOn drive (killedIn t b) a ≡ liesOn drive t a
 killed-lies drive t b a apart =
     byBool (isReplaced t b)
     (λ e.
@@ -128,7 +125,7 @@ killed-lies drive t b a apart =
 -- a place that is unusable stays so
 pub moved-stays : {drive : Drive} {before after : List ℕ} {b q : ℕ} → Moved drive before b q after → (p : ℕ) → codeOf (getD before p 0) ≡ unusable → codeOf (getD after p 0) ≡ unusable
 moved-stays {drive} {before} {after} {b} {q} moved p e =
-    rw (moved .others-stand p (λ same. omega (arith, moved .was-free, rw same at e)) (λ named. not-unusable _ (named .0) e)) e
+    rw (moved .others-stand p (λ same. omega (arith, moved .was-free, rw same at e)) (λ named. allocated-not-unusable _ (named .0) e)) e
 
 -- what the mark does to a census
 module _ (t : List ℕ) (b : ℕ) where
@@ -137,7 +134,7 @@ module _ (t : List ℕ) (b : ℕ) where
       byBool (isReplaced t b)
       (λ e.
       rw e
-      (omega (arith, rw (ne-eqb (codeOf (getD t (placeOf t b) 0)) free (not-free _ (old-names t b e .0))) at (count-set t (placeOf t b) (wordOf unusable 0) free (old-in t b e)))))
+      (omega (arith, rw (ne-eqb (codeOf (getD t (placeOf t b) 0)) free (allocated-not-free _ (old-names t b e .0))) at (count-set t (placeOf t b) (wordOf unusable 0) free (old-in t b e)))))
       (λ e. rw e)
 
   killed-more : codeCount (killedIn t b) unusable ≡ codeCount t unusable + oneIf (isReplaced t b)
@@ -145,7 +142,7 @@ module _ (t : List ℕ) (b : ℕ) where
       byBool (isReplaced t b)
       (λ e.
       rw e
-      (omega (arith, rw (ne-eqb (codeOf (getD t (placeOf t b) 0)) unusable (not-unusable _ (old-names t b e .0))) at (count-set t (placeOf t b) (wordOf unusable 0) unusable (old-in t b e)))))
+      (omega (arith, rw (ne-eqb (codeOf (getD t (placeOf t b) 0)) unusable (allocated-not-unusable _ (old-names t b e .0))) at (count-set t (placeOf t b) (wordOf unusable 0) unusable (old-in t b e)))))
       (λ e. rw e (omega arith))
 
 -- a replacement for which there is a spare
@@ -156,6 +153,9 @@ module _ {drive : Drive} (laid : Laid drive) {t : List ℕ} (o : Obeys drive t) 
   still-found : spareFor drive (killedIn t b) b < length (killedIn t b)
   still-found = rw (spare-kept t b drive, killed-length t b) found
 
+  still-free : codeOf (getD (killedIn t b) (spareFor drive (killedIn t b) b) 0) ≡ free
+  still-free = spare-free laid (killed-obeys o b) below still-found
+
   -- is the replacement of a block at home, in the table with its old spare marked
   altered : Altered drive (killedIn t b) b (spareFor drive t b) (movedIn drive t b)
   altered =
@@ -163,7 +163,7 @@ module _ {drive : Drive} (laid : Laid drive) {t : List ℕ} (o : Obeys drive t) 
       (replacement-alters laid (killed-obeys o b) below (killed-unnamed o b) still-found)
 
   pub moved-obeys : Obeys drive (movedIn drive t b)
-  moved-obeys = stored-obeys laid (killed-obeys o b) below still-found (spare-free laid (killed-obeys o b) below still-found) (killed-unnamed o b)
+  moved-obeys = unbroken-obeys (altered .breaks-none)
 
   pub replacement-moves : Moved drive t b (spareFor drive t b) (movedIn drive t b)
   replacement-moves =
@@ -173,7 +173,7 @@ module _ {drive : Drive} (laid : Laid drive) {t : List ℕ} (o : Obeys drive t) 
         searched-first = spare-first laid o below found;
         same-length = altered .same-length ∙ killed-length t b;
         names-block = altered .names-block;
-        old-unusable = λ p named. altered .others-stand p (λ same. not-free _ (named .0) (rw same was-free)) ∙ killed-unusable o b p (inside p named) named;
+        old-unusable = λ p named. altered .others-stand p (λ same. allocated-not-free _ (named .0) (rw same was-free)) ∙ killed-unusable o b p (inside p named) named;
         others-stand = λ p apart unnamed. altered .others-stand p apart ∙ killed-stands t b p unnamed;
         breaks-none = altered .breaks-none;
         lies = altered .lies;
@@ -184,15 +184,15 @@ module _ {drive : Drive} (laid : Laid drive) {t : List ℕ} (o : Obeys drive t) 
       inside : (p : ℕ) → Names (getD t p 0) b → p < length t
       inside p named =
           byLt p (length t) (λ h. h)
-          (λ beyond. absurd (not-free _ (named .0) (ap codeOf (List·getD-eq-default t 0 beyond))))
+          (λ beyond. absurd (allocated-not-free _ (named .0) (ap codeOf (List·getD-eq-default t 0 beyond))))
 
   -- one place fewer is free
   pub moved-free-less : codeCount (movedIn drive t b) free + 1 ≡ codeCount t free
-  moved-free-less = free-less laid (killedIn t b) below still-found (spare-free laid (killed-obeys o b) below still-found) ∙ killed-free t b
+  moved-free-less = free-less laid (killedIn t b) below still-found still-free ∙ killed-free t b
 
   -- and one more is unusable where the block lay on a spare
   pub moved-unusable : codeCount (movedIn drive t b) unusable ≡ codeCount t unusable + oneIf (isReplaced t b)
   moved-unusable =
-      others-counted laid (killedIn t b) below still-found (spare-free laid (killed-obeys o b) below still-found) unusable (λ x. omega arith)
+      others-counted laid (killedIn t b) below still-found still-free unusable (λ x. omega arith)
       (λ x. omega (arith, code-few drive (spareFor drive (killedIn t b) b) b))
       ∙ killed-more t b

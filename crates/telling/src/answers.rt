@@ -39,7 +39,6 @@ pub fn meaning(fault: u32) {
         paper::STRAY_CURSOR => text(b"the cursor is of another list"),
         paper::BAD_OPTION => text(b"the option and its list do not fit"),
         paper::BAD_TABLE => text(b"the table breaks its rules"),
-        paper::ALREADY_REPLACED => text(b"the block has a spare already"),
         paper::NO_SPARE => text(b"no spare is free"),
         paper::WRONG_LENGTH => text(b"the length is wrong"),
         paper::NO_ADDRESS => text(b"no three copies of the header agree"),

@@ -7,7 +7,7 @@ use tautberry::{
 use crate::drawn_nights::Drawn;
 use crate::drawn_shapes::{grouped, groupings, misgrouped, paper, shape};
 use crate::drawn_tables::descriptor;
-use crate::model::spares::{drive, empty_table, word, UNUSABLE};
+use crate::model::spares::{drive, empty_table, search_order, word, UNUSABLE};
 use crate::model::{self, skipping};
 use crate::nights::formatted;
 use crate::shape_calls::{every_call_gives, Rest};
@@ -167,9 +167,12 @@ fn every_spare_used_then_one_more() {
         assert_eq!(ours, theirs);
         let one_more = blocks.next().expect("more blocks than spares");
         let full = ours.clone();
-        let refused = spares::replace(drive_shape, r, &mut ours, one_more);
-        assert_eq!(refused, Err(Refusal::NoSpare));
-        assert_eq!(ours, full);
+        // The second lies on a spare.
+        for block in [one_more, one_more + 1] {
+            let refused = spares::replace(drive_shape, r, &mut ours, block);
+            assert_eq!(refused, Err(Refusal::NoSpare));
+            assert_eq!(ours, full);
+        }
         assert_eq!(spares::census(drive_shape, r, &ours).map(|count| count.free), Ok(0));
     }
 }
@@ -201,6 +204,27 @@ fn the_search_goes_round_the_table() {
             assert_eq!(place, Ok(free), "block {block}");
             assert_eq!(table[free as usize], descriptor(drive, free, block));
         }
+    }
+}
+
+/// One block alone uses up every spare, in its search order.
+#[test]
+fn every_spare_dies_under_one_block() {
+    let drive_shape = shape(64, 6, 2);
+    let drive = drive(paper(drive_shape), 1).expect("384 spares");
+    for block in [0, 127, 128, 200, 383] {
+        let mut table = empty_table(drive);
+        let order = search_order(384, drive.primary(block));
+        for place in &order {
+            let answer = spares::replace(drive_shape, 1, &mut table, block);
+            assert_eq!(answer, Ok(*place as u32), "block {block}");
+        }
+        let mut expected = vec![word(UNUSABLE, 0); 384];
+        expected[order[383]] = descriptor(drive, order[383] as u32, block);
+        assert_eq!(table, expected, "block {block}");
+        let one_more = spares::replace(drive_shape, 1, &mut table, block);
+        assert_eq!(one_more, Err(Refusal::NoSpare), "block {block}");
+        assert_eq!(table, expected, "block {block}");
     }
 }
 

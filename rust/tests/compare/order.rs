@@ -358,21 +358,39 @@ fn spares_in_order() {
     );
 }
 
-/// With no spare left, a block that is already replaced is refused as such, and another for want of
-/// a spare.
+/// With no spare left, block 7 on its spare and block 0 at home are both refused for want of one, and
+/// that is the last check. No word of the table changes, whatever refuses.
 #[test]
-fn already_replaced_before_no_spare() {
+fn no_spare_after_all_else() {
     let drive = shape(2, 2, 5);
-    let mut table = table_of_8();
-    for word in &mut table[..8] {
-        if *word == 0 {
-            *word = 0x4000_0000;
-        }
-    }
-    for (block, expected) in [(900, 5), (7, 12), (0, 13)] {
-        assert_eq!(number(spares::replace(drive, 2, &mut table, block)), expected);
-        let model = model::spares::replace(paper(drive), 2, &mut table, block);
+    let some_free = table_of_8();
+    let mut broken = some_free.clone();
+    broken[0] = 1;
+    let mut full = some_free.clone();
+    full[..8].iter_mut().filter(|word| **word == 0).for_each(|word| *word = 0x4000_0000);
+    // It names a block that the drive has not.
+    let mut naming_12 = full.clone();
+    naming_12[0] = 0x3000_000C;
+    let rows: [(Shape, u32, &[u32], u32, u32); 12] = [
+        (shape(2, 2, 66), 5, &broken, 900, 1),
+        (drive, 5, &broken, 900, 1),
+        (drive, 5, &broken, 7, 1),
+        (drive, 5, &some_free, 7, 1),
+        (drive, 5, &full, 7, 1),
+        (drive, 2, &broken, 7, 11),
+        (drive, 2, &naming_12, 12, 11),
+        (drive, 2, &some_free, 12, 5),
+        (drive, 2, &full, 12, 5),
+        (drive, 2, &full, 900, 5),
+        (drive, 2, &full, 7, 13),
+        (drive, 2, &full, 0, 13),
+    ];
+    for (drive, r, table, block, expected) in rows {
+        let (mut ours, mut theirs) = (table.to_vec(), table.to_vec());
+        assert_eq!(number(spares::replace(drive, r, &mut ours, block)), expected);
+        let model = model::spares::replace(paper(drive), r, &mut theirs, block);
         assert_eq!(paper_number(model), expected);
+        assert_eq!((&ours[..], &theirs[..]), (table, table), "block {block}, {expected}");
     }
 }
 

@@ -127,19 +127,94 @@ fn good_and_bad_groups() {
     }
 }
 
+/// C 2, H 2, S 5, whose table has 8 spares where r is 2.
+fn eight_spares() -> Shape {
+    shape(2, 2, 5)
+}
+
+/// The table of this drive with these first 8 words.
+fn table_of(words: [u32; 8]) -> Vec<u32> {
+    let mut table = words.to_vec();
+    table.resize(128, 0x8000_0000);
+    table
+}
+
+/// Library and model must answer this place or refusal for the block, and leave the same table.
+fn replaces(table: &mut Vec<u32>, block: u32, expected: Result<u32, u32>) {
+    let mut theirs = table.clone();
+    let library = spares::replace(eight_spares(), 2, table, block);
+    let model = model::spares::replace(paper(eight_spares()), 2, &mut theirs, block);
+    assert_eq!(library.map_err(Refusal::number), expected, "block {block}");
+    assert_eq!(model, expected, "block {block}");
+    assert_eq!(*table, theirs, "block {block}");
+}
+
+/// Library and model must find the block on this sector, so many cylinders from its home.
+fn lies_on(table: &[u32], block: u32, sector: u32, shift: i32) {
+    let drive = eight_spares();
+    assert_eq!(spares::sector_of(drive, 2, table, block), Ok(sector));
+    assert_eq!(spares::shift(drive, 2, table, block), Ok(shift));
+    assert_eq!(model::spares::sector_of(paper(drive), 2, table, block), Ok(sector));
+    assert_eq!(model::spares::shift(paper(drive), 2, table, block), Ok(shift));
+}
+
+/// Three blocks are replaced, and then the third of them again.
 #[test]
 fn three_replacements() {
-    let drive = shape(2, 2, 5);
-    let (mut ours, mut theirs) = ([0; 128], [0; 128]);
-    ours[8..].fill(0x8000_0000);
-    theirs[8..].fill(0x8000_0000);
+    let mut table = table_of([0; 8]);
     for (block, place, word) in [(7, 4, 0x2000_0007), (8, 5, 0x3000_0008), (6, 3, 0x3000_0006)] {
-        assert_eq!(spares::replace(drive, 2, &mut ours, block), Ok(place));
-        assert_eq!(model::spares::replace(paper(drive), 2, &mut theirs, block), Ok(place));
-        assert_eq!((ours[place as usize], theirs[place as usize]), (word, word));
+        replaces(&mut table, block, Ok(place));
+        assert_eq!(table[place as usize], word);
     }
-    assert_eq!(spares::shift(drive, 2, &ours, 6), Ok(-1));
-    assert_eq!(model::spares::shift(paper(drive), 2, &theirs, 6), Ok(-1));
+    lies_on(&table, 6, 9, -1);
+
+    replaces(&mut table, 6, Ok(6));
+    let words = [0, 0, 0, 0x4000_0000, 0x2000_0007, 0x3000_0008, 0x3000_0006, 0];
+    assert_eq!(table, table_of(words));
+    lies_on(&table, 6, 18, 0);
+}
+
+/// One block is replaced five times, until no spare is left to any block.
+#[test]
+fn spares_that_die() {
+    let mut table = table_of([0; 8]);
+    let places = [(7, 4), (7, 5), (8, 3), (7, 6), (6, 2), (7, 7), (0, 0), (7, 1)];
+    for (block, place) in places {
+        replaces(&mut table, block, Ok(place));
+    }
+    let mut words = [0x4000_0000; 8];
+    words[..4].copy_from_slice(&[0x2000_0000, 0x3000_0007, 0x3000_0006, 0x3000_0008]);
+    assert_eq!(table, table_of(words));
+
+    let census = spares::Census { free: 0, primary: 1, elsewhere: 3, unusable: 4, null: 120 };
+    assert_eq!(spares::census(eight_spares(), 2, &table), Ok(census));
+    assert_eq!(model::spares::census(paper(eight_spares()), 2, &table), Ok([0, 1, 3, 4, 120]));
+    lies_on(&table, 7, 4, -1);
+
+    for block in 0..12 {
+        replaces(&mut table, block, Err(13));
+        assert_eq!(table, table_of(words), "block {block}");
+    }
+}
+
+/// A block that lies elsewhere goes to its primary place where that is free.
+#[test]
+fn back_to_the_primary_place() {
+    let mut table = table_of([0, 0, 0, 0, 0, 0x3000_0007, 0, 0]);
+    replaces(&mut table, 7, Ok(4));
+    assert_eq!(table, table_of([0, 0, 0, 0, 0x2000_0007, 0x4000_0000, 0, 0]));
+}
+
+/// Every other spare is unusable: the block stays where it is.
+#[test]
+fn the_last_good_spare() {
+    for place in 0..8 {
+        let mut words = [0x4000_0000; 8];
+        words[place] = if place == 4 { 0x2000_0007 } else { 0x3000_0007 };
+        let mut table = table_of(words);
+        replaces(&mut table, 7, Err(13));
+        assert_eq!(table, table_of(words), "place {place}");
+    }
 }
 
 #[test]

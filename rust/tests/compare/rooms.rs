@@ -117,7 +117,7 @@ fn the_table_of_a_replacement() {
         (&proper, 5, 0, Err(Refusal::OutOfRange)),
         (&broken, 2, 0, Err(Refusal::BadTable)),
         (&proper, 2, 12, Err(Refusal::NoSuchBlock)),
-        (&proper, 2, 7, Err(Refusal::AlreadyReplaced)),
+        (&full, 2, 7, Err(Refusal::NoSpare)),
         (&full, 2, 0, Err(Refusal::NoSpare)),
         (&proper, 2, 0, Ok(())),
     ];
@@ -129,6 +129,17 @@ fn the_table_of_a_replacement() {
             spares::replace(drive, r, table, block).map(|_| ())
         });
     }
+}
+
+/// Block 7 leaves place 4 for place 6; every other word, and the guards, stay.
+#[test]
+fn the_two_places_of_a_second_replacement() {
+    let drive = shape(2, 2, 5);
+    let mut room = table(&mut Draw::of(7));
+    let mut expected = room.clone();
+    (expected.lent()[4], expected.lent()[6]) = (0x4000_0000, 0x3000_0007);
+    assert_eq!(spares::replace(drive, 2, room.lent(), 7), Ok(6));
+    assert_eq!(room, expected);
 }
 
 #[test]

@@ -1,11 +1,12 @@
 //! Revectored drives against the model.
 
-use tautberry::spares;
+use tautberry::{spares, Refusal};
 
 use crate::draw::Draw;
 use crate::drawn_shapes::paper;
+use crate::drawn_tables::descriptor;
 use crate::model;
-use crate::model::spares::empty_table;
+use crate::model::spares::{empty_table, word, Drive, FREE, UNUSABLE};
 use crate::skipping::{numbers, turned};
 use crate::tally::Tally;
 
@@ -102,9 +103,23 @@ fn spares_block_at() {
     assert!(blocks > 1_000 && none > 1_000, "{blocks} blocks, {none} times none");
 }
 
+/// The table after a block of the drive was sent to a free place: the place that it came from, if it
+/// lay on a spare, is unusable, the new one names it, and every other is as it was.
+fn sent(drive: Drive, before: &[u32], block: u32, place: u32) -> Vec<u32> {
+    let mut after = before.to_vec();
+    assert_eq!(after[place as usize], word(FREE, 0), "place {place} was not free");
+    if let Some(old) = drive.place_of(before, block) {
+        after[old as usize] = word(UNUSABLE, 0);
+    }
+    after[place as usize] = descriptor(drive, place, block);
+    after
+}
+
 #[test]
 fn spares_replace() {
     let mut tally = Tally::of("spares::replace");
+    // Blocks on a spare that found another, and those that found none.
+    let (mut again, mut kept) = (0, 0);
     for seed in tally.seeds(SEEDS) {
         let mut draw = Draw::of(seed);
         let tabled = draw.any_tabled();
@@ -115,11 +130,17 @@ fn spares_replace() {
         let model = model::spares::replace(paper(shape), r, &mut theirs, block);
         tally.same_on(seed, (shape, Some(r)), library, model);
         assert_eq!(ours, theirs, "spares::replace: another table at seed {seed}");
-        let altered = (0..ours.len()).filter(|place| ours[*place] != tabled.table[*place]);
-        let expected = library.ok().map(|place| place as usize);
-        assert!(altered.eq(expected), "spares::replace: another place altered at seed {seed}");
+        let expected = match library {
+            Ok(place) => sent(tabled.drive, &tabled.table, block, place),
+            Err(_) => tabled.table.clone(),
+        };
+        assert_eq!(ours, expected, "spares::replace: another place altered at seed {seed}");
+        let on_spare = tabled.drive.place_of(&tabled.table, block).is_some();
+        again += u32::from(on_spare && library.is_ok());
+        kept += u32::from(on_spare && library == Err(Refusal::NoSpare));
     }
-    tally.saw(&[0, 1, 5, 11, 12, 13]);
+    tally.saw(&[0, 1, 5, 11, 13]);
+    assert!(again > 1_000 && kept > 200, "{again} sent again, {kept} kept");
 }
 
 #[test]
@@ -163,11 +184,13 @@ fn spares_first_table() {
     tally.saw(&[0, 1, 2, 3, 4, 7, 13]);
 }
 
-/// From a first table through every block of the drive, until no spare is left: the table stays the
-/// model's, and the census keeps its law.
+/// From a first table through blocks at home and on spares, many of them again and again, until no
+/// spare is left: the table stays the model's. Each accepted call takes one free place, and kills one
+/// spare exactly where its block lay on one.
 #[test]
 fn replacing_until_no_spare_is_left() {
     let mut tally = Tally::of("spares::replace, whole lives");
+    let (mut again, mut kept) = (0, 0);
     for seed in tally.seeds(300) {
         let mut draw = Draw::of(seed);
         let (shape, r) = draw.drive();
@@ -180,18 +203,43 @@ fn replacing_until_no_spare_is_left() {
         model::spares::first_table(paper(shape), r, &list, &mut theirs).expect("few bad sectors");
         assert_eq!(ours, theirs, "spares::first_table at seed {seed}");
 
-        let mut free = drive.spares() - list.len() as u32;
-        let tries = drive.spares() + 10;
-        for _ in 0..tries {
-            let block = draw.below(drive.blocks());
+        let counted = |table: &[u32]| spares::census(shape, r, table).expect("a table of its own");
+        let bad_spares = (0..drive.spares()).filter(|q| list.contains(&drive.spare(*q))).count();
+        let mut count = counted(&ours);
+        assert_eq!(count.free, drive.spares() - list.len() as u32, "free at seed {seed}");
+        assert_eq!(count.unusable, bad_spares as u32, "unusable at seed {seed}");
+        let mut asked = vec![];
+        for _ in 0..drive.spares() + 10 {
+            let other = draw.below(drive.blocks());
+            let block =
+                if draw.one_in(2) || asked.is_empty() { other } else { draw.of_these(&asked) };
+            asked.push(block);
+            let before = ours.clone();
             let library = spares::replace(shape, r, &mut ours, block);
             let model = model::spares::replace(paper(shape), r, &mut theirs, block);
-            free -= u32::from(library.is_ok());
             tally.same(seed, library, model);
             assert_eq!(ours, theirs, "spares::replace at seed {seed}");
+            let expected = match library {
+                Ok(place) => sent(drive, &before, block, place),
+                Err(_) => before.clone(),
+            };
+            assert_eq!(ours, expected, "spares::replace: another place altered at seed {seed}");
+
+            let on_spare = drive.place_of(&before, block).is_some();
+            let taken = u32::from(library.is_ok());
+            let killed = u32::from(library.is_ok() && on_spare);
+            let after = counted(&ours);
+            assert_eq!(after.free, count.free - taken, "free at seed {seed}");
+            assert_eq!(after.unusable, count.unusable + killed, "unusable at seed {seed}");
+            assert_eq!(after.null, count.null, "null at seed {seed}");
+            let named = count.primary + count.elsewhere + taken - killed;
+            assert_eq!(after.primary + after.elsewhere, named, "named at seed {seed}");
+            count = after;
+            again += killed;
+            kept += u32::from(library.is_err() && on_spare);
         }
-        let counted = spares::census(shape, r, &ours).expect("a table of its own");
-        assert_eq!(counted.free, free, "spares::census at seed {seed}");
+        assert_eq!(count.free, 0, "free at seed {seed}");
     }
-    tally.saw(&[0, 12, 13]);
+    tally.saw(&[0, 13]);
+    assert!(again > 1_000 && kept > 1_000, "{again} sent again, {kept} kept");
 }

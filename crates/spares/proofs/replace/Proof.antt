@@ -1,7 +1,7 @@
 -- `spares::replace` meets its contract: each return is a number of the chain, and what is stored where there is a spare is the replacement of the definition.
 -- Assumes nothing.
 use borrow.Author.Needs.{needs}
-use mathlib.Core.Path.{_≡_, sym, _∙_, refl}
+use mathlib.Core.Path.{sym, _∙_, refl}
 use native.Mathlib.Omega.{arith}
 use denote.Ref.{now}
 use Rattle.paper.proofs.Chain.{orElse-some}
