@@ -13,7 +13,8 @@
  * - A pointer to uint32_t is aligned as uint32_t is.
  * - A pointer to const is read and never written. One that is not const is a room: it may be read and written.
  * - A room overlaps nothing else that is lent to the same call. What is only read may overlap.
- * - An accepted call fills the first elements of its room and leaves the rest as it was.
+ * - An accepted call fills the first elements of its room and leaves the rest as it was. The room of tb_spare_replace is
+ *   the table, of which it writes the descriptors that its comment names.
  * - `forced` is the language's own bool: a byte that is 0 or 1.
  *
  * What libboard.a asks of its place: an x86-64 processor with SSE2, the System V calling convention, the red zone
@@ -50,7 +51,7 @@ enum tb_refusal {
     TB_STRAY_CURSOR = 9,      /* the cursor does not belong to this N and list */
     TB_BAD_OPTION = 10,       /* there is no such option or space, or the option takes no list and one came */
     TB_BAD_TABLE = 11,        /* the descriptor table is not one of this drive, or a descriptor breaks a rule */
-    TB_ALREADY_REPLACED = 12, /* the block lies on a spare already */
+    /* 12 is no longer given, and it never names another refusal. */
     TB_NO_SPARE = 13,         /* no spare is left, or too few for all bad home sectors */
     TB_WRONG_LENGTH = 14,     /* the data or an image is not as long as it must be */
     TB_NO_ADDRESS = 15,       /* fewer than three copies in the header agree */
@@ -165,7 +166,7 @@ typedef struct tb_shifted {
 
 typedef struct tb_replaced {
     uint32_t refusal;
-    uint32_t place; /* of the table that was written: the spare's number */
+    uint32_t place; /* of the table, where the block has its descriptor now: the spare's number */
 } tb_replaced;
 
 /* How many descriptors of a table have each code. Together they are the table's length. */
@@ -290,9 +291,10 @@ tb_named tb_spare_block(tb_shape shape, uint32_t r, const uint32_t *table, size_
 tb_named tb_spare_block_at(
     tb_shape shape, uint32_t r, const uint32_t *table, size_t table_length, uint32_t cylinder, uint32_t head, uint32_t sector);
 
-/* Replaces a block by the free spare that comes first in its search order.
- * Checks: TB_OUT_OF_RANGE (shape, r), TB_BAD_TABLE, TB_NO_SUCH_BLOCK, TB_ALREADY_REPLACED, TB_NO_SPARE. Answers place. Writes one
- * descriptor of table, the one at place, and no other. */
+/* Replaces a block by the free spare that comes first in its search order. Where the block lies on a spare already, that one is marked as
+ * unusable.
+ * Checks: TB_OUT_OF_RANGE (shape, r), TB_BAD_TABLE, TB_NO_SUCH_BLOCK, TB_NO_SPARE. Answers place. Writes one or two descriptors of
+ * table: the block's new one, at place, and its old one, where it has one. It writes no other. */
 tb_replaced tb_spare_replace(tb_shape shape, uint32_t r, uint32_t *table, size_t table_length, uint32_t block);
 
 /* Counts the descriptors of each code.

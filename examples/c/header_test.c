@@ -1,6 +1,6 @@
 /* Holds include/tautberry.h to libboard.a by what the calls do: the size and the fields of each struct, the angle of a sector, each limit at its
- * last number and one beyond, bad groups in each call that takes a shape, each refusal number, and NULL for each slice of length 0. It is
- * compiled as C and as C++. It returns 1 if anything differs. */
+ * last number and one beyond, bad groups in each call that takes a shape, blocks replaced until no spare is left, each refusal number, and NULL
+ * for each slice of length 0. It is compiled as C and as C++. It returns 1 if anything differs. */
 #include <inttypes.h>
 #include <stdio.h>
 #include <string.h>
@@ -405,6 +405,136 @@ static void groups(void)
     }
 }
 
+/* The drive of the replacements: 12 blocks and 8 spares. */
+static tb_shape replacing(void)
+{
+    return grouped(2, 2, 5, 2, 1, 2);
+}
+
+/* Lays a table of that drive in words, with these eight descriptors and null ones behind them, and a pattern behind the table. */
+static void lay(const uint32_t descriptors[8])
+{
+    memset(words, 0xA5, sizeof words);
+    for (uint32_t place = 0; place < 128; place++) {
+        words[place] = place < 8 ? descriptors[place] : 0x80000000;
+    }
+}
+
+/* How many words differ from those kept in more_words. */
+static uint32_t differing(void)
+{
+    uint32_t count = 0;
+    for (size_t i = 0; i < sizeof words / sizeof words[0]; i++) {
+        count += words[i] != more_words[i];
+    }
+    return count;
+}
+
+/* The old place of a block at home. */
+#define NOWHERE 128u
+
+/* A block goes from its old place to a new one. The old one is marked as unusable, the new one has this descriptor, and no other word changes. */
+static void replaced_to(uint32_t block, uint32_t old, uint32_t place, uint32_t descriptor)
+{
+    const uint32_t sector = place / 2 * 5 + 3 + place % 2;
+    memcpy(more_words, words, sizeof words);
+    const tb_replaced replaced = tb_spare_replace(replacing(), 2, words, 128, block);
+    same("refusal of a replacement", replaced.refusal, TB_ACCEPTED);
+    same("place of a replacement", replaced.place, place);
+    same("descriptor at the new place", words[place], descriptor);
+    more_words[place] = descriptor;
+    if (old != NOWHERE) {
+        same("descriptor at the old place", words[old], 0x40000000);
+        same("block on the old spare", tb_spare_block(replacing(), 2, words, 128, old / 2 * 5 + 3 + old % 2).found, 0);
+        more_words[old] = 0x40000000;
+    }
+    same("other words that a replacement changed", differing(), 0);
+    same("sector of a replaced block", tb_spare_sector(replacing(), 2, words, 128, block).sector, sector);
+    same("block on the new spare", tb_spare_block(replacing(), 2, words, 128, sector).block, block);
+}
+
+/* A refused replacement: zeros behind the number, and every word as it was. */
+static void not_replaced(uint32_t r, size_t table_length, uint32_t block, uint32_t refusal)
+{
+    memcpy(more_words, words, sizeof words);
+    REFUSED(tb_replaced, tb_spare_replace(replacing(), r, words, table_length, block), refusal);
+    same("words that a refused replacement changed", differing(), 0);
+}
+
+/* The checks before the search, for a block that lies on a spare and for block 12, which the drive does not have. A 0 behind the spares breaks
+ * a rule of the table. */
+static void checked_first(uint32_t block)
+{
+    not_replaced(2, 128, 12, TB_NO_SUCH_BLOCK);
+    not_replaced(2, 127, block, TB_BAD_TABLE);
+    not_replaced(5, 128, block, TB_OUT_OF_RANGE);
+    words[8] = 0;
+    not_replaced(2, 128, block, TB_BAD_TABLE);
+    not_replaced(2, 128, 12, TB_BAD_TABLE);
+    not_replaced(5, 128, block, TB_OUT_OF_RANGE);
+    not_replaced(5, 128, 12, TB_OUT_OF_RANGE);
+    words[8] = 0x80000000;
+}
+
+/* Replacements of blocks at home and of blocks that lie on a spare. */
+static void replacements(void)
+{
+    const uint32_t all_free[8] = {0, 0, 0, 0, 0, 0, 0, 0};
+    const uint32_t full[8] = {0x20000000, 0x30000007, 0x30000006, 0x30000008, 0x40000000, 0x40000000, 0x40000000, 0x40000000};
+    const uint32_t elsewhere[8] = {0, 0, 0, 0, 0, 0x30000007, 0, 0};
+
+    /* Block 7 goes from spare to spare until none is left. */
+    lay(all_free);
+    replaced_to(7, NOWHERE, 4, 0x20000007);
+    checked_first(7);
+    replaced_to(7, 4, 5, 0x30000007);
+    replaced_to(8, NOWHERE, 3, 0x30000008);
+    replaced_to(7, 5, 6, 0x30000007);
+    replaced_to(6, NOWHERE, 2, 0x30000006);
+    replaced_to(7, 6, 7, 0x30000007);
+    replaced_to(0, NOWHERE, 0, 0x20000000);
+    replaced_to(7, 7, 1, 0x30000007);
+    for (uint32_t place = 0; place < 8; place++) {
+        same("descriptor with no spare left", words[place], full[place]);
+    }
+    const tb_counted counted = tb_spare_census(replacing(), 2, words, 128);
+    same("refusal of the census with no spare left", counted.refusal, TB_ACCEPTED);
+    same("free with no spare left", counted.free, 0);
+    same("primary with no spare left", counted.primary, 1);
+    same("elsewhere with no spare left", counted.elsewhere, 3);
+    same("unusable with no spare left", counted.unusable, 4);
+    same("null with no spare left", counted.null, 120);
+    same("sector with no spare left", tb_spare_sector(replacing(), 2, words, 128, 7).sector, 4);
+    same("shift with no spare left", tb_spare_shift(replacing(), 2, words, 128, 7).shift == -1, 1);
+    for (uint32_t block = 0; block < 12; block++) {
+        not_replaced(2, 128, block, TB_NO_SPARE);
+    }
+    checked_first(7);
+
+    /* Three blocks share a track, and the last of them goes on from another cylinder to its own. */
+    lay(all_free);
+    replaced_to(7, NOWHERE, 4, 0x20000007);
+    replaced_to(8, NOWHERE, 5, 0x30000008);
+    replaced_to(6, NOWHERE, 3, 0x30000006);
+    same("shift of a replaced block", tb_spare_shift(replacing(), 2, words, 128, 6).shift == -1, 1);
+    replaced_to(6, 3, 6, 0x30000006);
+    same("shift of a block replaced again", tb_spare_shift(replacing(), 2, words, 128, 6).shift == 0, 1);
+
+    /* Block 7 lies elsewhere while its primary place is free. */
+    lay(elsewhere);
+    replaced_to(7, 5, 4, 0x20000007);
+
+    /* The only spare that can be used has the block. At its primary place or elsewhere, it keeps its descriptor. */
+    for (uint32_t own = 0; own < 8; own++) {
+        lay(all_free);
+        for (uint32_t place = 0; place < 8; place++) {
+            words[place] = place != own ? 0x40000000 : own == 4 ? 0x20000007 : 0x30000007;
+        }
+        not_replaced(2, 128, 7, TB_NO_SPARE);
+        not_replaced(2, 128, 0, TB_NO_SPARE);
+    }
+}
+
 /* Each refusal number once, by its name and by its number. */
 static void refusals(void)
 {
@@ -436,8 +566,7 @@ static void refusals(void)
     same("its number", TB_BAD_TABLE, number++);
     same("a first table", tb_spare_first(shape, 1, NULL, 0, words, 128).refusal, TB_ACCEPTED);
     same("the only spare", tb_spare_replace(shape, 1, words, 128, 0).refusal, TB_ACCEPTED);
-    same("TB_ALREADY_REPLACED", tb_spare_replace(shape, 1, words, 128, 0).refusal, TB_ALREADY_REPLACED);
-    same("its number", TB_ALREADY_REPLACED, number++);
+    number++; /* 12 is no longer given, so that no name has it. */
     same("TB_NO_SPARE", tb_spare_replace(shape, 1, words, 128, 1).refusal, TB_NO_SPARE);
     same("its number", TB_NO_SPARE, number++);
     same("TB_WRONG_LENGTH", tb_image_header(image, 1).refusal, TB_WRONG_LENGTH);
@@ -509,6 +638,7 @@ int main(void)
     angles();
     limits();
     groups();
+    replacements();
     refusals();
     nothing_lent();
 #ifdef __cplusplus

@@ -1,5 +1,6 @@
-/* The day of a bad block on a small revectored drive: a first table, three replacements, an image written on the spare, and the block read
- * back from two track images. It prints what it sees, and returns 1 if anything is not as it must be. */
+/* The day of a bad block on a small revectored drive: a first table, three replacements, an image written on the spare, the block read back
+ * from two track images, and the block replaced again when its spare goes bad too. It prints what it sees, and returns 1 if anything is not as
+ * it must be. */
 #include <inttypes.h>
 #include <stdio.h>
 #include <string.h>
@@ -61,11 +62,12 @@ static void replace(uint32_t block, uint32_t place, uint32_t descriptor, int32_t
     must(shifted.refusal == TB_ACCEPTED && shifted.shift == shift, "the shift of a replaced block");
 }
 
-static void census(uint32_t free_places)
+static void census(uint32_t free_places, uint32_t unusable)
 {
     tb_counted counted = tb_spare_census(shape, r, table, table_length);
     printf("  %" PRIu32 " spares free, %" PRIu32 " taken as a block's primary, %" PRIu32 " as another, %" PRIu32 " unusable\n", counted.free, counted.primary, counted.elsewhere, counted.unusable);
     must(counted.refusal == TB_ACCEPTED && counted.free == free_places, "the number of free spares");
+    must(counted.unusable == unusable, "the number of unusable spares");
     must(counted.free + counted.primary + counted.elsewhere + counted.unusable + counted.null == table_length, "the census counts every place once");
 }
 
@@ -110,7 +112,7 @@ int main(void)
     puts("Its first table, with no bad sector known:");
     tb_written first = tb_spare_first(shape, r, NULL, 0, table, table_length);
     must(first.refusal == TB_ACCEPTED && first.length == table_length, "the first table");
-    census(8);
+    census(8, 0);
     locate(6, 10, 0);
     write_drive("Monday's log");
     must(read_block(6, "Monday's log") == TB_ACCEPTED, "block 6 reads well at home");
@@ -119,7 +121,7 @@ int main(void)
     replace(7, 4, 0x20000007, 0);
     replace(8, 5, 0x30000008, 0);
     replace(6, 3, 0x30000006, -1);
-    census(5);
+    census(5, 0);
     locate(6, 9, 1);
 
     puts("Nothing names block 6 on its spare yet; then it is written there:");
@@ -139,13 +141,22 @@ int main(void)
     written = tb_image_write(6, data, sizeof data, true, image, TB_IMAGE_SIZE);
     must(written.refusal == TB_ACCEPTED && read_block(6, "") == TB_FORCED_ERROR, "a forced error is told");
 
-    puts("It cannot be replaced twice:");
-    uint32_t before[sizeof table / sizeof table[0]];
-    memcpy(before, table, sizeof table);
-    tb_replaced again = tb_spare_replace(shape, r, table, table_length, 6);
-    printf("  refused %" PRIu32 ", place %" PRIu32 ", the table as it was\n", again.refusal, again.place);
-    must(again.refusal == TB_ALREADY_REPLACED && again.place == 0, "a second replacement is refused");
-    must(memcmp(before, table, sizeof table) == 0, "a refusal leaves the table");
+    puts("Its spare is bad too, and the block is replaced again:");
+    uint32_t after[sizeof table / sizeof table[0]];
+    memcpy(after, table, sizeof table);
+    after[3] = 0x40000000, after[6] = 0x30000006;
+    replace(6, 6, 0x30000006, 0);
+    printf("  place 3, its old spare, has descriptor %08" PRIX32 "\n", table[3]);
+    must(memcmp(after, table, sizeof table) == 0, "the old spare is unusable, and no other place has changed");
+    census(4, 1);
+    locate(6, 18, 0);
+    tb_named left = tb_spare_block(shape, r, table, table_length, 9);
+    must(left.refusal == TB_ACCEPTED && left.found == 0, "no block lies on the old spare");
+
+    puts("It is written on its new spare:");
+    fill(data, "Wednesday's log");
+    written = tb_image_write(6, data, sizeof data, false, &tracks[3][3 * TB_IMAGE_SIZE], TB_IMAGE_SIZE);
+    must(written.refusal == TB_ACCEPTED && read_block(6, "Wednesday's log") == TB_ACCEPTED, "block 6 reads well from its new spare");
 
     puts(off ? "Something is off." : "All as it must be.");
     return off;

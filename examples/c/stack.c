@@ -18,7 +18,8 @@ enum { TRACKS = TB_SPARES_MOST, SECTORS = TB_SECTORS_MOST, HOMES = SECTORS - 1 }
 /* A block on the last spare. Each spare but one has a block of its own track. */
 enum { ON_SPARE = HOMES * (TRACKS - 1) + 1 };
 
-/* A block at home, whose search begins in the second table block and ends at the last place of the first, where the free spare is. */
+/* A block at home, whose search begins in the second table block and ends at the last place of the first, where the free spare is. The block
+ * after it lies on the spare of their track, and has the same search. */
 enum { AT_HOME = HOMES * TB_TABLE_BLOCK, FREE_PLACE = TB_TABLE_BLOCK - 1 };
 
 /* What is lent. */
@@ -102,7 +103,7 @@ static bool lay(unsigned situation)
     case 31: merged_room--; return true;
     case 32: table_length--; return true;
     case 33: table[table_length - 1] = 0x30000000u + HOMES * (TRACKS - 2) + 1; return true; /* a block that occurs twice */
-    case 34: replaced = ON_SPARE; return true;
+    case 34: replaced = AT_HOME + 1; return true; /* a block that lies on a spare */
     case 35: table[FREE_PLACE] = 0x20000000u + HOMES * FREE_PLACE + 1, bad_length++; return true; /* no spare is left */
     case 36: data_length--, image_length--, home_length--; return true;
     case 37: spare_length--; return true;
@@ -114,6 +115,7 @@ static bool lay(unsigned situation)
     case 43: shape.tracks = TB_HEADS_MOST + 1; return true;
     case 44: shape.groups++; return true; /* more tracks than heads */
     case 45: shape.offset = SECTORS; return true;
+    case 46: table[FREE_PLACE] = 0x40000000u, replaced = AT_HOME + 1; return true; /* no spare is left for a block that lies on one */
     default: return false;
     }
 }
@@ -176,7 +178,7 @@ static const struct {
     {"tb_spare_shift", spare_shift, NO_TABLE | NO(NO_SUCH_BLOCK)},
     {"tb_spare_block", spare_block, NO_TABLE | NO(NO_SUCH_SECTOR)},
     {"tb_spare_block_at", spare_block_at, NO_TABLE | NO(NO_SUCH_SECTOR)},
-    {"tb_spare_replace", spare_replace, NO_TABLE | NO(NO_SUCH_BLOCK) | NO(ALREADY_REPLACED) | NO(NO_SPARE)},
+    {"tb_spare_replace", spare_replace, NO_TABLE | NO(NO_SUCH_BLOCK) | NO(NO_SPARE)},
     {"tb_spare_census", spare_census, NO_TABLE},
     {"tb_spare_first", spare_first, NO(OUT_OF_RANGE) | NO_LIST | NO(NO_ROOM) | NO(NO_SPARE)},
     {"tb_image_write", image_write, NO(WRONG_LENGTH) | NO(NO_ROOM)},
