@@ -47,7 +47,7 @@ use Rattle.image.specs.Code.{wordsOf, rotated, codeAfter, codeFrom, dataCode, c
 use Rattle.image.specs.Image.{storedIn, imageOf, writeFault}
 use Rattle.image.proofs.Exact.{length-passes}
 use Rattle.demands.specs.Relations.{AllowsOnly}
-use Rattle.demands.specs.Inputs.{chart, small, noneReplaced, afterSeven, afterEight, afterSix, afterSecond, afterThird, afterFourth, afterFifth, afterSixth, afterSeventh, afterEighth}
+use Rattle.demands.specs.Inputs.{chart, small, noneReplaced, afterSeven, afterEight, afterSix, sevenOnFive, eightOnThree, sevenOnSix, sixOnTwo, sevenOnSeven, zeroOnZero, sevenOnOne}
 use Rattle.demands.specs.Rows.{skip-sector, skip-block, format, spare-first, spare-replace, spare-full, image-write, Holds, AllHold, done, _also_, zeros, firstOne, lastOne, paperRows}
 
 module _ {Answer Said : Type 0} {said : Answer → Said} {nothing : ℕ → Said} {refused : ℕ → Answer} {fault : ℕ} {accepted : Answer} (alone : (k : ℕ) → said (refused k) ≡ nothing k) where
@@ -188,13 +188,13 @@ numbers-to-try =
     also allows (λ k. refl) refl
     also allows (λ k. refl) refl
     also spare-taken small 2 afterSeven 7 refl refl refl
-    also spare-taken small 2 afterSecond 8 refl refl refl
-    also spare-taken small 2 afterThird 7 refl refl refl
-    also spare-taken small 2 afterFourth 6 refl refl refl
-    also spare-taken small 2 afterFifth 7 refl refl refl
-    also spare-taken small 2 afterSixth 0 refl refl refl
-    also spare-taken small 2 afterSeventh 7 refl refl refl
-    also spare-wanting small 2 afterEighth refl refl
+    also spare-taken small 2 sevenOnFive 8 refl refl refl
+    also spare-taken small 2 eightOnThree 7 refl refl refl
+    also spare-taken small 2 sevenOnSix 6 refl refl refl
+    also spare-taken small 2 sixOnTwo 7 refl refl refl
+    also spare-taken small 2 sevenOnSeven 0 refl refl refl
+    also spare-taken small 2 zeroOnZero 7 refl refl refl
+    also spare-wanting small 2 sevenOnOne refl refl
     also allows (λ k. refl) refl
     also allows (λ k. refl) refl
     also allows (λ k. refl) refl

@@ -76,7 +76,7 @@ use Rattle.demands.specs.Demand2Revectored.{Alters, ShiftLeads}
 use Rattle.demands.specs.Histories.{killedBy}
 use Rattle.demands.specs.Numbered.{PlacedBy}
 use Rattle.demands.specs.Angles.{Angled, BothAngled}
-use Rattle.demands.specs.Inputs.{few, chart, small, holding, noneReplaced, afterSeven, afterSix, afterEighth, twoGroups}
+use Rattle.demands.specs.Inputs.{few, chart, small, holding, noneReplaced, afterSeven, afterSix, sevenOnOne, twoGroups}
 use Rattle.demands.proofs.Boards.{made, scan, lent, pageWith, begun, damaged, older, newer, blank, trackWith, refusesAll, sameSector, addsOnce, skipsNothing, opened, runsAhead, cursorAfter, sectorsAfter, madeUpEntries, writesEarly, madeUpLengths, takesSectors, Composes, sameSpare, sparesNone, leavesTable, groupByRemainder, offsetOnce, neverRound, stoppedOrder, stopsSearch, leavesOld, freesOld, killsEarly, madeUpCensus, censusWith, truncatedShift, wrappedShift, everyForced, homeImage, readsHome}
 
 -- a number that is given exactly is the only one
@@ -179,7 +179,7 @@ frees-old-miscounted census counts =
 
 -- one that marks it before it looks for a spare: none is free, and the table is not kept
 pub kills-early-keeps-not :
-    (killsEarly small 2 afterEighth 7 ≡ (NotReplaced noSpare, set afterEighth 1 0x40000000)) × (Keeps noSpare afterEighth (set afterEighth 1 0x40000000) → ⊥)
+    (killsEarly small 2 sevenOnOne 7 ≡ (NotReplaced noSpare, set sevenOnOne 1 0x40000000)) × (Keeps noSpare sevenOnOne (set sevenOnOne 1 0x40000000) → ⊥)
 unfolding allBelow placeOf firstBelow firstOr outward rising
 kills-early-keeps-not = (refl, λ keeps. omega (arith, ap (λ (l : List ℕ). getD l 1 0) (keeps (λ none. omega arith))))
 

@@ -37,27 +37,27 @@ afterEight = holding 0 0x20000007 0x30000008
 abbrev pub afterSix : List ℕ
 afterSix = holding 0x30000006 0x20000007 0x30000008
 
--- block 7 is replaced again and again from there: the table after the second to the eighth of the replacements of blocks 7, 7, 8, 7, 6, 7, 0, 7
-abbrev pub afterSecond : List ℕ
-afterSecond = eight 0 0 0 0 0x40000000 0x30000007 0 0
+-- or block 7 is replaced again and again: after it was, blocks 7, 8, 7, 6, 7, 0 and 7 go to places 5, 3, 6, 2, 7, 0 and 1
+abbrev pub sevenOnFive : List ℕ
+sevenOnFive = eight 0 0 0 0 0x40000000 0x30000007 0 0
 
-abbrev pub afterThird : List ℕ
-afterThird = eight 0 0 0 0x30000008 0x40000000 0x30000007 0 0
+abbrev pub eightOnThree : List ℕ
+eightOnThree = eight 0 0 0 0x30000008 0x40000000 0x30000007 0 0
 
-abbrev pub afterFourth : List ℕ
-afterFourth = eight 0 0 0 0x30000008 0x40000000 0x40000000 0x30000007 0
+abbrev pub sevenOnSix : List ℕ
+sevenOnSix = eight 0 0 0 0x30000008 0x40000000 0x40000000 0x30000007 0
 
-abbrev pub afterFifth : List ℕ
-afterFifth = eight 0 0 0x30000006 0x30000008 0x40000000 0x40000000 0x30000007 0
+abbrev pub sixOnTwo : List ℕ
+sixOnTwo = eight 0 0 0x30000006 0x30000008 0x40000000 0x40000000 0x30000007 0
 
-abbrev pub afterSixth : List ℕ
-afterSixth = eight 0 0 0x30000006 0x30000008 0x40000000 0x40000000 0x40000000 0x30000007
+abbrev pub sevenOnSeven : List ℕ
+sevenOnSeven = eight 0 0 0x30000006 0x30000008 0x40000000 0x40000000 0x40000000 0x30000007
 
-abbrev pub afterSeventh : List ℕ
-afterSeventh = eight 0x20000000 0 0x30000006 0x30000008 0x40000000 0x40000000 0x40000000 0x30000007
+abbrev pub zeroOnZero : List ℕ
+zeroOnZero = eight 0x20000000 0 0x30000006 0x30000008 0x40000000 0x40000000 0x40000000 0x30000007
 
-abbrev pub afterEighth : List ℕ
-afterEighth = eight 0x20000000 0x30000007 0x30000006 0x30000008 0x40000000 0x40000000 0x40000000 0x40000000
+abbrev pub sevenOnOne : List ℕ
+sevenOnOne = eight 0x20000000 0x30000007 0x30000006 0x30000008 0x40000000 0x40000000 0x40000000 0x40000000
 
 -- C 2, H 4, S 5, with these groups, tracks of a group and offset
 abbrev pub fourHeads : ℕ → ℕ → ℕ → Shape

@@ -10,7 +10,7 @@ pub record Mission : Type 0 where
   pub answers : Demand1
   -- 2. On a skipped drive block b lies on the good sector that has exactly b good sectors before it, and that sector names the block again.
   pub skipped-lies : Demand2Skipped
-  -- On a revectored drive a block lies at home or on the one spare that its descriptor names. No two blocks share a sector, none lies on a spare that is marked unusable, and a replacement alters one descriptor and is refused for want of a spare only when none is free.
+  -- On a revectored drive a block lies at home or on the one spare that its descriptor names. No two blocks share a sector, none lies on a spare that is marked unusable, and a replacement alters its old descriptor, where it has one, and its new one (Q-3), and is refused for want of a spare only when none is free.
   pub revectored-lies : Demand2Revectored
   -- 3. After an accepted night each new block lies where you arrive by skipping the named blocks in the old numbering and following the old map; two nights, both accepted, are one night with both lists joined.
   pub nights : Demand3

@@ -21,7 +21,7 @@ use Rattle.spares.specs.Promises as Spares
 use Rattle.image.specs.Image.{storedIn}
 use Rattle.image.specs.Promises.{Write}
 use Rattle.demands.specs.Relations.{AllowsOnly}
-use Rattle.demands.specs.Inputs.{few, chart, small, eight, noneReplaced, afterSeven, afterEight, afterSix, afterSecond, afterThird, afterFourth, afterFifth, afterSixth, afterSeventh, afterEighth, fourHeads, twoGroups, largest}
+use Rattle.demands.specs.Inputs.{few, chart, small, eight, noneReplaced, afterSeven, afterEight, afterSix, sevenOnFive, eightOnThree, sevenOnSix, sixOnTwo, sevenOnSeven, zeroOnZero, sevenOnOne, fourHeads, twoGroups, largest}
 
 -- a row: a call, what goes into it, and the paper's figures for what comes out; the refusal comes first, 0 where the call accepts
 pub data Row : Type 0 where
@@ -175,20 +175,20 @@ paperRows =
     ∷ shape-address (fourHeads 2 2 5) 10 (1, 0, 0, 0, 0)
     ∷ shape-address (fourHeads 2 2 4294967295) 10 (1, 0, 0, 0, 0)
     -- Q-3: block 7, which lies on place 4, is replaced again, by 5; then 8 goes to 3, 7 to 6, 6 to 2, 7 to 7, 0 to 0, and 7 to 1
-    ∷ spare-replace small 2 afterSeven 7 5 afterSecond
-    ∷ spare-replace small 2 afterSecond 8 3 afterThird
-    ∷ spare-replace small 2 afterThird 7 6 afterFourth
-    ∷ spare-replace small 2 afterFourth 6 2 afterFifth
-    ∷ spare-replace small 2 afterFifth 7 7 afterSixth
-    ∷ spare-replace small 2 afterSixth 0 0 afterSeventh
-    ∷ spare-replace small 2 afterSeventh 7 1 afterEighth
+    ∷ spare-replace small 2 afterSeven 7 5 sevenOnFive
+    ∷ spare-replace small 2 sevenOnFive 8 3 eightOnThree
+    ∷ spare-replace small 2 eightOnThree 7 6 sevenOnSix
+    ∷ spare-replace small 2 sevenOnSix 6 2 sixOnTwo
+    ∷ spare-replace small 2 sixOnTwo 7 7 sevenOnSeven
+    ∷ spare-replace small 2 sevenOnSeven 0 0 zeroOnZero
+    ∷ spare-replace small 2 zeroOnZero 7 1 sevenOnOne
     -- no spare is left for any block, at home or not
-    ∷ spare-full small 2 afterEighth
+    ∷ spare-full small 2 sevenOnOne
     -- four spares hold blocks and four are unusable
-    ∷ spare-census small 2 afterEighth (0, 0, 1, 3, 4, 120)
+    ∷ spare-census small 2 sevenOnOne (0, 0, 1, 3, 4, 120)
     -- block 7 lies on sector 4, the second spare of track 0, and its shift is −1
-    ∷ spare-sector small 2 afterEighth 7 (0, 4)
-    ∷ spare-shift small 2 afterEighth 7 (0, negsuc 0)
+    ∷ spare-sector small 2 sevenOnOne 7 (0, 4)
+    ∷ spare-shift small 2 sevenOnOne 7 (0, negsuc 0)
     -- block 6, which lies on place 3 beside blocks 7 and 8, goes to place 6, in its own cylinder
     ∷ spare-replace small 2 afterSix 6 6 (eight 0 0 0 0x40000000 0x20000007 0x30000008 0x30000006 0)
     ∷ spare-shift small 2 (eight 0 0 0 0x40000000 0x20000007 0x30000008 0x30000006 0) 6 (0, pos 0)

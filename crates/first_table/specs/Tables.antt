@@ -58,7 +58,7 @@ pub record OnGoodSpare (drive : Drive) (list t : List ℕ) (b : ℕ) : Type 0 wh
   pub good : isBadSpare drive list place ≡ false
   pub lies : liesOn drive t b ≡ spareSector drive place
 
--- what a first table is: it breaks no rule, every bad home block lies on a good spare and every other block at home, exactly the bad spares are unusable, so many as there are, and so many spares are left free
+-- what a first table is: it breaks no rule, every bad home block lies on a good spare and every other block at home, exactly the bad spares are unusable, a count of that code finds as many, and so many spares are left free
 pub record IsFirstTable (drive : Drive) (list t : List ℕ) : Type 0 where
   pub breaks-none : Breaks drive t → ⊥
   pub bad-homes-spared : (b : ℕ) → b < drive .blocks → isBadHome drive list b ≡ true → OnGoodSpare drive list t b

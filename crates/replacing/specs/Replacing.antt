@@ -55,7 +55,7 @@ pub record Altered (drive : Drive) (before : List ℕ) (b q : ℕ) (after : List
   pub lies : liesOn drive after b ≡ spareSector drive q
   pub others-lie : (a : ℕ) → (a ≡ b → ⊥) → liesOn drive after a ≡ liesOn drive before a
 
--- what a replacement that gives block b the spare q does, whether b lay at home or on a spare: the descriptor at q and the one that named b are altered and no other, and the rest is as above
+-- what a replacement that gives block b the spare q does, whether b lay at home or on a spare: the descriptor at q and the one that named b are altered and no other, the table breaks no rule, the block lies on its new spare, and every other block lies where it lay
 pub record Moved (drive : Drive) (before : List ℕ) (b q : ℕ) (after : List ℕ) : Type 0 where
   pub in-table : q < length before
   pub was-free : codeOf (getD before q 0) ≡ free

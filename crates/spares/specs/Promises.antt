@@ -70,7 +70,7 @@ abbrev pub BlockAt : Shape → ℕ → List ℕ → ℕ → ℕ → ℕ → Name
 BlockAt shape r t cylinder head sector =
     GivesNamed (blockAtFault shape r t cylinder head sector) (lyingOn (driveOf shape r) t (sectorAt shape cylinder head sector))
 
--- the place that a replacement takes; the table then has the block's descriptor there, and the place that it had is unusable
+-- the place that a replacement takes; the table then has the block's descriptor there, and the place that it had, if it had one, is unusable
 abbrev pub Replacement : Shape → ℕ → List ℕ → ℕ → Replaced → List ℕ → Type 0
 Replacement shape r t b = FillsReplaced (replaceFault shape r t b) (Place (spareFor (driveOf shape r) t b)) t (movedIn (driveOf shape r) t b)
 

@@ -20,7 +20,11 @@ same-length : tie.Need-same-length
 same-length c = search needs
 
 returns : tie.Need-returns
-returns c = (c .before .before .before .before .before .before .before .before .before .spare-for .ensures, c .before .before .store .ensures ∙ rw (lt-ltb _ _ (c .before .before .before .before .before .before .before .before .if1 .taken), c .before .before .before .before .before .before .before .before .before .spare-for .ensures, c .before .before .before .before .before .before .kill .ensures, spare-kept _ _ _))
+returns c =
+    let found = c .before .before .before .before .before .before .before .before .before .spare-for .ensures in
+    let inside = lt-ltb _ _ (c .before .before .before .before .before .before .before .before .if1 .taken) in
+    let marked = c .before .before .before .before .before .before .kill .ensures in
+    (found, c .before .before .store .ensures ∙ rw (inside, found, marked, spare-kept _ _ _))
 
 same-length-2 : tie.Need-same-length-2
 same-length-2 c = search needs
