@@ -40,7 +40,7 @@ allocated-not-unusable w allocated e = ⊎-elim (λ x. omega arith) (λ x. omega
 module _ (t : List ℕ) (b : ℕ) where
   -- the table is as long as it was
   killed-length : length (killedIn t b) ≡ length t
-  killed-length = byBool (isReplaced t b) (λ e. rw e (length-set t (placeOf t b) (wordOf unusable 0))) (λ e. rw e)
+  killed-length = byBool (isReplaced t b) (λ e. rw e (length-set t (placeOf t b) _)) (λ e. rw e)
 
   -- a block that lies on a spare: its place names it, and is the one that is marked
   module _ (e : isReplaced t b ≡ true) where
@@ -54,7 +54,7 @@ module _ (t : List ℕ) (b : ℕ) where
     killed-here = rw e (getD-set-same t (placeOf t b) (wordOf unusable 0) 0 old-in)
 
     killed-other : (p : ℕ) → (p ≡ placeOf t b → ⊥) → getD (killedIn t b) p 0 ≡ getD t p 0
-    killed-other p apart = rw e (getD-set-other t (placeOf t b) p (wordOf unusable 0) 0 apart)
+    killed-other p apart = rw e (getD-set-other t (placeOf t b) p _ 0 apart)
 
   -- a place that does not name the block keeps its word
   killed-stands : (p : ℕ) → (Names (getD t p 0) b → ⊥) → getD (killedIn t b) p 0 ≡ getD t p 0
