@@ -325,7 +325,7 @@ module _ (shape : Shape) (r : ℕ) (t : List ℕ) where
           let lies = answered-is b (homeSector (driveOf shape r) b) home in
           home-no-spare laid b (placeOf t b) (lies ∙ rw (tells-replaced t b .told replaced))
 
--- a spare that is marked unusable stays so through any calls
+-- a spare that is marked unusable stays so through any replacements
 pub stays-unusable : (t later : List ℕ) (q : ℕ) → Later t later → codeOf (getD t q 0) ≡ unusable → codeOf (getD later q 0) ≡ unusable
 stays-unusable t later q at-once e = e
 stays-unusable t later q (called {between} before asked asked-r b result after step) e =

@@ -1,4 +1,4 @@
--- Document 01, "Descriptors and spares", and document 02, Q-3: a table after further calls on it, and what a census says of any table, and of one after a history of calls.
+-- Document 01, "Descriptors and spares", and document 02, Q-3: a table after further replacements in it, and what a census says of any table, and of one after a history of calls.
 use Prim.Native.Nat.{ℕ, suc, _+_, _-_}
 use mathlib.Core.Path.{_≡_}
 use mathlib.Core.List.{List}
@@ -19,7 +19,7 @@ use Rattle.spares.specs.declared.Counted.{Counted}
 use Rattle.spares.specs.declared.Counted.the-variants.{Counts as Counted-as}
 use Rattle.demands.specs.Relations.{Counts}
 
--- a table after any further calls on t, accepted or refused, each with a shape and r of its own
+-- a table after any further replacements in t, accepted or refused, each with a shape and r of its own
 pub data Later (t : List ℕ) : List ℕ → Type 0 where
   at-once : Later t t
   called :
