@@ -205,9 +205,13 @@ sameSpare s shape r t b = answer (spareBlockFault shape r t b) NotPlaced (At s)
 abbrev pub sparesNone : Shape → ℕ → List ℕ → ℕ → Replaced × List ℕ
 sparesNone shape r t b = (NotReplaced noSpare, t)
 
--- spares::replace: answers the right place and leaves the table
+-- what spares::replace promises to answer
+abbrev pub placePromised : Shape → ℕ → List ℕ → ℕ → Replaced
+placePromised shape r t b = answer (replaceFault shape r t b) NotReplaced (Place (spareFor (driveOf shape r) t b))
+
+-- spares::replace: answers it and leaves the table
 abbrev pub leavesTable : Shape → ℕ → List ℕ → ℕ → Replaced × List ℕ
-leavesTable shape r t b = (answer (replaceFault shape r t b) NotReplaced (Place (spareFor (driveOf shape r) t b)), t)
+leavesTable shape r t b = (placePromised shape r t b, t)
 
 -- how far the nearer end of the table block lies from an offset
 abbrev pub nearerEnd : ℕ → ℕ
@@ -238,23 +242,20 @@ stopsSearch shape r t b = (
 
 -- spares::replace: leaves the descriptor that the block had
 abbrev pub leavesOld : Shape → ℕ → List ℕ → ℕ → Replaced × List ℕ
-leavesOld shape r t b = (
-  answer (replaceFault shape r t b) NotReplaced (Place (spareFor (driveOf shape r) t b)),
-  answer (replaceFault shape r t b) (λ fault. t) (replacedIn (driveOf shape r) t b),
-)
+leavesOld shape r t b = (placePromised shape r t b, answer (replaceFault shape r t b) (λ fault. t) (replacedIn (driveOf shape r) t b))
 
 -- spares::replace: sets it free
 abbrev pub freesOld : Shape → ℕ → List ℕ → ℕ → Replaced × List ℕ
 freesOld shape r t b = (
-  answer (replaceFault shape r t b) NotReplaced (Place (spareFor (driveOf shape r) t b)),
+  placePromised shape r t b,
   answer (replaceFault shape r t b) (λ fault. t) (set (replacedIn (driveOf shape r) t b) (placeOf t b) (wordOf free 0)),
 )
 
--- spares::replace: marks it unusable before it looks for a spare
+-- spares::replace: marks it unusable as soon as 1, 11 and 5 pass, before it looks for a spare
 abbrev pub killsEarly : Shape → ℕ → List ℕ → ℕ → Replaced × List ℕ
 killsEarly shape r t b = (
-  answer (replaceFault shape r t b) NotReplaced (Place (spareFor (driveOf shape r) t b)),
-  answer (replaceFault shape r t b) (λ fault. killedIn t b) (movedIn (driveOf shape r) t b),
+  placePromised shape r t b,
+  answer (spareBlockFault shape r t b) (λ fault. t) (answer (replaceFault shape r t b) (λ fault. killedIn t b) (movedIn (driveOf shape r) t b)),
 )
 
 -- spares::census: any census
