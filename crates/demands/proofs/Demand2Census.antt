@@ -35,11 +35,12 @@ use Rattle.spares.specs.Promises.{Replacement, CensusOf, saidCounted}
 use Rattle.spares.specs.declared.Replaced.the-variants.{Place, Refused as NotReplaced}
 use Rattle.spares.specs.declared.Counted.{Counted}
 use Rattle.spares.specs.declared.Counted.the-variants.{Counts as Counted-as}
-use Rattle.spares.proofs.Accepted.{census-whole, replace-block, replace-free-less, replace-unusable-more, after-passes}
+use Rattle.spares.proofs.Accepted.{census-whole, replace-free-less, replace-unusable-more}
 use Rattle.demands.specs.Relations.{Counts}
 use Rattle.demands.specs.Inputs.{small, noneReplaced}
 use Rattle.demands.specs.Histories.{killedBy, History, made, replaced, refused, CensusLaw}
 use Rattle.demands.proofs.Rooms.{first-table-hands}
+use Rattle.demands.proofs.Demand2Revectored.{taken-passes, taken-table}
 
 module _ (shape : Shape) (r : ℕ) (t : List ℕ) (census : Census) (promise : CensusOf shape r t (Counted-as census)) where
   passes : tableFault shape r t ≡ 0
@@ -91,10 +92,7 @@ module _ (shape : Shape) (r : ℕ) (list room : List ℕ) (long : ℕ) (after : 
 module _ (shape : Shape) (r : ℕ) (t : List ℕ) (b : ℕ) (after : List ℕ) where
   module _ (q : ℕ) (step : Replacement shape r t b (Place q) after) where
     accepted : replaceFault shape r t b ≡ 0
-    accepted = sym (gives-number (fills-gives step) (λ said. said .0) (λ k. refl) refl)
-
-    pub step-passes : tableFault shape r after ≡ 0
-    step-passes = rw (step .holds) (after-passes shape r t b (orElse-first (tableFault shape r t) _ (replace-block shape r t b accepted)))
+    accepted = taken-passes shape r t b q after step
 
     step-frees : codeCount after free + 1 ≡ codeCount t free
     step-frees = rw (step .holds) (replace-free-less shape r t b accepted)
@@ -115,7 +113,7 @@ module _ (shape : Shape) (r : ℕ) (t : List ℕ) (b : ℕ) (after : List ℕ) w
 module _ {shape : Shape} {r : ℕ} {list : List ℕ} where
   history-passes : {k killed : ℕ} {last : Shape} {last-r : ℕ} {t : List ℕ} → History shape r list k killed last last-r t → tableFault last last-r t ≡ 0
   history-passes (made room after long first) = first-passes shape r list room long after first
-  history-passes (replaced {t} history asked asked-r b q after step) = step-passes asked asked-r t b after q step
+  history-passes (replaced {t} history asked asked-r b q after step) = taken-table asked asked-r t b q after step
   history-passes (refused {t} history asked asked-r b fault after step) = rw (step-leaves asked asked-r t b after fault step) (history-passes history)
 
   history-frees :

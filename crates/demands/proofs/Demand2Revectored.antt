@@ -244,10 +244,24 @@ module _ (shape : Shape) (r : ℕ) (t : List ℕ) where
       let there = named-there s b (asked-at cylinder head sector shaped on-drive (Block b) promise) in
       located-answers b (there .0) result located ∙ rw (there .1) (ap LocatedAt (back-and-there shaped on-drive))
 
+  -- where a place is answered the chain passes, and the table after the call passes as that before it did
+  module _ (b q : ℕ) (after : List ℕ) (promise : Replacement shape r t b (Place q) after) where
+    pub taken-passes : replaceFault shape r t b ≡ 0
+    taken-passes = sym (gives-number (fills-gives promise) (λ said. said .0) (λ k. refl) refl)
+
+    pub taken-block : blockFault shape r t b ≡ 0
+    taken-block = replace-block shape r t b taken-passes
+
+    pub taken-table : tableFault shape r after ≡ 0
+    taken-table = rw (promise .holds) (after-passes shape r t b (orElse-first (tableFault shape r t) _ taken-block))
+
+    pub taken-same : (a : ℕ) → blockFault shape r after a ≡ blockFault shape r t a
+    taken-same a = rw (taken-table, orElse-first (tableFault shape r t) _ taken-block)
+
   -- an accepted replacement alters the old descriptor and the new one, which was free, and leaves a table that obeys the rules, with every other block where it was
   pub replacement-moves : (b q : ℕ) (after : List ℕ) → Replacement shape r t b (Place q) after → Moved (driveOf shape r) t b q after
   replacement-moves b q after promise =
-      let accepted : replaceFault shape r t b ≡ 0 = sym (gives-number (fills-gives promise) (λ said. said .0) (λ k. refl) refl) in
+      let accepted : replaceFault shape r t b ≡ 0 = taken-passes b q after promise in
       let place : q ≡ spareFor (driveOf shape r) t b = rw accepted at (ap (λ (said : ℕ × ℕ). said .1) (promise .says)) in
       rw (place, promise .holds) (replace-moves shape r t b accepted)
 
@@ -263,21 +277,15 @@ module _ (shape : Shape) (r : ℕ) (t : List ℕ) where
         others-stand = moved .others-stand;
         same-length = moved .same-length;
         breaks-none = moved .breaks-none;
-        lies = λ result placed. placed .answers ∙ answer-accepted (blockFault shape r after b) NotPlaced (At (liesOn (driveOf shape r) after b)) (same-fault b ∙ block) ∙ ap At (moved .lies);
+        lies = λ result placed. placed .answers ∙ answer-accepted (blockFault shape r after b) NotPlaced (At (liesOn (driveOf shape r) after b)) (same-fault b ∙ taken-block b q after promise) ∙ ap At (moved .lies);
         others-lie = λ a other was is first then. then .answers ∙ rw (same-fault a, moved .others-lie a other) (sym (first .answers));
       }
     where
       moved : Moved (driveOf shape r) t b q after
       moved = replacement-moves b q after promise
 
-      block : blockFault shape r t b ≡ 0
-      block = replace-block shape r t b (sym (gives-number (fills-gives promise) (λ said. said .0) (λ k. refl) refl))
-
       same-fault : (a : ℕ) → blockFault shape r after a ≡ blockFault shape r t a
-      same-fault a =
-          let before : tableFault shape r t ≡ 0 = orElse-first (tableFault shape r t) _ block in
-          let table : tableFault shape r after ≡ 0 = rw (promise .holds) (after-passes shape r t b before) in
-          rw (table, before)
+      same-fault = taken-same b q after promise
 
   -- it is refused for want of a spare only when 1, 11 and 5 do not refuse it and none is free
   pub no-spare-none-free : (b : ℕ) (after : List ℕ) → Replacement shape r t b (NotReplaced noSpare) after → NoneFree t × BlockJudged shape r t b 0

@@ -15,7 +15,6 @@ use Rattle.paper.specs.Checks.{answer}
 use Rattle.paper.specs.Limits.{dataSize, imageExtra}
 use Rattle.paper.specs.declared.Written.{Written}
 use Rattle.paper.proofs.Cases.{byFault}
-use Rattle.paper.proofs.Chain.{orElse-first, orElse-next}
 use Rattle.words.specs.Words.{Bytes}
 use Rattle.seek.specs.Every.{allBelow}
 use Rattle.seek.specs.Lowest.{firstBelow}
@@ -23,7 +22,7 @@ use Rattle.seek.specs.Search.{firstOr, rising}
 use Rattle.shape.specs.declared.Shape.{Shape}
 use Rattle.layout.specs.Layouts.{driveOf, homeCylinder, spareCylinder}
 use Rattle.layout.specs.Descriptors.{Names}
-use Rattle.table.specs.Rules.{tableFault, blockFault}
+use Rattle.table.specs.Rules.{blockFault}
 use Rattle.table.specs.Lookup.{placeOf, Replaced, isReplaced}
 use Rattle.table.proofs.Lookups.{tells-replaced, replaced-place}
 use Rattle.order.specs.Order.{outward}
@@ -33,7 +32,6 @@ use Rattle.spares.specs.declared.Replaced as Answers
 use Rattle.spares.specs.declared.Replaced.the-variants.{Place, Refused as NotReplaced}
 use Rattle.spares.specs.Spares.{shiftOf, replaceFault}
 use Rattle.spares.specs.Promises.{Replacement}
-use Rattle.spares.proofs.Accepted.{replace-block, after-passes}
 use Rattle.table.proofs.Exact.{block-ready}
 use Rattle.spares.proofs.Shifts.{shift-replaced, shift-leads}
 use Rattle.image.specs.declared.Verdict.{Verdict}
@@ -53,7 +51,7 @@ use Rattle.demands.proofs.ByKind.{spot-says}
 use Rattle.demands.specs.Relations.{AllowsOnly}
 use Rattle.demands.specs.Inputs.{small, afterEight}
 use Rattle.demands.specs.Incident.{spareStart, spareData, imageFrom, WholeTrack, SamePart, HandsBack, Safe}
-use Rattle.demands.proofs.Demand2Revectored.{replacement-moves}
+use Rattle.demands.proofs.Demand2Revectored.{taken-block, taken-same, replacement-moves}
 use Rattle.demands.proofs.Examples.{allows, allows-where}
 
 -- a read allows what holds of every part that it hands back, and nothing else
@@ -191,17 +189,11 @@ one-less a (suc c) one = let none : suc c - suc a ≡ 0 = omega arith in minus-b
 
 -- an accepted replacement, and the table that it leaves
 module _ (shape : Shape) (r : ℕ) (t : List ℕ) (b q : ℕ) (after : List ℕ) (replacement : Replacement shape r t b (Place q) after) where
-  passes : replaceFault shape r t b ≡ 0
-  passes = sym (gives-number (fills-gives replacement) (λ said. said .0) (λ k. refl) refl)
-
   moved : Moved (driveOf shape r) t b q after
   moved = replacement-moves shape r t b q after replacement
 
   block-passes : blockFault shape r after b ≡ 0
-  block-passes =
-      let before : blockFault shape r t b ≡ 0 = replace-block shape r t b passes in
-      let table : tableFault shape r after ≡ 0 = rw (replacement .holds) (after-passes shape r t b (orElse-first (tableFault shape r t) _ before)) in
-      rw table (orElse-next (tableFault shape r t) _ before)
+  block-passes = taken-same shape r t b q after replacement b ∙ taken-block shape r t b q after replacement
 
   -- reads of a replaced block are safe, and the shift leads from its home's cylinder to its spare's
   pub replaced-safe : Safe shape r after b q (pos (spareCylinder (driveOf shape r) q) -ℤ pos (homeCylinder (driveOf shape r) b))

@@ -1,6 +1,6 @@
 -- What a replacement does, whether the block lay at home or on a spare: in the table with its spare marked unusable the block is at home and every other block lies where it lay, the same spare is found, and there the laws of a first replacement hold.
 -- Assumes nothing.
-use Prim.Native.Nat.{ℕ, _+_, _<_}
+use Prim.Native.Nat.{ℕ, _+_, _*_, _<_}
 use mathlib.Core.Path.{_≡_, refl, sym, _∙_, ap, subst}
 use mathlib.Core.Bool.{true, false, true≢false}
 use mathlib.Core.Logic.{⊎-elim}
@@ -127,23 +127,16 @@ pub moved-stays : {drive : Drive} {before after : List ℕ} {b q : ℕ} → Move
 moved-stays {drive} {before} {after} {b} {q} moved p e =
     rw (moved .others-stand p (λ same. omega (arith, moved .was-free, rw same at e)) (λ named. allocated-not-unusable _ (named .0) e)) e
 
--- what the mark does to a census
-module _ (t : List ℕ) (b : ℕ) where
-  killed-free : codeCount (killedIn t b) free ≡ codeCount t free
-  killed-free =
-      byBool (isReplaced t b)
-      (λ e.
-      rw e
-      (omega (arith, rw (ne-eqb (codeOf (getD t (placeOf t b) 0)) free (allocated-not-free _ (old-names t b e .0))) at (count-set t (placeOf t b) (wordOf unusable 0) free (old-in t b e)))))
-      (λ e. rw e)
-
-  killed-more : codeCount (killedIn t b) unusable ≡ codeCount t unusable + oneIf (isReplaced t b)
-  killed-more =
-      byBool (isReplaced t b)
-      (λ e.
-      rw e
-      (omega (arith, rw (ne-eqb (codeOf (getD t (placeOf t b) 0)) unusable (allocated-not-unusable _ (old-names t b e .0))) at (count-set t (placeOf t b) (wordOf unusable 0) unusable (old-in t b e)))))
-      (λ e. rw e (omega arith))
+-- a census after the mark: a code that no allocated word has is counted as it was, and unusable once more where the block lay on a spare
+killed-counts :
+    (t : List ℕ) (b code : ℕ) → ((w : ℕ) → Allocated w → codeOf w ≡ code → ⊥) →
+    codeCount (killedIn t b) code ≡ codeCount t code + oneIf (eqb unusable code) * oneIf (isReplaced t b)
+killed-counts t b code other =
+    byBool (isReplaced t b)
+    (λ e.
+    rw e
+    (omega (arith, rw (ne-eqb (codeOf (getD t (placeOf t b) 0)) code (other _ (old-names t b e .0))) at (count-set t (placeOf t b) (wordOf unusable 0) code (old-in t b e)))))
+    (λ e. rw e (omega arith))
 
 -- a replacement for which there is a spare
 module _ {drive : Drive} (laid : Laid drive) {t : List ℕ} (o : Obeys drive t) {b : ℕ} (below : b < drive .blocks) (found : spareFor drive t b < length t) where
@@ -188,11 +181,11 @@ module _ {drive : Drive} (laid : Laid drive) {t : List ℕ} (o : Obeys drive t) 
 
   -- one place fewer is free
   pub moved-free-less : codeCount (movedIn drive t b) free + 1 ≡ codeCount t free
-  moved-free-less = free-less laid (killedIn t b) below still-found still-free ∙ killed-free t b
+  moved-free-less = omega (arith, free-less laid (killedIn t b) below still-found still-free, killed-counts t b free allocated-not-free)
 
   -- and one more is unusable where the block lay on a spare
   pub moved-unusable : codeCount (movedIn drive t b) unusable ≡ codeCount t unusable + oneIf (isReplaced t b)
   moved-unusable =
       others-counted laid (killedIn t b) below still-found still-free unusable (λ x. omega arith)
       (λ x. omega (arith, code-few drive (spareFor drive (killedIn t b) b) b))
-      ∙ killed-more t b
+      ∙ (killed-counts t b unusable allocated-not-unusable ∙ omega arith)
