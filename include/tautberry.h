@@ -2,19 +2,24 @@
  *
  * A call takes any numbers. It ends, it calls nothing back, it keeps nothing between calls, and it answers a small
  * struct by value. `refusal` is the first field: TB_ACCEPTED (0), or the number of the first check that fails.
- * Where a call refuses, every other number of the result is 0, and every byte that was lent is as it was. The one
- * exception is tb_job_step, which hands back in `next` the cursor that it was given. The comment of a call names its
- * checks in their order. The word "list" there stands for three of them: TB_TOO_LONG, and then, at the lowest entry
- * at fault, TB_NOT_RISING before TB_OUTSIDE.
+ * Where a call refuses, every other number of the result is 0, and every byte that was lent is as it was. There are
+ * two exceptions: tb_job_step hands back in `next` the cursor that it was given, and scratch is left as is said below.
+ * The comment of a call names its checks in their order. The word "list" there stands for three of them: TB_TOO_LONG,
+ * and then, at the lowest entry at fault, TB_NOT_RISING before TB_OUTSIDE.
  *
  * What is lent:
  * - A pointer and the number of its elements stand together, the pointer first. The pointer may be NULL where the
  *   number is 0, and only there.
  * - A pointer to uint32_t is aligned as uint32_t is.
- * - A pointer to const is read and never written. One that is not const is a room: it may be read and written.
- * - A room overlaps nothing else that is lent to the same call. What is only read may overlap.
+ * - A pointer to const is read and never written. One that is not const is a room, or scratch: it may be read and
+ *   written.
+ * - A room or scratch overlaps nothing else that is lent to the same call. What is only read may overlap.
  * - An accepted call fills the first elements of its room and leaves the rest as it was. The room of tb_spare_replace is
  *   the table, of which it writes the descriptors that its comment names.
+ * - Scratch comes with every table, for the table's check. It needs one uint32_t for each spare of the drive, which is
+ *   cylinders x heads x r, and any more may be lent. What it holds before the call does not matter. After a call that
+ *   passes TB_OUT_OF_RANGE and TB_NO_ROOM, accepted or refused, its first cylinders x heads x r numbers are 0 and the
+ *   rest is as it was. A call that refuses by one of these two leaves all of it as it was.
  * - `forced` is the language's own bool: a byte that is 0 or 1.
  *
  * What libboard.a asks of its place: an x86-64 processor with SSE2, the System V calling convention, the red zone
@@ -46,7 +51,7 @@ enum tb_refusal {
     TB_OUTSIDE = 4,           /* an entry of a list is not a unit of its space */
     TB_NO_SUCH_BLOCK = 5,     /* the block asked for lies beyond the last one */
     TB_NO_SUCH_SECTOR = 6,    /* the sector, cylinder or head asked for lies beyond the last one */
-    TB_NO_ROOM = 7,           /* the room for a result has too few elements */
+    TB_NO_ROOM = 7,           /* the room for a result, or scratch, has too few elements */
     TB_BAD_PAGE = 8,          /* the bytes are no list page, or there is no such kind of page */
     TB_STRAY_CURSOR = 9,      /* the cursor does not belong to this N and list */
     TB_BAD_OPTION = 10,       /* there is no such option or space, or the option takes no list and one came */
@@ -67,8 +72,8 @@ enum tb_refusal {
 #define TB_HEADS_MOST 64u         /* heads of a shape, from 1; groups, and tracks of a group, have the same range */
 #define TB_SECTORS_LEAST 2u       /* sectors of a track */
 #define TB_SECTORS_MOST 64u
-#define TB_LIST_MOST 4096u        /* entries of a list */
-#define TB_SPARES_MOST 1024u      /* cylinders x heads x r */
+#define TB_LIST_MOST 65536u       /* entries of a list */
+#define TB_SPARES_MOST 65536u     /* cylinders x heads x r */
 #define TB_TABLE_BLOCK 128u       /* descriptors of a table block */
 #define TB_DATA_SIZE 512u         /* data bytes of a sector */
 #define TB_HEADER_SIZE 16u        /* bytes before the data of an image: where the data begins */
@@ -77,7 +82,7 @@ enum tb_refusal {
 #define TB_START_CODE 0x5A3Cu     /* the code of no data */
 #define TB_PAGE_FRAME 14u         /* bytes of a page that are no entries */
 #define TB_ENTRY_SIZE 4u          /* bytes of an entry of a page */
-#define TB_PAGE_MOST TB_PAGE_LENGTH(TB_LIST_MOST) /* 16398: bytes of the longest page */
+#define TB_PAGE_MOST TB_PAGE_LENGTH(TB_LIST_MOST) /* 262158: bytes of the longest page */
 #define TB_KIND_MOST 1u           /* kinds of a page: 0 manufacturer's, 1 grown */
 #define TB_OPTION_MOST 7u         /* options of Format, from 0 */
 #define TB_SPACE_MOST 3u          /* spaces: 0 none, 1 P, 2 G, 3 P and G */
@@ -268,38 +273,49 @@ tb_formatted tb_format(
 
 /* ---- A revectored drive: the last r sectors of each track are spares, and a table says what they hold ---- */
 
-/* The table has TB_TABLE_LENGTH(cylinders x heads x r) descriptors. Every call that is lent a table checks its rules. */
+/* The table has TB_TABLE_LENGTH(cylinders x heads x r) descriptors. Every call that is lent a table checks its rules, and takes scratch for
+ * this check. The top of this header says how much, and what is left in it. */
 
 /* The sector that a block lies on: its spare, or its home where it is not replaced.
- * Checks: TB_OUT_OF_RANGE (shape, r), TB_BAD_TABLE, TB_NO_SUCH_BLOCK. Answers sector. Writes nothing. */
-tb_placed tb_spare_sector(tb_shape shape, uint32_t r, const uint32_t *table, size_t table_length, uint32_t block);
+ * Checks: TB_OUT_OF_RANGE (shape, r), TB_NO_ROOM (scratch), TB_BAD_TABLE, TB_NO_SUCH_BLOCK. Answers sector. Writes nothing but scratch. */
+tb_placed tb_spare_sector(
+    tb_shape shape, uint32_t r, const uint32_t *table, size_t table_length, uint32_t *scratch, size_t scratch_length, uint32_t block);
 
 /* The address that a block lies at.
- * Checks: TB_OUT_OF_RANGE (shape, r), TB_BAD_TABLE, TB_NO_SUCH_BLOCK. Answers address. Writes nothing. */
-tb_located tb_spare_address(tb_shape shape, uint32_t r, const uint32_t *table, size_t table_length, uint32_t block);
+ * Checks: TB_OUT_OF_RANGE (shape, r), TB_NO_ROOM (scratch), TB_BAD_TABLE, TB_NO_SUCH_BLOCK. Answers address. Writes nothing but scratch. */
+tb_located tb_spare_address(
+    tb_shape shape, uint32_t r, const uint32_t *table, size_t table_length, uint32_t *scratch, size_t scratch_length, uint32_t block);
 
 /* How many cylinders the arm moves from the home of a block to its spare; 0 for a block at home.
- * Checks: TB_OUT_OF_RANGE (shape, r), TB_BAD_TABLE, TB_NO_SUCH_BLOCK. Answers shift. Writes nothing. */
-tb_shifted tb_spare_shift(tb_shape shape, uint32_t r, const uint32_t *table, size_t table_length, uint32_t block);
+ * Checks: TB_OUT_OF_RANGE (shape, r), TB_NO_ROOM (scratch), TB_BAD_TABLE, TB_NO_SUCH_BLOCK. Answers shift. Writes nothing but scratch. */
+tb_shifted tb_spare_shift(
+    tb_shape shape, uint32_t r, const uint32_t *table, size_t table_length, uint32_t *scratch, size_t scratch_length, uint32_t block);
 
 /* The block that lies on a sector; the home of a replaced block has none, nor has a spare that is not allocated.
- * Checks: TB_OUT_OF_RANGE (shape, r), TB_BAD_TABLE, TB_NO_SUCH_SECTOR. Answers found and block. Writes nothing. */
-tb_named tb_spare_block(tb_shape shape, uint32_t r, const uint32_t *table, size_t table_length, uint32_t sector);
+ * Checks: TB_OUT_OF_RANGE (shape, r), TB_NO_ROOM (scratch), TB_BAD_TABLE, TB_NO_SUCH_SECTOR. Answers found and block. Writes nothing but
+ * scratch. */
+tb_named tb_spare_block(
+    tb_shape shape, uint32_t r, const uint32_t *table, size_t table_length, uint32_t *scratch, size_t scratch_length, uint32_t sector);
 
 /* The same, for a sector that is asked for by cylinder, head and sector.
- * Checks: TB_OUT_OF_RANGE (shape, r), TB_BAD_TABLE, TB_NO_SUCH_SECTOR (any of the three). Answers found and block. Writes nothing. */
+ * Checks: TB_OUT_OF_RANGE (shape, r), TB_NO_ROOM (scratch), TB_BAD_TABLE, TB_NO_SUCH_SECTOR (any of the three). Answers found and block.
+ * Writes nothing but scratch. */
 tb_named tb_spare_block_at(
-    tb_shape shape, uint32_t r, const uint32_t *table, size_t table_length, uint32_t cylinder, uint32_t head, uint32_t sector);
+    tb_shape shape, uint32_t r, const uint32_t *table, size_t table_length, uint32_t *scratch, size_t scratch_length,
+    uint32_t cylinder, uint32_t head, uint32_t sector);
 
 /* Replaces a block by the free spare that comes first in its search order. Where the block lies on a spare already, that one is marked as
  * unusable.
- * Checks: TB_OUT_OF_RANGE (shape, r), TB_BAD_TABLE, TB_NO_SUCH_BLOCK, TB_NO_SPARE. Answers place. Writes one or two descriptors of
- * table: the block's new one, at place, and its old one, where it has one. It writes no other. */
-tb_replaced tb_spare_replace(tb_shape shape, uint32_t r, uint32_t *table, size_t table_length, uint32_t block);
+ * Checks: TB_OUT_OF_RANGE (shape, r), TB_NO_ROOM (scratch), TB_BAD_TABLE, TB_NO_SUCH_BLOCK, TB_NO_SPARE. Answers place. Writes scratch, and
+ * one or two descriptors of table: the block's new one, at place, and its old one, where it has one. It writes no other. */
+tb_replaced tb_spare_replace(
+    tb_shape shape, uint32_t r, uint32_t *table, size_t table_length, uint32_t *scratch, size_t scratch_length, uint32_t block);
 
 /* Counts the descriptors of each code.
- * Checks: TB_OUT_OF_RANGE (shape, r), TB_BAD_TABLE. Answers free, primary, elsewhere, unusable and null. Writes nothing. */
-tb_counted tb_spare_census(tb_shape shape, uint32_t r, const uint32_t *table, size_t table_length);
+ * Checks: TB_OUT_OF_RANGE (shape, r), TB_NO_ROOM (scratch), TB_BAD_TABLE. Answers free, primary, elsewhere, unusable and null. Writes nothing
+ * but scratch. */
+tb_counted tb_spare_census(
+    tb_shape shape, uint32_t r, const uint32_t *table, size_t table_length, uint32_t *scratch, size_t scratch_length);
 
 /* The first table of a drive, from the list of its bad sectors: the spares among them are marked as unusable, then each home among them is
  * given a spare, the lowest block first.
@@ -326,16 +342,16 @@ tb_judged tb_image_judge(const uint8_t *image, size_t image_length, uint32_t blo
  * any track. Both are TB_TRACK_LENGTH(sectors) bytes long. A block lies in one of them, and no byte of the other is looked at. */
 
 /* The verdict on a block.
- * Checks: TB_OUT_OF_RANGE (shape, r), TB_BAD_TABLE, TB_NO_SUCH_BLOCK, TB_WRONG_LENGTH (either image), TB_NO_ADDRESS, TB_OTHER_BLOCK,
- * then TB_FORCED_ERROR or TB_BAD_CODE. Writes nothing. */
+ * Checks: TB_OUT_OF_RANGE (shape, r), TB_NO_ROOM (scratch), TB_BAD_TABLE, TB_NO_SUCH_BLOCK, TB_WRONG_LENGTH (either image), TB_NO_ADDRESS,
+ * TB_OTHER_BLOCK, then TB_FORCED_ERROR or TB_BAD_CODE. Writes nothing but scratch. */
 tb_judged tb_read_judge(
-    tb_shape shape, uint32_t r, const uint32_t *table, size_t table_length, uint32_t block,
+    tb_shape shape, uint32_t r, const uint32_t *table, size_t table_length, uint32_t *scratch, size_t scratch_length, uint32_t block,
     const uint8_t *home, size_t home_length, const uint8_t *spare, size_t spare_length);
 
 /* Where the data of a good block lies: TB_DATA_SIZE bytes, from offset on, of home where image is 0 and of spare where it is 1.
- * Checks: those of tb_read_judge, with the same number. Answers image and offset. Writes nothing. */
+ * Checks: those of tb_read_judge, with the same number. Answers image and offset. Writes nothing but scratch. */
 tb_spotted tb_read_data(
-    tb_shape shape, uint32_t r, const uint32_t *table, size_t table_length, uint32_t block,
+    tb_shape shape, uint32_t r, const uint32_t *table, size_t table_length, uint32_t *scratch, size_t scratch_length, uint32_t block,
     const uint8_t *home, size_t home_length, const uint8_t *spare, size_t spare_length);
 
 #ifdef __cplusplus

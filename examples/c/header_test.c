@@ -1,6 +1,6 @@
 /* Holds include/tautberry.h to libboard.a by what the calls do: the size and the fields of each struct, the angle of a sector, each limit at its
- * last number and one beyond, bad groups in each call that takes a shape, blocks replaced until no spare is left, each refusal number, and NULL
- * for each slice of length 0. It is compiled as C and as C++. It returns 1 if anything differs. */
+ * last number and one beyond, large drives, bad groups in each call that takes a shape, scratch in each call that takes it, blocks replaced until
+ * no spare is left, each refusal number, and NULL for each slice of length 0. It is compiled as C and as C++. It returns 1 if anything differs. */
 #include <inttypes.h>
 #include <stdio.h>
 #include <string.h>
@@ -31,6 +31,12 @@ static uint8_t spare[TB_TRACK_LENGTH(5) + 1];
 static uint8_t data[TB_DATA_SIZE + 1];
 static uint8_t image[TB_IMAGE_SIZE + 1];
 
+/* Scratch for any table that is tried, and three numbers more. */
+static uint32_t scratch[TB_SPARES_MOST + 3];
+
+/* The spares of the drives of 2 cylinders, 2 heads and r 2: so many numbers of scratch they need. */
+#define SPARES 8u
+
 static tb_shape grouped(uint32_t cylinders, uint32_t heads, uint32_t sectors, uint32_t groups, uint32_t tracks, uint32_t offset)
 {
     tb_shape shape;
@@ -47,6 +53,12 @@ static tb_shape grouped(uint32_t cylinders, uint32_t heads, uint32_t sectors, ui
 static tb_shape shaped(uint32_t cylinders, uint32_t heads, uint32_t sectors)
 {
     return grouped(cylinders, heads, sectors, 1, heads, 0);
+}
+
+/* A drive with TB_SPARES_MOST + 2 spares, where r is 1. One fewer is a prime number, so that no drive has so many. */
+static tb_shape too_many_spares(void)
+{
+    return shaped(1986, 33, 2);
 }
 
 static tb_cursor cursor_at(uint32_t block, uint32_t skipped)
@@ -183,34 +195,34 @@ static void fields(void)
     written = tb_spare_first(shape, 2, bad, 2, words, 128);
     same("tb_spare_first refusal", written.refusal, TB_ACCEPTED);
     same("tb_spare_first length", written.length, 128);
-    tb_replaced replaced = tb_spare_replace(shape, 2, words, 128, 7);
+    tb_replaced replaced = tb_spare_replace(shape, 2, words, 128, scratch, SPARES, 7);
     same("tb_spare_replace refusal", replaced.refusal, TB_ACCEPTED);
     same("tb_spare_replace place", replaced.place, 4);
     same("tb_spare_replace descriptor", words[4], 0x20000007);
-    same("tb_spare_replace elsewhere", tb_spare_replace(shape, 2, words, 128, 8).place, 5);
-    same("tb_spare_replace farther", tb_spare_replace(shape, 2, words, 128, 6).place, 3);
-    same("tb_spare_replace last", tb_spare_replace(shape, 2, words, 128, 0).place, 1);
-    tb_counted counted = tb_spare_census(shape, 2, words, 128);
+    same("tb_spare_replace elsewhere", tb_spare_replace(shape, 2, words, 128, scratch, SPARES, 8).place, 5);
+    same("tb_spare_replace farther", tb_spare_replace(shape, 2, words, 128, scratch, SPARES, 6).place, 3);
+    same("tb_spare_replace last", tb_spare_replace(shape, 2, words, 128, scratch, SPARES, 0).place, 1);
+    tb_counted counted = tb_spare_census(shape, 2, words, 128, scratch, SPARES);
     same("tb_spare_census refusal", counted.refusal, TB_ACCEPTED);
     same("tb_spare_census free", counted.free, 2);
     same("tb_spare_census primary", counted.primary, 1);
     same("tb_spare_census elsewhere", counted.elsewhere, 3);
     same("tb_spare_census unusable", counted.unusable, 2);
     same("tb_spare_census null", counted.null, 120);
-    tb_shifted shifted = tb_spare_shift(shape, 2, words, 128, 6);
+    tb_shifted shifted = tb_spare_shift(shape, 2, words, 128, scratch, SPARES, 6);
     same("tb_spare_shift refusal", shifted.refusal, TB_ACCEPTED);
     same("tb_spare_shift is negative", shifted.shift < 0, 1);
     same("tb_spare_shift is by one", shifted.shift + 1 == 0, 1);
-    same("tb_spare_sector", tb_spare_sector(shape, 2, words, 128, 6).sector, 9);
-    located = tb_spare_address(shape, 2, words, 128, 6);
+    same("tb_spare_sector", tb_spare_sector(shape, 2, words, 128, scratch, SPARES, 6).sector, 9);
+    located = tb_spare_address(shape, 2, words, 128, scratch, SPARES, 6);
     same("tb_spare_address cylinder", located.address.cylinder, 0);
     same("tb_spare_address head", located.address.head, 1);
     same("tb_spare_address sector", located.address.sector, 4);
     same("tb_spare_address angle", located.address.angle, 2);
-    named = tb_spare_block(shape, 2, words, 128, 9);
+    named = tb_spare_block(shape, 2, words, 128, scratch, SPARES, 9);
     same("tb_spare_block found", named.found, 1);
     same("tb_spare_block block", named.block, 6);
-    named = tb_spare_block_at(shape, 2, words, 128, 0, 1, 4);
+    named = tb_spare_block_at(shape, 2, words, 128, scratch, SPARES, 0, 1, 4);
     same("tb_spare_block_at found", named.found, 1);
     same("tb_spare_block_at block", named.block, 6);
 
@@ -221,8 +233,8 @@ static void fields(void)
     same("tb_image_header refusal", headed.refusal, TB_ACCEPTED);
     same("tb_image_header block", headed.block, 6);
     same("tb_image_judge refusal", tb_image_judge(spare + 4 * TB_IMAGE_SIZE, TB_IMAGE_SIZE, 6).refusal, TB_ACCEPTED);
-    same("tb_read_judge refusal", tb_read_judge(shape, 2, words, 128, 6, home, TB_TRACK_LENGTH(5), spare, TB_TRACK_LENGTH(5)).refusal, TB_ACCEPTED);
-    tb_spotted spotted = tb_read_data(shape, 2, words, 128, 6, home, TB_TRACK_LENGTH(5), spare, TB_TRACK_LENGTH(5));
+    same("tb_read_judge refusal", tb_read_judge(shape, 2, words, 128, scratch, SPARES, 6, home, TB_TRACK_LENGTH(5), spare, TB_TRACK_LENGTH(5)).refusal, TB_ACCEPTED);
+    tb_spotted spotted = tb_read_data(shape, 2, words, 128, scratch, SPARES, 6, home, TB_TRACK_LENGTH(5), spare, TB_TRACK_LENGTH(5));
     same("tb_read_data refusal", spotted.refusal, TB_ACCEPTED);
     same("tb_read_data image", spotted.image, 1);
     same("tb_read_data offset", spotted.offset, 4 * TB_IMAGE_SIZE + TB_HEADER_SIZE);
@@ -286,15 +298,13 @@ static void limits(void)
     same("the last sector of the largest shape", tb_shape_address(largest, TB_UNITS_MOST - 1).refusal, TB_ACCEPTED);
     same("the sector after it", tb_shape_address(largest, TB_UNITS_MOST).refusal, TB_NO_SUCH_SECTOR);
 
-    same("TB_LIST_MOST", tb_skip_sector(TB_UNITS_MOST, places, TB_LIST_MOST, 0).refusal, TB_ACCEPTED);
-    same("TB_LIST_MOST + 1", tb_skip_sector(TB_UNITS_MOST, places, TB_LIST_MOST + 1, 0).refusal, TB_TOO_LONG);
-
     same("r 0", tb_spare_first(shaped(2, 2, 5), 0, NULL, 0, words, 128).refusal, TB_OUT_OF_RANGE);
     same("r 1", tb_spare_first(shaped(2, 2, 5), 1, NULL, 0, words, 128).refusal, TB_ACCEPTED);
     same("r one below sectors", tb_spare_first(shaped(2, 2, 5), 4, NULL, 0, words, 128).refusal, TB_ACCEPTED);
     same("r as many as sectors", tb_spare_first(shaped(2, 2, 5), 5, NULL, 0, words, 128).refusal, TB_OUT_OF_RANGE);
-    same("TB_SPARES_MOST", tb_spare_first(shaped(TB_SPARES_MOST, 1, 2), 1, NULL, 0, words, TB_SPARES_MOST).refusal, TB_ACCEPTED);
-    same("TB_SPARES_MOST + 1", tb_spare_first(shaped(TB_SPARES_MOST + 1, 1, 2), 1, NULL, 0, words, TB_LIST_MOST).refusal, TB_OUT_OF_RANGE);
+    same("TB_SPARES_MOST", tb_spare_first(shaped(TB_CYLINDERS_MOST, 16, 2), 1, NULL, 0, words, TB_SPARES_MOST).length, TB_SPARES_MOST);
+    same("TB_SPARES_MOST, 16 to a track", tb_spare_first(shaped(TB_CYLINDERS_MOST, 1, 17), 16, NULL, 0, words, TB_SPARES_MOST).length, TB_SPARES_MOST);
+    same("TB_SPARES_MOST + 2", tb_spare_first(too_many_spares(), 1, NULL, 0, words, TB_LIST_MOST).refusal, TB_OUT_OF_RANGE);
     same("TB_TABLE_BLOCK spares", tb_spare_first(shaped(TB_TABLE_BLOCK, 1, 2), 1, NULL, 0, words, TB_LIST_MOST).length, TB_TABLE_BLOCK);
     same("one spare more", tb_spare_first(shaped(TB_TABLE_BLOCK + 1, 1, 2), 1, NULL, 0, words, TB_LIST_MOST).length, 2 * TB_TABLE_BLOCK);
     same("TB_TABLE_LENGTH", tb_spare_first(shaped(300, 1, 2), 1, NULL, 0, words, TB_TABLE_LENGTH(300)).length, TB_TABLE_LENGTH(300));
@@ -325,6 +335,7 @@ static void limits(void)
     same("TB_PAGE_MOST read", tb_page_read(page, TB_PAGE_MOST, words, TB_LIST_MOST).entries, TB_LIST_MOST);
     /* The same page with one entry more: its length field and its end are those of a page of that length. */
     memmove(page + TB_PAGE_FRAME, page + TB_PAGE_FRAME - TB_ENTRY_SIZE, TB_PAGE_MOST - TB_PAGE_FRAME + TB_ENTRY_SIZE);
+    page[1] = (uint8_t)((TB_PAGE_MOST + TB_ENTRY_SIZE) / 65536);
     page[2] = (uint8_t)((TB_PAGE_MOST + TB_ENTRY_SIZE) / 256);
     page[3] = (uint8_t)((TB_PAGE_MOST + TB_ENTRY_SIZE) % 256);
     same("TB_PAGE_MOST + TB_ENTRY_SIZE", tb_page_read(page, TB_PAGE_MOST + TB_ENTRY_SIZE, words, TB_LIST_MOST + 1).refusal, TB_BAD_PAGE);
@@ -340,9 +351,47 @@ static void limits(void)
     for (uint32_t more = 0; more < 3; more++) {
         for (uint32_t other = 0; other < 3; other++) {
             same("TB_TRACK_LENGTH, one less and one more, of either image",
-                 tb_read_judge(shape, 2, words, 128, 0, home, TB_TRACK_LENGTH(5) - 1 + more, spare, TB_TRACK_LENGTH(5) - 1 + other).refusal,
+                 tb_read_judge(shape, 2, words, 128, scratch, SPARES, 0, home, TB_TRACK_LENGTH(5) - 1 + more, spare, TB_TRACK_LENGTH(5) - 1 + other).refusal,
                  more == 1 && other == 1 ? TB_ACCEPTED : TB_WRONG_LENGTH);
         }
+    }
+}
+
+/* The refusal of a Format of the largest drive. */
+static uint32_t format_largest(
+    const uint32_t *p, size_t p_length, const uint32_t *g, size_t g_length, uint32_t space, uint32_t option, const uint32_t *d, size_t d_length)
+{
+    return tb_format(TB_UNITS_MOST, p, p_length, g, g_length, space, option, d, d_length, words, TB_LIST_MOST, more_words, TB_LIST_MOST).refusal;
+}
+
+/* A list at its limit, and one entry beyond it, in each call that takes a list, and where Format makes one. */
+static void lists(void)
+{
+    const tb_shape largest = shaped(TB_CYLINDERS_MOST, TB_HEADS_MOST, TB_SECTORS_MOST);
+    const tb_shape spared = shaped(TB_CYLINDERS_MOST, 16, 2);
+
+    for (uint32_t more = 0; more < 2; more++) {
+        const size_t length = TB_LIST_MOST + more;
+        const uint32_t expected = more == 0 ? TB_ACCEPTED : TB_TOO_LONG;
+        same("a long list of tb_skip_sector", tb_skip_sector(TB_UNITS_MOST, places, length, 0).refusal, expected);
+        same("a long list of tb_skip_block", tb_skip_block(TB_UNITS_MOST, places, length, 0).refusal, expected);
+        same("a long list of tb_job_start", tb_job_start(TB_UNITS_MOST, places, length, 0).refusal, expected);
+        same("a long list of tb_job_check", tb_job_check(cursor_at(0, 0), TB_UNITS_MOST, places, length).refusal, expected);
+        same("a long list of tb_job_step", tb_job_step(cursor_at(0, 0), TB_UNITS_MOST, places, length).refusal, expected);
+        same("a long list of tb_skipped_address", tb_skipped_address(largest, places, length, 0).refusal, expected);
+        same("a long list of tb_skipped_block", tb_skipped_block(largest, places, length, 0, 0, 0).refusal, expected);
+        same("a long list of tb_page_write", tb_page_write(TB_UNITS_MOST, 0, places, length, page, sizeof page).refusal, expected);
+        same("a long p", format_largest(places, length, NULL, 0, 1, 0, NULL, 0), expected);
+        same("a long g", format_largest(NULL, 0, places, length, 2, 0, NULL, 0), expected);
+        same("a long d", format_largest(NULL, 0, NULL, 0, 0, 7, places, length), expected);
+        same("a long list in use", format_largest(places, TB_LIST_MOST, places + TB_LIST_MOST - 1 + more, 1, 3, 0, NULL, 0), expected);
+        same("a long grown list", format_largest(NULL, 0, places, TB_LIST_MOST - 1 + more, 2, 3, places, 1), expected);
+        same("a long new list", format_largest(places + TB_LIST_MOST - 1 + more, 1, NULL, 0, 0, 5, places, TB_LIST_MOST), expected);
+        /* The one home of each track. */
+        for (uint32_t track = 0; track <= TB_LIST_MOST; track++) {
+            more_words[track] = 2 * track;
+        }
+        same("a long list of tb_spare_first", tb_spare_first(spared, 1, more_words, length, words, TB_SPARES_MOST).refusal, expected);
     }
 }
 
@@ -363,6 +412,103 @@ static void refused(const char *call, const void *answer, size_t size, uint32_t 
         refused(#call, &answer, sizeof answer, refusal); \
     } while (0)
 
+/* A number of scratch before a call that is tried on it: every bit is on. */
+#define ONES 0xFFFFFFFFu
+
+/* Scratch after a call: so many zeros at its start, and each number behind them as it was. */
+static void scratch_left(const char *call, uint32_t zeros)
+{
+    uint32_t cleared = 0;
+    uint32_t kept = 0;
+    for (size_t i = 0; i < sizeof scratch / sizeof scratch[0]; i++) {
+        cleared += i < zeros && scratch[i] == 0;
+        kept += i >= zeros && scratch[i] == ONES;
+    }
+    same(call, cleared, zeros);
+    same(call, kept, sizeof scratch / sizeof scratch[0] - zeros);
+}
+
+/* A call on scratch full of ones, with its number and what it leaves of the scratch of a drive with so many spares. */
+#define SCRATCHED(type, call, number, spares) \
+    do { \
+        memset(scratch, 0xFF, sizeof scratch); \
+        const type answer = call; \
+        if ((number) == TB_ACCEPTED) { \
+            same(#call, answer.refusal, TB_ACCEPTED); \
+        } else { \
+            refused(#call, &answer, sizeof answer, number); \
+        } \
+        scratch_left(#call, (number) == TB_OUT_OF_RANGE || (number) == TB_NO_ROOM ? 0 : (spares)); \
+    } while (0)
+
+/* A drive of 880 cylinders, 16 heads and 53 sectors, one of them a spare: 14,080 spares and 732,160 blocks. */
+static void customers_drive(void)
+{
+    const tb_shape shape = shaped(880, 16, 53);
+    const uint32_t spares = 14080;
+    const uint32_t replaced[][3] = {
+        {732159, 14079, 0x200B2BFF}, {732158, 14078, 0x300B2BFE}, {732157, 14077, 0x300B2BFD}, {6656, 128, 0x20001A00},
+        {6657, 129, 0x30001A01},     {6658, 130, 0x30001A02},     {6604, 127, 0x200019CC},     {6605, 126, 0x300019CD},
+    };
+
+    same("a table without a null", tb_spare_first(shape, 1, NULL, 0, words, spares).length, spares);
+    for (size_t i = 0; i < sizeof replaced / sizeof replaced[0]; i++) {
+        const uint32_t block = replaced[i][0];
+        const uint32_t place = replaced[i][1];
+        const tb_replaced answer = tb_spare_replace(shape, 1, words, spares, scratch, spares, block);
+        same("refusal of a replacement on a large drive", answer.refusal, TB_ACCEPTED);
+        same("place of a replacement on a large drive", answer.place, place);
+        same("descriptor on a large drive", words[place], replaced[i][2]);
+        same("sector on a large drive", tb_spare_sector(shape, 1, words, spares, scratch, spares, block).sector, 53 * place + 52);
+    }
+    SCRATCHED(tb_replaced, tb_spare_replace(shape, 1, words, spares, scratch, spares, 732160), TB_NO_SUCH_BLOCK, spares);
+    SCRATCHED(tb_replaced, tb_spare_replace(shape, 1, words, spares, scratch, spares - 1, 0), TB_NO_ROOM, spares);
+    const tb_counted counted = tb_spare_census(shape, 1, words, spares, scratch, spares);
+    same("free on a large drive", counted.free, spares - 8);
+    same("primary on a large drive", counted.primary, 3);
+    same("elsewhere on a large drive", counted.elsewhere, 5);
+    same("unusable on a large drive", counted.unusable, 0);
+    same("null on a large drive", counted.null, 0);
+
+    /* The first home of each track is bad, and so every spare is used. */
+    for (uint32_t track = 0; track < spares; track++) {
+        more_words[track] = 53 * track;
+    }
+    same("a table with every spare used", tb_spare_first(shape, 1, more_words, spares, words, spares).length, spares);
+    same("primary with every spare used", tb_spare_census(shape, 1, words, spares, scratch, spares).primary, spares);
+    SCRATCHED(tb_replaced, tb_spare_replace(shape, 1, words, spares, scratch, spares, 1), TB_NO_SPARE, spares);
+}
+
+/* A drive with as many spares as there may be, and 63 blocks to each. */
+static void largest_drive(void)
+{
+    const tb_shape shape = shaped(TB_CYLINDERS_MOST, 16, TB_SECTORS_MOST);
+    const uint32_t spares = TB_SPARES_MOST;
+    const uint32_t last = 63 * spares - 1;
+
+    same("the largest table", tb_spare_first(shape, 1, NULL, 0, words, spares).length, spares);
+    /* Two blocks that are as far apart as there are bits in the scratch. */
+    SCRATCHED(tb_replaced, tb_spare_replace(shape, 1, words, spares, scratch, spares, 5), TB_ACCEPTED, spares);
+    SCRATCHED(tb_replaced, tb_spare_replace(shape, 1, words, spares, scratch, spares, 5 + 32 * spares), TB_ACCEPTED, spares);
+    same("the first of two blocks", words[0], 0x20000005);
+    same("the second of two blocks", words[33288], 0x20200005);
+    SCRATCHED(tb_replaced, tb_spare_replace(shape, 1, words, spares, scratch, spares, last), TB_ACCEPTED, spares);
+    same("the last block", words[spares - 1], 0x20000000 + last);
+    SCRATCHED(tb_counted, tb_spare_census(shape, 1, words, spares, scratch, spares - 1), TB_NO_ROOM, spares);
+    SCRATCHED(tb_counted, tb_spare_census(shape, 1, words, spares, scratch, spares + 3), TB_ACCEPTED, spares);
+    /* Each of the three is named once more, on the spare after its own or before it. */
+    words[1] = 0x30000005;
+    SCRATCHED(tb_counted, tb_spare_census(shape, 1, words, spares, scratch, spares), TB_BAD_TABLE, spares);
+    words[1] = 0;
+    words[33289] = 0x30200005;
+    SCRATCHED(tb_counted, tb_spare_census(shape, 1, words, spares, scratch, spares), TB_BAD_TABLE, spares);
+    words[33289] = 0;
+    words[spares - 2] = 0x30000000 + last;
+    SCRATCHED(tb_counted, tb_spare_census(shape, 1, words, spares, scratch, spares), TB_BAD_TABLE, spares);
+    words[spares - 2] = 0;
+    SCRATCHED(tb_counted, tb_spare_census(shape, 1, words, spares, scratch, spares), TB_ACCEPTED, spares);
+}
+
 /* Each call that takes a shape, with a fault behind the shape. Bad groups are refused before it, and nothing is written. */
 static void in_each_call(tb_shape shape, bool bad)
 {
@@ -375,16 +521,16 @@ static void in_each_call(tb_shape shape, bool bad)
     REFUSED(tb_located, tb_skipped_address(shape, places, TB_LIST_MOST + 1, 40), no_list);
     REFUSED(tb_named, tb_skipped_block(shape, places, TB_LIST_MOST + 1, 2, 4, 5), no_list);
     memset(words, 0xA5, sizeof words);
-    REFUSED(tb_placed, tb_spare_sector(shape, 2, words, 1, 24), no_table);
-    REFUSED(tb_located, tb_spare_address(shape, 2, words, 1, 24), no_table);
-    REFUSED(tb_shifted, tb_spare_shift(shape, 2, words, 1, 24), no_table);
-    REFUSED(tb_named, tb_spare_block(shape, 2, words, 1, 40), no_table);
-    REFUSED(tb_named, tb_spare_block_at(shape, 2, words, 1, 2, 4, 5), no_table);
-    REFUSED(tb_replaced, tb_spare_replace(shape, 2, words, 1, 24), no_table);
-    REFUSED(tb_counted, tb_spare_census(shape, 2, words, 1), no_table);
+    REFUSED(tb_placed, tb_spare_sector(shape, 2, words, 1, scratch, 2 * SPARES, 24), no_table);
+    REFUSED(tb_located, tb_spare_address(shape, 2, words, 1, scratch, 2 * SPARES, 24), no_table);
+    REFUSED(tb_shifted, tb_spare_shift(shape, 2, words, 1, scratch, 2 * SPARES, 24), no_table);
+    REFUSED(tb_named, tb_spare_block(shape, 2, words, 1, scratch, 2 * SPARES, 40), no_table);
+    REFUSED(tb_named, tb_spare_block_at(shape, 2, words, 1, scratch, 2 * SPARES, 2, 4, 5), no_table);
+    REFUSED(tb_replaced, tb_spare_replace(shape, 2, words, 1, scratch, 2 * SPARES, 24), no_table);
+    REFUSED(tb_counted, tb_spare_census(shape, 2, words, 1, scratch, 2 * SPARES), no_table);
     REFUSED(tb_written, tb_spare_first(shape, 2, places, TB_LIST_MOST + 1, words, 1), no_list);
-    REFUSED(tb_judged, tb_read_judge(shape, 2, words, 1, 24, home, 1, spare, 1), no_table);
-    REFUSED(tb_spotted, tb_read_data(shape, 2, words, 1, 24, home, 1, spare, 1), no_table);
+    REFUSED(tb_judged, tb_read_judge(shape, 2, words, 1, scratch, 2 * SPARES, 24, home, 1, spare, 1), no_table);
+    REFUSED(tb_spotted, tb_read_data(shape, 2, words, 1, scratch, 2 * SPARES, 24, home, 1, spare, 1), no_table);
     same("the first place of a room, refused", words[0], 0xA5A5A5A5);
 }
 
@@ -438,26 +584,26 @@ static void replaced_to(uint32_t block, uint32_t old, uint32_t place, uint32_t d
 {
     const uint32_t sector = place / 2 * 5 + 3 + place % 2;
     memcpy(more_words, words, sizeof words);
-    const tb_replaced replaced = tb_spare_replace(replacing(), 2, words, 128, block);
+    const tb_replaced replaced = tb_spare_replace(replacing(), 2, words, 128, scratch, SPARES, block);
     same("refusal of a replacement", replaced.refusal, TB_ACCEPTED);
     same("place of a replacement", replaced.place, place);
     same("descriptor at the new place", words[place], descriptor);
     more_words[place] = descriptor;
     if (old != NOWHERE) {
         same("descriptor at the old place", words[old], 0x40000000);
-        same("block on the old spare", tb_spare_block(replacing(), 2, words, 128, old / 2 * 5 + 3 + old % 2).found, 0);
+        same("block on the old spare", tb_spare_block(replacing(), 2, words, 128, scratch, SPARES, old / 2 * 5 + 3 + old % 2).found, 0);
         more_words[old] = 0x40000000;
     }
     same("other words that a replacement changed", differing(), 0);
-    same("sector of a replaced block", tb_spare_sector(replacing(), 2, words, 128, block).sector, sector);
-    same("block on the new spare", tb_spare_block(replacing(), 2, words, 128, sector).block, block);
+    same("sector of a replaced block", tb_spare_sector(replacing(), 2, words, 128, scratch, SPARES, block).sector, sector);
+    same("block on the new spare", tb_spare_block(replacing(), 2, words, 128, scratch, SPARES, sector).block, block);
 }
 
 /* A refused replacement: zeros behind the number, and every word as it was. */
 static void not_replaced(uint32_t r, size_t table_length, uint32_t block, uint32_t refusal)
 {
     memcpy(more_words, words, sizeof words);
-    REFUSED(tb_replaced, tb_spare_replace(replacing(), r, words, table_length, block), refusal);
+    REFUSED(tb_replaced, tb_spare_replace(replacing(), r, words, table_length, scratch, SPARES, block), refusal);
     same("words that a refused replacement changed", differing(), 0);
 }
 
@@ -497,15 +643,15 @@ static void replacements(void)
     for (uint32_t place = 0; place < 8; place++) {
         same("descriptor with no spare left", words[place], full[place]);
     }
-    const tb_counted counted = tb_spare_census(replacing(), 2, words, 128);
+    const tb_counted counted = tb_spare_census(replacing(), 2, words, 128, scratch, SPARES);
     same("refusal of the census with no spare left", counted.refusal, TB_ACCEPTED);
     same("free with no spare left", counted.free, 0);
     same("primary with no spare left", counted.primary, 1);
     same("elsewhere with no spare left", counted.elsewhere, 3);
     same("unusable with no spare left", counted.unusable, 4);
     same("null with no spare left", counted.null, 120);
-    same("sector with no spare left", tb_spare_sector(replacing(), 2, words, 128, 7).sector, 4);
-    same("shift with no spare left", tb_spare_shift(replacing(), 2, words, 128, 7).shift == -1, 1);
+    same("sector with no spare left", tb_spare_sector(replacing(), 2, words, 128, scratch, SPARES, 7).sector, 4);
+    same("shift with no spare left", tb_spare_shift(replacing(), 2, words, 128, scratch, SPARES, 7).shift == -1, 1);
     for (uint32_t block = 0; block < 12; block++) {
         not_replaced(2, 128, block, TB_NO_SPARE);
     }
@@ -516,9 +662,9 @@ static void replacements(void)
     replaced_to(7, NOWHERE, 4, 0x20000007);
     replaced_to(8, NOWHERE, 5, 0x30000008);
     replaced_to(6, NOWHERE, 3, 0x30000006);
-    same("shift of a replaced block", tb_spare_shift(replacing(), 2, words, 128, 6).shift == -1, 1);
+    same("shift of a replaced block", tb_spare_shift(replacing(), 2, words, 128, scratch, SPARES, 6).shift == -1, 1);
     replaced_to(6, 3, 6, 0x30000006);
-    same("shift of a block replaced again", tb_spare_shift(replacing(), 2, words, 128, 6).shift == 0, 1);
+    same("shift of a block replaced again", tb_spare_shift(replacing(), 2, words, 128, scratch, SPARES, 6).shift == 0, 1);
 
     /* Block 7 lies elsewhere while its primary place is free. */
     lay(elsewhere);
@@ -533,6 +679,118 @@ static void replacements(void)
         not_replaced(2, 128, 7, TB_NO_SPARE);
         not_replaced(2, 128, 0, TB_NO_SPARE);
     }
+}
+
+/* What each call that takes scratch is asked: about a block, or about a sector. */
+typedef struct asked {
+    tb_shape shape;
+    uint32_t r;
+    size_t scratch_length;
+    uint32_t block;
+    uint32_t sector;
+    size_t home_length;
+} asked;
+
+/* The number that each of them gives: those about a block, those about a sector, a replacement, a census, and those that read a block. */
+typedef struct given {
+    uint32_t of_block;
+    uint32_t of_sector;
+    uint32_t of_replacement;
+    uint32_t of_census;
+    uint32_t of_read;
+} given;
+
+static given by_all(uint32_t number)
+{
+    const given numbers = {number, number, number, number, number};
+    return numbers;
+}
+
+static given by_reads(uint32_t number)
+{
+    const given numbers = {TB_ACCEPTED, TB_ACCEPTED, TB_ACCEPTED, TB_ACCEPTED, number};
+    return numbers;
+}
+
+/* Asks each of them about a table with these descriptors. An accepted replacement writes two of them, and nothing else but scratch is written. */
+static void scratch_in_each_call(const uint32_t descriptors[8], asked what, given numbers)
+{
+    const tb_shape shape = what.shape;
+    const uint32_t r = what.r;
+    uint32_t *const lent = what.scratch_length == 0 ? NULL : scratch;
+    const size_t length = what.scratch_length;
+    const size_t track = TB_TRACK_LENGTH(5);
+
+    lay(descriptors);
+    memcpy(more_words, words, sizeof words);
+    SCRATCHED(tb_placed, tb_spare_sector(shape, r, words, 128, lent, length, what.block), numbers.of_block, SPARES);
+    SCRATCHED(tb_located, tb_spare_address(shape, r, words, 128, lent, length, what.block), numbers.of_block, SPARES);
+    SCRATCHED(tb_shifted, tb_spare_shift(shape, r, words, 128, lent, length, what.block), numbers.of_block, SPARES);
+    SCRATCHED(tb_named, tb_spare_block(shape, r, words, 128, lent, length, what.sector), numbers.of_sector, SPARES);
+    SCRATCHED(tb_named, tb_spare_block_at(shape, r, words, 128, lent, length, what.sector / 10, what.sector / 5 % 2, what.sector % 5), numbers.of_sector, SPARES);
+    SCRATCHED(tb_counted, tb_spare_census(shape, r, words, 128, lent, length), numbers.of_census, SPARES);
+    SCRATCHED(tb_judged, tb_read_judge(shape, r, words, 128, lent, length, what.block, home, what.home_length, spare, track), numbers.of_read, SPARES);
+    SCRATCHED(tb_spotted, tb_read_data(shape, r, words, 128, lent, length, what.block, home, what.home_length, spare, track), numbers.of_read, SPARES);
+    same("words that calls without a room changed", differing(), 0);
+    SCRATCHED(tb_replaced, tb_spare_replace(shape, r, words, 128, lent, length, what.block), numbers.of_replacement, SPARES);
+    same("words that a replacement changed", differing(), numbers.of_replacement == TB_ACCEPTED ? 2 : 0);
+}
+
+/* Scratch that is too short, just long enough, and longer, with good and bad tables, numbers and images. */
+static void scratches(void)
+{
+    const uint32_t good[8] = {0, 0, 0, 0, 0x20000007, 0, 0, 0};
+    const uint32_t twice[8] = {0, 0, 0, 0x30000007, 0x20000007, 0, 0, 0};
+    const uint32_t other_code[8] = {0, 0, 0, 0, 0x30000007, 0, 0, 0};
+    const uint32_t full[8] = {0x40000000, 0x40000000, 0x40000000, 0x40000000, 0x20000007, 0x40000000, 0x40000000, 0x40000000};
+
+    const given beyond = {TB_NO_SUCH_BLOCK, TB_NO_SUCH_SECTOR, TB_NO_SUCH_BLOCK, TB_ACCEPTED, TB_NO_SUCH_BLOCK};
+    const given no_spare = {TB_ACCEPTED, TB_ACCEPTED, TB_NO_SPARE, TB_ACCEPTED, TB_ACCEPTED};
+
+    /* Block 7 lies on the spare of place 4, which is sector 13, the fourth of its track. Block 12 and sector 20 are the first that the drive
+     * does not have. */
+    uint8_t *const lying = spare + 3 * TB_IMAGE_SIZE;
+    const asked well = {replacing(), 2, SPARES, 7, 13, TB_TRACK_LENGTH(5)};
+    asked what = well;
+
+    for (uint32_t more = 0; more <= 3; more += 3) {
+        what = well;
+        what.scratch_length = SPARES + more;
+        same("an image of block 7", tb_image_write(7, data, TB_DATA_SIZE, false, lying, TB_IMAGE_SIZE).refusal, TB_ACCEPTED);
+        scratch_in_each_call(good, what, by_all(TB_ACCEPTED));
+        scratch_in_each_call(twice, what, by_all(TB_BAD_TABLE));
+        scratch_in_each_call(other_code, what, by_all(TB_BAD_TABLE));
+        scratch_in_each_call(full, what, no_spare);
+        what.block = 12, what.sector = 20;
+        scratch_in_each_call(good, what, beyond);
+        what.block = 7, what.sector = 13, what.home_length--;
+        scratch_in_each_call(good, what, by_reads(TB_WRONG_LENGTH));
+        what.home_length++;
+        lying[0]++, lying[4]++;
+        scratch_in_each_call(good, what, by_reads(TB_NO_ADDRESS));
+        lying[8]++;
+        scratch_in_each_call(good, what, by_reads(TB_OTHER_BLOCK));
+        same("a forced image of block 7", tb_image_write(7, data, TB_DATA_SIZE, true, lying, TB_IMAGE_SIZE).refusal, TB_ACCEPTED);
+        scratch_in_each_call(good, what, by_reads(TB_FORCED_ERROR));
+        lying[TB_HEADER_SIZE]++;
+        scratch_in_each_call(good, what, by_reads(TB_BAD_CODE));
+    }
+
+    /* One number too few. */
+    what = well;
+    what.scratch_length = SPARES - 1;
+    scratch_in_each_call(good, what, by_all(TB_NO_ROOM));
+    scratch_in_each_call(twice, what, by_all(TB_NO_ROOM));
+    scratch_in_each_call(other_code, what, by_all(TB_NO_ROOM));
+    what.block = 12, what.sector = 20;
+    scratch_in_each_call(good, what, by_all(TB_NO_ROOM));
+
+    /* A drive with too many spares and no scratch, and an r out of its range with scratch. */
+    what.shape = too_many_spares(), what.r = 1, what.scratch_length = 0;
+    scratch_in_each_call(good, what, by_all(TB_OUT_OF_RANGE));
+    what = well;
+    what.r = 5;
+    scratch_in_each_call(good, what, by_all(TB_OUT_OF_RANGE));
 }
 
 /* Each refusal number once, by its name and by its number. */
@@ -562,12 +820,12 @@ static void refusals(void)
     same("its number", TB_STRAY_CURSOR, number++);
     same("TB_BAD_OPTION", format(0, 0, 1), TB_BAD_OPTION);
     same("its number", TB_BAD_OPTION, number++);
-    same("TB_BAD_TABLE", tb_spare_census(shape, 1, places, 128).refusal, TB_BAD_TABLE);
+    same("TB_BAD_TABLE", tb_spare_census(shape, 1, places, 128, scratch, 1).refusal, TB_BAD_TABLE);
     same("its number", TB_BAD_TABLE, number++);
     same("a first table", tb_spare_first(shape, 1, NULL, 0, words, 128).refusal, TB_ACCEPTED);
-    same("the only spare", tb_spare_replace(shape, 1, words, 128, 0).refusal, TB_ACCEPTED);
+    same("the only spare", tb_spare_replace(shape, 1, words, 128, scratch, 1, 0).refusal, TB_ACCEPTED);
     number++; /* 12 is no longer given, so that no name has it. */
-    same("TB_NO_SPARE", tb_spare_replace(shape, 1, words, 128, 1).refusal, TB_NO_SPARE);
+    same("TB_NO_SPARE", tb_spare_replace(shape, 1, words, 128, scratch, 1, 1).refusal, TB_NO_SPARE);
     same("its number", TB_NO_SPARE, number++);
     same("TB_WRONG_LENGTH", tb_image_header(image, 1).refusal, TB_WRONG_LENGTH);
     same("its number", TB_WRONG_LENGTH, number++);
@@ -607,25 +865,34 @@ static void nothing_lent(void)
     tb_formatted formatted = tb_format(20, NULL, 0, NULL, 0, 3, 1, NULL, 0, NULL, 0, NULL, 0);
     same("tb_format p, g, d, grown and list", formatted.refusal, TB_ACCEPTED);
     same("tb_format space", formatted.space, 3);
-    same("tb_spare_sector table", tb_spare_sector(shape, 2, NULL, 0, 0).refusal, TB_BAD_TABLE);
-    same("tb_spare_address table", tb_spare_address(shape, 2, NULL, 0, 0).refusal, TB_BAD_TABLE);
-    same("tb_spare_shift table", tb_spare_shift(shape, 2, NULL, 0, 0).refusal, TB_BAD_TABLE);
-    same("tb_spare_block table", tb_spare_block(shape, 2, NULL, 0, 0).refusal, TB_BAD_TABLE);
-    same("tb_spare_block_at table", tb_spare_block_at(shape, 2, NULL, 0, 0, 0, 0).refusal, TB_BAD_TABLE);
-    same("tb_spare_replace table", tb_spare_replace(shape, 2, NULL, 0, 0).refusal, TB_BAD_TABLE);
-    same("tb_spare_census table", tb_spare_census(shape, 2, NULL, 0).refusal, TB_BAD_TABLE);
+    same("tb_spare_sector table", tb_spare_sector(shape, 2, NULL, 0, scratch, SPARES, 0).refusal, TB_BAD_TABLE);
+    same("tb_spare_sector scratch", tb_spare_sector(shape, 2, words, 128, NULL, 0, 0).refusal, TB_NO_ROOM);
+    same("tb_spare_address table", tb_spare_address(shape, 2, NULL, 0, scratch, SPARES, 0).refusal, TB_BAD_TABLE);
+    same("tb_spare_address scratch", tb_spare_address(shape, 2, words, 128, NULL, 0, 0).refusal, TB_NO_ROOM);
+    same("tb_spare_shift table", tb_spare_shift(shape, 2, NULL, 0, scratch, SPARES, 0).refusal, TB_BAD_TABLE);
+    same("tb_spare_shift scratch", tb_spare_shift(shape, 2, words, 128, NULL, 0, 0).refusal, TB_NO_ROOM);
+    same("tb_spare_block table", tb_spare_block(shape, 2, NULL, 0, scratch, SPARES, 0).refusal, TB_BAD_TABLE);
+    same("tb_spare_block scratch", tb_spare_block(shape, 2, words, 128, NULL, 0, 0).refusal, TB_NO_ROOM);
+    same("tb_spare_block_at table", tb_spare_block_at(shape, 2, NULL, 0, scratch, SPARES, 0, 0, 0).refusal, TB_BAD_TABLE);
+    same("tb_spare_block_at scratch", tb_spare_block_at(shape, 2, words, 128, NULL, 0, 0, 0, 0).refusal, TB_NO_ROOM);
+    same("tb_spare_replace table", tb_spare_replace(shape, 2, NULL, 0, scratch, SPARES, 0).refusal, TB_BAD_TABLE);
+    same("tb_spare_replace scratch", tb_spare_replace(shape, 2, words, 128, NULL, 0, 0).refusal, TB_NO_ROOM);
+    same("tb_spare_census table", tb_spare_census(shape, 2, NULL, 0, scratch, SPARES).refusal, TB_BAD_TABLE);
+    same("tb_spare_census scratch", tb_spare_census(shape, 2, words, 128, NULL, 0).refusal, TB_NO_ROOM);
     same("tb_spare_first list", tb_spare_first(shape, 2, NULL, 0, words, 128).length, 128);
     same("tb_spare_first room", tb_spare_first(shape, 2, NULL, 0, NULL, 0).refusal, TB_NO_ROOM);
     same("tb_image_write data", tb_image_write(0, NULL, 0, false, image, TB_IMAGE_SIZE).refusal, TB_WRONG_LENGTH);
     same("tb_image_write room", tb_image_write(0, data, TB_DATA_SIZE, false, NULL, 0).refusal, TB_NO_ROOM);
     same("tb_image_header image", tb_image_header(NULL, 0).refusal, TB_WRONG_LENGTH);
     same("tb_image_judge image", tb_image_judge(NULL, 0, 0).refusal, TB_WRONG_LENGTH);
-    same("tb_read_judge table", tb_read_judge(shape, 2, NULL, 0, 0, home, TB_TRACK_LENGTH(5), spare, TB_TRACK_LENGTH(5)).refusal, TB_BAD_TABLE);
-    same("tb_read_judge home", tb_read_judge(shape, 2, words, 128, 0, NULL, 0, spare, TB_TRACK_LENGTH(5)).refusal, TB_WRONG_LENGTH);
-    same("tb_read_judge spare", tb_read_judge(shape, 2, words, 128, 0, home, TB_TRACK_LENGTH(5), NULL, 0).refusal, TB_WRONG_LENGTH);
-    same("tb_read_data table", tb_read_data(shape, 2, NULL, 0, 0, home, TB_TRACK_LENGTH(5), spare, TB_TRACK_LENGTH(5)).refusal, TB_BAD_TABLE);
-    same("tb_read_data home", tb_read_data(shape, 2, words, 128, 0, NULL, 0, spare, TB_TRACK_LENGTH(5)).refusal, TB_WRONG_LENGTH);
-    same("tb_read_data spare", tb_read_data(shape, 2, words, 128, 0, home, TB_TRACK_LENGTH(5), NULL, 0).refusal, TB_WRONG_LENGTH);
+    same("tb_read_judge table", tb_read_judge(shape, 2, NULL, 0, scratch, SPARES, 0, home, TB_TRACK_LENGTH(5), spare, TB_TRACK_LENGTH(5)).refusal, TB_BAD_TABLE);
+    same("tb_read_judge scratch", tb_read_judge(shape, 2, words, 128, NULL, 0, 0, home, TB_TRACK_LENGTH(5), spare, TB_TRACK_LENGTH(5)).refusal, TB_NO_ROOM);
+    same("tb_read_judge home", tb_read_judge(shape, 2, words, 128, scratch, SPARES, 0, NULL, 0, spare, TB_TRACK_LENGTH(5)).refusal, TB_WRONG_LENGTH);
+    same("tb_read_judge spare", tb_read_judge(shape, 2, words, 128, scratch, SPARES, 0, home, TB_TRACK_LENGTH(5), NULL, 0).refusal, TB_WRONG_LENGTH);
+    same("tb_read_data table", tb_read_data(shape, 2, NULL, 0, scratch, SPARES, 0, home, TB_TRACK_LENGTH(5), spare, TB_TRACK_LENGTH(5)).refusal, TB_BAD_TABLE);
+    same("tb_read_data scratch", tb_read_data(shape, 2, words, 128, NULL, 0, 0, home, TB_TRACK_LENGTH(5), spare, TB_TRACK_LENGTH(5)).refusal, TB_NO_ROOM);
+    same("tb_read_data home", tb_read_data(shape, 2, words, 128, scratch, SPARES, 0, NULL, 0, spare, TB_TRACK_LENGTH(5)).refusal, TB_WRONG_LENGTH);
+    same("tb_read_data spare", tb_read_data(shape, 2, words, 128, scratch, SPARES, 0, home, TB_TRACK_LENGTH(5), NULL, 0).refusal, TB_WRONG_LENGTH);
 }
 
 int main(void)
@@ -637,8 +904,12 @@ int main(void)
     fields();
     angles();
     limits();
+    lists();
+    customers_drive();
+    largest_drive();
     groups();
     replacements();
+    scratches();
     refusals();
     nothing_lent();
 #ifdef __cplusplus

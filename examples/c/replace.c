@@ -8,15 +8,20 @@
 #include "tautberry.h"
 
 enum { CYLINDERS = 2, HEADS = 2, SECTORS = 5, SPARES_OF_TRACK = 2 };
-enum { HOMES_OF_TRACK = SECTORS - SPARES_OF_TRACK, TRACKS = CYLINDERS * HEADS };
+enum { HOMES_OF_TRACK = SECTORS - SPARES_OF_TRACK, TRACKS = CYLINDERS * HEADS, SPARES = TRACKS * SPARES_OF_TRACK };
 
 /* Each head is a group of its own. Under the second one the angle of a sector is not the sector. */
 enum { GROUPS = 2, TRACKS_OF_GROUP = HEADS / GROUPS, OFFSET = 2 };
 
 static const tb_shape shape = {CYLINDERS, HEADS, SECTORS, GROUPS, TRACKS_OF_GROUP, OFFSET};
 static const uint32_t r = SPARES_OF_TRACK;
-static uint32_t table[TB_TABLE_LENGTH(TRACKS * SPARES_OF_TRACK)];
+static uint32_t table[TB_TABLE_LENGTH(SPARES)];
 static const size_t table_length = sizeof table / sizeof table[0];
+
+/* Each call that is lent the table is lent scratch for the table's check. It has one number for each spare, so it is shorter than the table, which
+ * has whole table blocks. Between calls nothing is kept in it: one scratch serves every call, and any drive with no more spares. */
+static uint32_t scratch[SPARES];
+static const size_t scratch_length = sizeof scratch / sizeof scratch[0];
 
 static uint8_t tracks[TRACKS][TB_TRACK_LENGTH(SECTORS)];
 static const size_t track_length = sizeof tracks[0];
@@ -45,7 +50,7 @@ static void write_drive(const char *text)
     uint8_t data[TB_DATA_SIZE];
     fill(data, text);
     for (uint32_t sector = 0; sector < TRACKS * SECTORS; sector++) {
-        tb_named lying = tb_spare_block(shape, r, table, table_length, sector);
+        tb_named lying = tb_spare_block(shape, r, table, table_length, scratch, scratch_length, sector);
         uint8_t *image = &tracks[sector / SECTORS][sector % SECTORS * TB_IMAGE_SIZE];
         tb_written written = tb_image_write(lying.block, data, sizeof data, lying.found == 0, image, TB_IMAGE_SIZE);
         must(lying.refusal == TB_ACCEPTED && written.refusal == TB_ACCEPTED, "every sector of the drive can be written");
@@ -54,8 +59,8 @@ static void write_drive(const char *text)
 
 static void replace(uint32_t block, uint32_t place, uint32_t descriptor, int32_t shift)
 {
-    tb_replaced replaced = tb_spare_replace(shape, r, table, table_length, block);
-    tb_shifted shifted = tb_spare_shift(shape, r, table, table_length, block);
+    tb_replaced replaced = tb_spare_replace(shape, r, table, table_length, scratch, scratch_length, block);
+    tb_shifted shifted = tb_spare_shift(shape, r, table, table_length, scratch, scratch_length, block);
     printf("  block %" PRIu32 " goes to place %" PRIu32 ", descriptor %08" PRIX32 ", shift %+" PRId32 "\n", block, replaced.place, table[replaced.place], shifted.shift);
     must(replaced.refusal == TB_ACCEPTED && replaced.place == place, "the place of a replaced block");
     must(table[place] == descriptor, "the descriptor of a replaced block");
@@ -64,7 +69,7 @@ static void replace(uint32_t block, uint32_t place, uint32_t descriptor, int32_t
 
 static void census(uint32_t free_places, uint32_t unusable)
 {
-    tb_counted counted = tb_spare_census(shape, r, table, table_length);
+    tb_counted counted = tb_spare_census(shape, r, table, table_length, scratch, scratch_length);
     printf("  %" PRIu32 " spares free, %" PRIu32 " taken as a block's primary, %" PRIu32 " as another, %" PRIu32 " unusable\n", counted.free, counted.primary, counted.elsewhere, counted.unusable);
     must(counted.refusal == TB_ACCEPTED && counted.free == free_places, "the number of free spares");
     must(counted.unusable == unusable, "the number of unusable spares");
@@ -74,7 +79,7 @@ static void census(uint32_t free_places, uint32_t unusable)
 /* Says where a block lies. Its address leads back to its sector number. */
 static void locate(uint32_t block, uint32_t sector, uint32_t angle)
 {
-    tb_located located = tb_spare_address(shape, r, table, table_length, block);
+    tb_located located = tb_spare_address(shape, r, table, table_length, scratch, scratch_length, block);
     tb_placed placed = tb_shape_sector(shape, located.address.cylinder, located.address.head, located.address.sector);
     printf("  block %" PRIu32 " lies at cylinder %" PRIu32 ", head %" PRIu32 ", sector %" PRIu32 ", angle %" PRIu32 ": sector number %" PRIu32 "\n",
            block, located.address.cylinder, located.address.head, located.address.sector, located.address.angle, placed.sector);
@@ -85,11 +90,11 @@ static void locate(uint32_t block, uint32_t sector, uint32_t angle)
 /* Reads a block from the images of its home track and of the track that it lies on now. */
 static uint32_t read_block(uint32_t block, const char *text)
 {
-    tb_located now = tb_spare_address(shape, r, table, table_length, block);
+    tb_located now = tb_spare_address(shape, r, table, table_length, scratch, scratch_length, block);
     const uint8_t *home = tracks[block / HOMES_OF_TRACK];
     const uint8_t *spare = tracks[now.address.cylinder * HEADS + now.address.head];
-    tb_judged judged = tb_read_judge(shape, r, table, table_length, block, home, track_length, spare, track_length);
-    tb_spotted spotted = tb_read_data(shape, r, table, table_length, block, home, track_length, spare, track_length);
+    tb_judged judged = tb_read_judge(shape, r, table, table_length, scratch, scratch_length, block, home, track_length, spare, track_length);
+    tb_spotted spotted = tb_read_data(shape, r, table, table_length, scratch, scratch_length, block, home, track_length, spare, track_length);
     must(judged.refusal == spotted.refusal, "verdict and data refuse alike");
     if (spotted.refusal != TB_ACCEPTED) {
         printf("  block %" PRIu32 " is refused %" PRIu32 "\n", block, spotted.refusal);
@@ -108,11 +113,15 @@ int main(void)
 {
     printf("A drive of %d cylinders, %d heads and %d sectors a track, the last %d of them spares: %d blocks.\n", CYLINDERS, HEADS, SECTORS, SPARES_OF_TRACK, TRACKS * HOMES_OF_TRACK);
     printf("Its heads are %d groups with %d track each, and each group starts %d sectors after the one before it.\n", GROUPS, TRACKS_OF_GROUP, OFFSET);
+    printf("It has %d spares: its table has %d descriptors, and the scratch of a call %d numbers.\n", SPARES, (int)table_length, (int)scratch_length);
 
     puts("Its first table, with no bad sector known:");
     tb_written first = tb_spare_first(shape, r, NULL, 0, table, table_length);
     must(first.refusal == TB_ACCEPTED && first.length == table_length, "the first table");
-    census(8, 0);
+    tb_counted refused = tb_spare_census(shape, r, table, table_length, scratch, scratch_length - 1);
+    printf("  with one number of scratch fewer a census is refused %" PRIu32 "\n", refused.refusal);
+    must(refused.refusal == TB_NO_ROOM, "scratch that is too short is refused");
+    census(SPARES, 0);
     locate(6, 10, 0);
     write_drive("Monday's log");
     must(read_block(6, "Monday's log") == TB_ACCEPTED, "block 6 reads well at home");
@@ -150,7 +159,7 @@ int main(void)
     must(memcmp(after, table, sizeof table) == 0, "the old spare is unusable, and no other place has changed");
     census(4, 1);
     locate(6, 18, 0);
-    tb_named left = tb_spare_block(shape, r, table, table_length, 9);
+    tb_named left = tb_spare_block(shape, r, table, table_length, scratch, scratch_length, 9);
     must(left.refusal == TB_ACCEPTED && left.found == 0, "no block lies on the old spare");
 
     puts("It is written on its new spare:");

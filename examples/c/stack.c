@@ -12,8 +12,9 @@
 
 #include "tautberry.h"
 
-/* A drive with as many spares as there may be, one to a track, and as many sectors to a track as there may be. */
-enum { TRACKS = TB_SPARES_MOST, SECTORS = TB_SECTORS_MOST, HOMES = SECTORS - 1 };
+/* A drive with as many spares as there may be, one to a track, as many cylinders, and as many sectors to a track. */
+enum { CYLINDERS = TB_CYLINDERS_MOST, HEADS = TB_SPARES_MOST / TB_CYLINDERS_MOST, TRACKS = CYLINDERS * HEADS };
+enum { SECTORS = TB_SECTORS_MOST, HOMES = SECTORS - 1 };
 
 /* A block on the last spare. Each spare but one has a block of its own track. */
 enum { ON_SPARE = HOMES * (TRACKS - 1) + 1 };
@@ -24,7 +25,7 @@ enum { AT_HOME = HOMES * TB_TABLE_BLOCK, FREE_PLACE = TB_TABLE_BLOCK - 1 };
 
 /* What is lent. */
 static uint32_t list[TB_LIST_MOST + 1], bad[TB_LIST_MOST + 1], p[TB_LIST_MOST + 1], g[TB_LIST_MOST + 1], d[TB_LIST_MOST + 1];
-static uint32_t table[TB_SPARES_MOST];
+static uint32_t table[TRACKS];
 static uint8_t page[TB_PAGE_MOST], data[TB_DATA_SIZE], home[TB_TRACK_LENGTH(SECTORS)], spare[TB_TRACK_LENGTH(SECTORS)];
 static size_t list_length, bad_length, p_length, g_length, d_length, table_length, page_length, data_length, home_length, spare_length;
 
@@ -33,9 +34,13 @@ static uint8_t *const image = spare + HOMES * TB_IMAGE_SIZE;
 static size_t image_length;
 
 /* The rooms. */
-static uint32_t entries[TB_LIST_MOST], grown[TB_LIST_MOST], merged[TB_LIST_MOST], first[TB_SPARES_MOST];
+static uint32_t entries[TB_LIST_MOST], grown[TB_LIST_MOST], merged[TB_LIST_MOST], first[TRACKS];
 static uint8_t page_written[TB_PAGE_MOST], image_written[TB_IMAGE_SIZE];
 static size_t entries_room, grown_room, merged_room, first_room, page_room, image_room;
+
+/* The scratch, which is lent like the rest and so takes none of the stack. */
+static uint32_t scratch[TRACKS];
+static size_t scratch_length;
 
 /* The numbers that go with it. `unit` and `unit_block` are asked for on a drive of n sectors. */
 static uint32_t n, unit, unit_block, skipped_block, r, block, replaced, cylinder, head, in_track, sector, kind, space, option;
@@ -47,21 +52,23 @@ static bool forced;
 static bool lay(unsigned situation)
 {
     n = TB_UNITS_MOST, unit = n - 1, unit_block = n - TB_LIST_MOST - 1;
-    shape.cylinders = TRACKS, shape.heads = shape.groups = shape.tracks = 1, shape.sectors = SECTORS, shape.offset = 0, r = 1;
-    cylinder = TRACKS - 1, head = 0, in_track = 0, sector = SECTORS * cylinder, skipped_block = TRACKS * SECTORS - TB_LIST_MOST - 1;
+    shape.cylinders = CYLINDERS, shape.heads = shape.tracks = HEADS, shape.groups = 1, shape.sectors = SECTORS, shape.offset = 0, r = 1;
+    cylinder = CYLINDERS - 1, head = HEADS - 1, in_track = 0, sector = SECTORS * (TRACKS - 1), skipped_block = TRACKS * SECTORS - TB_LIST_MOST - 1;
     block = ON_SPARE, replaced = AT_HOME, kind = 1, space = 3, option = 1, forced = false;
     cursor.block = unit_block, cursor.skipped = TB_LIST_MOST;
+    /* Two homes of the first track are bad, and one of each track after it but the last. So each bad home but the first takes the spare of the
+     * track after its own, and at the end of a table block its search goes on in the next one. */
     for (uint32_t i = 0; i <= TB_LIST_MOST; i++) {
-        list[i] = bad[i] = 2 * i, p[i] = 4 * i, g[i] = 4 * i + 1, d[i] = i;
+        list[i] = 2 * i, bad[i] = i < 2 ? i : SECTORS * (i - 1), p[i] = 4 * i, g[i] = 4 * i + 1, d[i] = i;
     }
-    list_length = TB_LIST_MOST, bad_length = TB_SPARES_MOST;
+    list_length = bad_length = TB_LIST_MOST;
     p_length = g_length = TB_LIST_MOST / 4, d_length = TB_LIST_MOST / 2;
-    for (uint32_t place = 0; place < TB_SPARES_MOST; place++) {
+    for (uint32_t place = 0; place < TRACKS; place++) {
         table[place] = place == FREE_PLACE ? 0 : 0x20000000u + HOMES * place + 1;
     }
-    table_length = TB_SPARES_MOST, page_length = sizeof page, data_length = sizeof data;
+    table_length = scratch_length = TRACKS, page_length = sizeof page, data_length = sizeof data;
     image_length = TB_IMAGE_SIZE, home_length = sizeof home, spare_length = sizeof spare;
-    entries_room = grown_room = merged_room = TB_LIST_MOST, first_room = TB_SPARES_MOST, page_room = sizeof page_written, image_room = TB_IMAGE_SIZE;
+    entries_room = grown_room = merged_room = TB_LIST_MOST, first_room = TRACKS, page_room = sizeof page_written, image_room = TB_IMAGE_SIZE;
     tb_page_write(n, kind, list, list_length, page, sizeof page);
     tb_image_write(AT_HOME, data, sizeof data, false, home, TB_IMAGE_SIZE);
     tb_image_write(ON_SPARE, data, sizeof data, false, image, TB_IMAGE_SIZE);
@@ -69,10 +76,10 @@ static bool lay(unsigned situation)
     switch (situation) {
     case 0: return true; /* all is well */
     case 1: /* and otherwise, with groups */
-        shape.cylinders = TRACKS / 2, shape.heads = shape.groups = 2, shape.offset = SECTORS - 1, cylinder = TRACKS / 2 - 1, head = 1;
+        shape.groups = HEADS, shape.tracks = 1, shape.offset = SECTORS - 1;
         block = AT_HOME, sector += HOMES, in_track = HOMES, forced = true, kind = 0, option = 6, d_length = 0; return true;
     case 2: n = 0, shape.sectors = TB_SECTORS_LEAST - 1; return true;
-    case 3: n = TB_UNITS_MOST + 1, shape.cylinders = TB_SPARES_MOST + 1; return true; /* a drive with one spare too many */
+    case 3: n = TB_UNITS_MOST + 1, shape.cylinders = 1986, shape.heads = shape.tracks = 33; return true; /* a drive with two spares too many */
     case 4: r = SECTORS; return true;
     case 5: list_length = bad_length = p_length = TB_LIST_MOST + 1; return true;
     case 6: p_length = g_length = TB_LIST_MOST / 2 + 1; return true;      /* the list in use is too long */
@@ -99,12 +106,12 @@ static bool lay(unsigned situation)
     case 27: option = TB_OPTION_MOST + 1; return true;
     case 28: space = TB_SPACE_MOST + 1; return true;
     case 29: option = 0; return true; /* and a list comes with it */
-    case 30: entries_room--, page_room--, first_room--, image_room--, grown_room = g_length + d_length - 1; return true;
+    case 30: entries_room--, page_room--, first_room--, image_room--, scratch_length--, grown_room = g_length + d_length - 1; return true;
     case 31: merged_room--; return true;
     case 32: table_length--; return true;
     case 33: table[table_length - 1] = 0x30000000u + HOMES * (TRACKS - 2) + 1; return true; /* a block that occurs twice */
     case 34: replaced = AT_HOME + 1; return true; /* a block that lies on a spare */
-    case 35: table[FREE_PLACE] = 0x20000000u + HOMES * FREE_PLACE + 1, bad_length++; return true; /* no spare is left */
+    case 35: table[FREE_PLACE] = 0x20000000u + HOMES * FREE_PLACE + 1; return true; /* no spare is left */
     case 36: data_length--, image_length--, home_length--; return true;
     case 37: spare_length--; return true;
     case 38: image[TB_HEADER_SIZE - 1]++, image[TB_HEADER_SIZE - 5]++; return true; /* two copies against two */
@@ -116,6 +123,7 @@ static bool lay(unsigned situation)
     case 44: shape.groups++; return true; /* more tracks than heads */
     case 45: shape.offset = SECTORS; return true;
     case 46: table[FREE_PLACE] = 0x40000000u, replaced = AT_HOME + 1; return true; /* no spare is left for a block that lies on one */
+    case 47: shape.cylinders--, memcpy(bad, list, sizeof bad); return true; /* more bad homes than spares */
     default: return false;
     }
 }
@@ -135,24 +143,24 @@ static void skipped_block_at(void) { refusal = tb_skipped_block(shape, list, lis
 static void page_read(void) { refusal = tb_page_read(page, page_length, entries, entries_room).refusal; }
 static void page_write(void) { refusal = tb_page_write(n, kind, list, list_length, page_written, page_room).refusal; }
 static void format(void) { refusal = tb_format(n, p, p_length, g, g_length, space, option, d, d_length, grown, grown_room, merged, merged_room).refusal; }
-static void spare_sector(void) { refusal = tb_spare_sector(shape, r, table, table_length, block).refusal; }
-static void spare_address(void) { refusal = tb_spare_address(shape, r, table, table_length, block).refusal; }
-static void spare_shift(void) { refusal = tb_spare_shift(shape, r, table, table_length, block).refusal; }
-static void spare_block(void) { refusal = tb_spare_block(shape, r, table, table_length, sector).refusal; }
-static void spare_block_at(void) { refusal = tb_spare_block_at(shape, r, table, table_length, cylinder, head, in_track).refusal; }
-static void spare_replace(void) { refusal = tb_spare_replace(shape, r, table, table_length, replaced).refusal; }
-static void spare_census(void) { refusal = tb_spare_census(shape, r, table, table_length).refusal; }
+static void spare_sector(void) { refusal = tb_spare_sector(shape, r, table, table_length, scratch, scratch_length, block).refusal; }
+static void spare_address(void) { refusal = tb_spare_address(shape, r, table, table_length, scratch, scratch_length, block).refusal; }
+static void spare_shift(void) { refusal = tb_spare_shift(shape, r, table, table_length, scratch, scratch_length, block).refusal; }
+static void spare_block(void) { refusal = tb_spare_block(shape, r, table, table_length, scratch, scratch_length, sector).refusal; }
+static void spare_block_at(void) { refusal = tb_spare_block_at(shape, r, table, table_length, scratch, scratch_length, cylinder, head, in_track).refusal; }
+static void spare_replace(void) { refusal = tb_spare_replace(shape, r, table, table_length, scratch, scratch_length, replaced).refusal; }
+static void spare_census(void) { refusal = tb_spare_census(shape, r, table, table_length, scratch, scratch_length).refusal; }
 static void spare_first(void) { refusal = tb_spare_first(shape, r, bad, bad_length, first, first_room).refusal; }
 static void image_write(void) { refusal = tb_image_write(block, data, data_length, forced, image_written, image_room).refusal; }
 static void image_header(void) { refusal = tb_image_header(image, image_length).refusal; }
 static void image_judge(void) { refusal = tb_image_judge(image, image_length, block).refusal; }
-static void read_judge(void) { refusal = tb_read_judge(shape, r, table, table_length, block, home, home_length, spare, spare_length).refusal; }
-static void read_data(void) { refusal = tb_read_data(shape, r, table, table_length, block, home, home_length, spare, spare_length).refusal; }
+static void read_judge(void) { refusal = tb_read_judge(shape, r, table, table_length, scratch, scratch_length, block, home, home_length, spare, spare_length).refusal; }
+static void read_data(void) { refusal = tb_read_data(shape, r, table, table_length, scratch, scratch_length, block, home, home_length, spare, spare_length).refusal; }
 
 /* Each call, and the refusals that the header names for it. */
 #define NO(name) (1u << TB_##name)
 #define NO_LIST (NO(TOO_LONG) | NO(NOT_RISING) | NO(OUTSIDE))
-#define NO_TABLE (NO(OUT_OF_RANGE) | NO(BAD_TABLE))
+#define NO_TABLE (NO(OUT_OF_RANGE) | NO(NO_ROOM) | NO(BAD_TABLE))
 #define NO_IMAGE (NO(WRONG_LENGTH) | NO(NO_ADDRESS))
 #define NO_DATA (NO_IMAGE | NO(OTHER_BLOCK) | NO(FORCED_ERROR) | NO(BAD_CODE))
 

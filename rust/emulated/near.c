@@ -17,7 +17,7 @@
 
 extern char **environ;
 
-/* A lent slice; `room` is null where it is lent to be read. */
+/* A lent slice; `room` is null where it is lent to be read. Scratch is lent as a room is. */
 struct slice {
     const void *lent;
     void *room;
@@ -201,57 +201,60 @@ tb_formatted tb_format(uint32_t n, const uint32_t *p, size_t p_length, const uin
     RETURN(tb_formatted, FORMAT);
 }
 
-tb_placed tb_spare_sector(tb_shape shape, uint32_t r, const uint32_t *table, size_t table_length, uint32_t
-                          block)
+tb_placed tb_spare_sector(tb_shape shape, uint32_t r, const uint32_t *table, size_t table_length,
+                          uint32_t *scratch, size_t scratch_length, uint32_t block)
 {
     uint32_t numbers[] = {SHAPE, r, block};
-    struct slice slices[] = {READ(table, table_length)};
+    struct slice slices[] = {READ(table, table_length), ROOM(scratch, scratch_length)};
     RETURN(tb_placed, SPARE_SECTOR);
 }
 
-tb_located tb_spare_address(tb_shape shape, uint32_t r, const uint32_t *table, size_t table_length, uint32_t
-                            block)
+tb_located tb_spare_address(tb_shape shape, uint32_t r, const uint32_t *table, size_t table_length,
+                            uint32_t *scratch, size_t scratch_length, uint32_t block)
 {
     uint32_t numbers[] = {SHAPE, r, block};
-    struct slice slices[] = {READ(table, table_length)};
+    struct slice slices[] = {READ(table, table_length), ROOM(scratch, scratch_length)};
     RETURN(tb_located, SPARE_ADDRESS);
 }
 
-tb_shifted tb_spare_shift(tb_shape shape, uint32_t r, const uint32_t *table, size_t table_length, uint32_t
-                          block)
+tb_shifted tb_spare_shift(tb_shape shape, uint32_t r, const uint32_t *table, size_t table_length,
+                          uint32_t *scratch, size_t scratch_length, uint32_t block)
 {
     uint32_t numbers[] = {SHAPE, r, block};
-    struct slice slices[] = {READ(table, table_length)};
+    struct slice slices[] = {READ(table, table_length), ROOM(scratch, scratch_length)};
     RETURN(tb_shifted, SPARE_SHIFT);
 }
 
-tb_named tb_spare_block(tb_shape shape, uint32_t r, const uint32_t *table, size_t table_length, uint32_t
-                        sector)
+tb_named tb_spare_block(tb_shape shape, uint32_t r, const uint32_t *table, size_t table_length,
+                        uint32_t *scratch, size_t scratch_length, uint32_t sector)
 {
     uint32_t numbers[] = {SHAPE, r, sector};
-    struct slice slices[] = {READ(table, table_length)};
+    struct slice slices[] = {READ(table, table_length), ROOM(scratch, scratch_length)};
     RETURN(tb_named, SPARE_BLOCK);
 }
 
-tb_named tb_spare_block_at(tb_shape shape, uint32_t r, const uint32_t *table, size_t table_length, uint32_t
-                           cylinder, uint32_t head, uint32_t sector)
+tb_named tb_spare_block_at(tb_shape shape, uint32_t r, const uint32_t *table, size_t table_length,
+                           uint32_t *scratch, size_t scratch_length, uint32_t cylinder, uint32_t head,
+                           uint32_t sector)
 {
     uint32_t numbers[] = {SHAPE, r, cylinder, head, sector};
-    struct slice slices[] = {READ(table, table_length)};
+    struct slice slices[] = {READ(table, table_length), ROOM(scratch, scratch_length)};
     RETURN(tb_named, SPARE_BLOCK_AT);
 }
 
-tb_replaced tb_spare_replace(tb_shape shape, uint32_t r, uint32_t *table, size_t table_length, uint32_t block)
+tb_replaced tb_spare_replace(tb_shape shape, uint32_t r, uint32_t *table, size_t table_length,
+                             uint32_t *scratch, size_t scratch_length, uint32_t block)
 {
     uint32_t numbers[] = {SHAPE, r, block};
-    struct slice slices[] = {ROOM(table, table_length)};
+    struct slice slices[] = {ROOM(table, table_length), ROOM(scratch, scratch_length)};
     RETURN(tb_replaced, SPARE_REPLACE);
 }
 
-tb_counted tb_spare_census(tb_shape shape, uint32_t r, const uint32_t *table, size_t table_length)
+tb_counted tb_spare_census(tb_shape shape, uint32_t r, const uint32_t *table, size_t table_length,
+                           uint32_t *scratch, size_t scratch_length)
 {
     uint32_t numbers[] = {SHAPE, r};
-    struct slice slices[] = {READ(table, table_length)};
+    struct slice slices[] = {READ(table, table_length), ROOM(scratch, scratch_length)};
     RETURN(tb_counted, SPARE_CENSUS);
 }
 
@@ -285,20 +288,20 @@ tb_judged tb_image_judge(const uint8_t *image, size_t image_length, uint32_t blo
     RETURN(tb_judged, IMAGE_JUDGE);
 }
 
-tb_judged tb_read_judge(tb_shape shape, uint32_t r, const uint32_t *table, size_t table_length, uint32_t
-                        block, const uint8_t *home, size_t home_length, const uint8_t *spare, size_t
-                        spare_length)
+tb_judged tb_read_judge(tb_shape shape, uint32_t r, const uint32_t *table, size_t table_length,
+                        uint32_t *scratch, size_t scratch_length, uint32_t block, const uint8_t *home,
+                        size_t home_length, const uint8_t *spare, size_t spare_length)
 {
     uint32_t numbers[] = {SHAPE, r, block};
-    struct slice slices[] = {READ(table, table_length), READ(home, home_length), READ(spare, spare_length)};
+    struct slice slices[] = {READ(table, table_length), ROOM(scratch, scratch_length), READ(home, home_length), READ(spare, spare_length)};
     RETURN(tb_judged, READ_JUDGE);
 }
 
-tb_spotted tb_read_data(tb_shape shape, uint32_t r, const uint32_t *table, size_t table_length, uint32_t
-                        block, const uint8_t *home, size_t home_length, const uint8_t *spare, size_t
-                        spare_length)
+tb_spotted tb_read_data(tb_shape shape, uint32_t r, const uint32_t *table, size_t table_length,
+                        uint32_t *scratch, size_t scratch_length, uint32_t block, const uint8_t *home,
+                        size_t home_length, const uint8_t *spare, size_t spare_length)
 {
     uint32_t numbers[] = {SHAPE, r, block};
-    struct slice slices[] = {READ(table, table_length), READ(home, home_length), READ(spare, spare_length)};
+    struct slice slices[] = {READ(table, table_length), ROOM(scratch, scratch_length), READ(home, home_length), READ(spare, spare_length)};
     RETURN(tb_spotted, READ_DATA);
 }

@@ -64,7 +64,7 @@ pub fn data(image: &[u8], block: u32) -> Answer<&[u8]> {
     Ok(&image[16..528])
 }
 
-/// What a read of a revectored block is given.
+/// What a read of a revectored block is given beside its scratch.
 #[derive(Clone, Copy)]
 pub struct Read<'a> {
     pub shape: Shape,
@@ -75,9 +75,9 @@ pub struct Read<'a> {
     pub spare: &'a [u8],
 }
 
-/// The image that the block lies on (0 home, 1 spare) and the sector in it: checks 1, 11, 5 and 14.
-fn image_and_sector(read: Read) -> Answer<(u32, u32)> {
-    let drive = checked_block(read.shape, read.r, read.table, read.block)?;
+/// The image that the block lies on (0 home, 1 spare) and the sector in it: checks 1, 7, 11, 5 and 14.
+fn image_and_sector(read: Read, scratch: &mut [u32]) -> Answer<(u32, u32)> {
+    let drive = checked_block(read.shape, read.r, read.table, scratch, read.block)?;
     let track = read.shape.s as usize * 530;
     refuse(read.home.len() != track || read.spare.len() != track, 14)?;
     Ok(match drive.place_of(read.table, read.block) {
@@ -87,21 +87,21 @@ fn image_and_sector(read: Read) -> Answer<(u32, u32)> {
 }
 
 /// Where the data of a good image lie: the image and the offset of the 512 bytes.
-pub fn spot(read: Read) -> Answer<(u32, u32)> {
-    let (image, sector) = image_and_sector(read)?;
+pub fn spot(read: Read, scratch: &mut [u32]) -> Answer<(u32, u32)> {
+    let (image, sector) = image_and_sector(read, scratch)?;
     let track = if image == 0 { read.home } else { read.spare };
     let start = sector as usize * 530;
     judge(&track[start..start + 530], read.block)?;
     Ok((image, sector * 530 + 16))
 }
 
-pub fn judge_read(read: Read) -> Answer<()> {
-    spot(read).map(|_| ())
+pub fn judge_read(read: Read, scratch: &mut [u32]) -> Answer<()> {
+    spot(read, scratch).map(|_| ())
 }
 
 /// The data themselves.
-pub fn read_data<'a>(read: Read<'a>) -> Answer<&'a [u8]> {
-    let (image, offset) = spot(read)?;
+pub fn read_data<'a>(read: Read<'a>, scratch: &mut [u32]) -> Answer<&'a [u8]> {
+    let (image, offset) = spot(read, scratch)?;
     let track = if image == 0 { read.home } else { read.spare };
     Ok(&track[offset as usize..offset as usize + 512])
 }

@@ -5,7 +5,7 @@
 //! nor compiles it. It is slow on purpose: a sector is found by counting, an order is a list.
 //!
 //! Each call answers the paper's numbers or `Err` of the paper's refusal, and writes to a room only
-//! where it accepts.
+//! where it accepts. It needs no scratch, and does to it what the paper says.
 
 // Ranges and remainders stand as the paper has them.
 #![allow(clippy::manual_range_contains, clippy::manual_is_multiple_of)]

@@ -4,8 +4,8 @@
 pub type Answer<T> = Result<T, u32>;
 
 pub const UNITS_MOST: u32 = 16_777_216;
-pub const LIST_MOST: usize = 4_096;
-pub const SPARES_MOST: u32 = 1_024;
+pub const LIST_MOST: usize = 65_536;
+pub const SPARES_MOST: u32 = 65_536;
 
 /// Refuses with `number` where there is a fault.
 pub fn refuse(fault: bool, number: u32) -> Answer<()> {

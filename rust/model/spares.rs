@@ -1,7 +1,10 @@
 //! Descriptors and spares of a revectored drive.
 
+use std::collections::BTreeSet;
+
 use super::numbers::{check_list, fill, refuse, Answer, SPARES_MOST};
 use super::shape::{self, Shape};
+use super::skipping::marks;
 
 pub const FREE: u32 = 0;
 pub const PRIMARY: u32 = 2;
@@ -110,48 +113,74 @@ fn obeys(drive: Drive, place: usize, word: u32) -> bool {
     }
 }
 
+/// Check 7: the scratch has a number for each spare. Each of these is 0 from then on, whatever the call
+/// comes to, and no other number is touched.
+fn take_scratch(drive: Drive, scratch: &mut [u32]) -> Answer<()> {
+    let spares = drive.spares() as usize;
+    refuse(scratch.len() < spares, 7)?;
+    fill(scratch, &vec![0; spares]);
+    Ok(())
+}
+
 /// Check 11: the length, each descriptor, and that no block is named twice.
-pub fn check_table(drive: Drive, table: &[u32]) -> Answer<()> {
+fn check_table(drive: Drive, table: &[u32]) -> Answer<()> {
     refuse(table.len() != drive.table_length(), 11)?;
     for (place, word) in table.iter().enumerate() {
         refuse(!obeys(drive, place, *word), 11)?;
     }
-    let mut times_named = vec![0; drive.blocks() as usize];
-    for word in table {
-        if let Some(block) = allocated(*word) {
-            times_named[block as usize] += 1;
-        }
+    let mut named = BTreeSet::new();
+    for block in table.iter().filter_map(|word| allocated(*word)) {
+        refuse(!named.insert(block), 11)?;
     }
-    refuse(times_named.iter().any(|times| *times > 1), 11)
+    Ok(())
 }
 
-/// Checks 1 and 11.
-fn checked(shape: Shape, r: u32, table: &[u32]) -> Answer<Drive> {
+/// Checks 1, 7 and 11.
+fn checked(shape: Shape, r: u32, table: &[u32], scratch: &mut [u32]) -> Answer<Drive> {
     let drive = drive(shape, r)?;
+    take_scratch(drive, scratch)?;
     check_table(drive, table)?;
     Ok(drive)
 }
 
-/// Checks 1, 11 and 5.
-pub fn checked_block(shape: Shape, r: u32, table: &[u32], block: u32) -> Answer<Drive> {
-    let drive = checked(shape, r, table)?;
+/// Checks 1, 7, 11 and 5.
+pub fn checked_block(
+    shape: Shape,
+    r: u32,
+    table: &[u32],
+    scratch: &mut [u32],
+    block: u32,
+) -> Answer<Drive> {
+    let drive = checked(shape, r, table, scratch)?;
     refuse(block >= drive.blocks(), 5)?;
     Ok(drive)
 }
 
-pub fn sector_of(shape: Shape, r: u32, table: &[u32], block: u32) -> Answer<u32> {
-    let drive = checked_block(shape, r, table, block)?;
+pub fn sector_of(
+    shape: Shape,
+    r: u32,
+    table: &[u32],
+    scratch: &mut [u32],
+    block: u32,
+) -> Answer<u32> {
+    let drive = checked_block(shape, r, table, scratch, block)?;
     Ok(drive.lies_on(table, block))
 }
 
-pub fn address_of(shape: Shape, r: u32, table: &[u32], block: u32) -> Answer<(u32, u32, u32, u32)> {
-    let drive = checked_block(shape, r, table, block)?;
+pub fn address_of(
+    shape: Shape,
+    r: u32,
+    table: &[u32],
+    scratch: &mut [u32],
+    block: u32,
+) -> Answer<(u32, u32, u32, u32)> {
+    let drive = checked_block(shape, r, table, scratch, block)?;
     Ok(shape::located(shape, drive.lies_on(table, block)))
 }
 
 /// From the home's cylinder to the one that the block lies on.
-pub fn shift(shape: Shape, r: u32, table: &[u32], block: u32) -> Answer<i32> {
-    let drive = checked_block(shape, r, table, block)?;
+pub fn shift(shape: Shape, r: u32, table: &[u32], scratch: &mut [u32], block: u32) -> Answer<i32> {
+    let drive = checked_block(shape, r, table, scratch, block)?;
     let (from, _, _) = shape::split(shape, drive.home(block));
     let (to, _, _) = shape::split(shape, drive.lies_on(table, block));
     Ok(to as i32 - from as i32)
@@ -168,8 +197,14 @@ fn named(drive: Drive, table: &[u32], sector: u32) -> Option<u32> {
     lies.iter().position(|on| *on == sector).map(|block| block as u32)
 }
 
-pub fn block_on(shape: Shape, r: u32, table: &[u32], sector: u32) -> Answer<Option<u32>> {
-    let drive = checked(shape, r, table)?;
+pub fn block_on(
+    shape: Shape,
+    r: u32,
+    table: &[u32],
+    scratch: &mut [u32],
+    sector: u32,
+) -> Answer<Option<u32>> {
+    let drive = checked(shape, r, table, scratch)?;
     refuse(sector >= shape::sectors(shape), 6)?;
     Ok(named(drive, table, sector))
 }
@@ -178,30 +213,29 @@ pub fn block_at(
     shape: Shape,
     r: u32,
     table: &[u32],
+    scratch: &mut [u32],
     address: (u32, u32, u32),
 ) -> Answer<Option<u32>> {
-    let drive = checked(shape, r, table)?;
+    let drive = checked(shape, r, table, scratch)?;
     shape::check_address(shape, address)?;
     Ok(named(drive, table, shape::join(shape, address)))
 }
 
 /// Every place of a table in the search order of a primary: outward in its own table block, then the
 /// table blocks after it, then those before it, each rising.
-pub fn search_order(length: usize, primary: usize) -> Vec<usize> {
+pub fn search_order(length: usize, primary: usize) -> impl Iterator<Item = usize> {
     let own = primary / 128;
     let offset = (primary % 128) as i32;
-    let mut order = vec![primary];
+    let mut outward = vec![primary];
     for away in 1..128 {
         for beside in [offset + away, offset - away] {
             if (0..128).contains(&beside) {
-                order.push(own * 128 + beside as usize);
+                outward.push(own * 128 + beside as usize);
             }
         }
     }
-    for block in (own + 1..length / 128).chain(0..own) {
-        order.extend(block * 128..block * 128 + 128);
-    }
-    order
+    let others = (own + 1..length / 128).chain(0..own);
+    outward.into_iter().chain(others.flat_map(|block| block * 128..block * 128 + 128))
 }
 
 /// Writes the block's descriptor at its first free place and answers the place; with none free it
@@ -219,8 +253,14 @@ fn allocate(drive: Drive, table: &mut [u32], block: u32) -> Answer<u32> {
 }
 
 /// The block's new place; the spare that it lay on, if it did, is unusable from then on.
-pub fn replace(shape: Shape, r: u32, table: &mut [u32], block: u32) -> Answer<u32> {
-    let drive = checked_block(shape, r, table, block)?;
+pub fn replace(
+    shape: Shape,
+    r: u32,
+    table: &mut [u32],
+    scratch: &mut [u32],
+    block: u32,
+) -> Answer<u32> {
+    let drive = checked_block(shape, r, table, scratch, block)?;
     let old = drive.place_of(table, block);
     let new = allocate(drive, table, block)?;
     if let Some(old) = old {
@@ -230,8 +270,8 @@ pub fn replace(shape: Shape, r: u32, table: &mut [u32], block: u32) -> Answer<u3
 }
 
 /// How many descriptors have code 0, 2, 3, 4 and 8.
-pub fn census(shape: Shape, r: u32, table: &[u32]) -> Answer<[u32; 5]> {
-    checked(shape, r, table)?;
+pub fn census(shape: Shape, r: u32, table: &[u32], scratch: &mut [u32]) -> Answer<[u32; 5]> {
+    checked(shape, r, table, scratch)?;
     Ok([FREE, PRIMARY, ELSEWHERE, UNUSABLE, NULL]
         .map(|code| table.iter().filter(|word| parts(**word).0 == code).count() as u32))
 }
@@ -250,14 +290,15 @@ pub fn first_table(shape: Shape, r: u32, list: &[u32], room: &mut [u32]) -> Answ
     let drive = drive(shape, r)?;
     check_list(shape::sectors(shape), list)?;
     refuse(room.len() < drive.table_length(), 7)?;
+    let bad = marks(shape::sectors(shape), list);
     let mut table = empty_table(drive);
     for q in 0..drive.spares() {
-        if list.contains(&drive.spare(q)) {
+        if bad[drive.spare(q) as usize] {
             table[q as usize] = word(UNUSABLE, 0);
         }
     }
     for block in 0..drive.blocks() {
-        if list.contains(&drive.home(block)) {
+        if bad[drive.home(block) as usize] {
             allocate(drive, &mut table, block)?;
         }
     }

@@ -2,8 +2,8 @@
 //! fast Rust. A test holds them to the model.
 
 const UNITS_MOST: u32 = 16_777_216;
-const LIST_MOST: usize = 4_096;
-const SPARES_MOST: u32 = 1_024;
+const LIST_MOST: usize = 65_536;
+const SPARES_MOST: u32 = 65_536;
 const TABLE_BLOCK: usize = 128;
 const DATA: usize = 512;
 const IMAGE: usize = 530;
@@ -138,33 +138,26 @@ fn names_block(word: u32) -> bool {
     matches!(word >> 28, 2 | 3)
 }
 
-/// The most home blocks of a drive: 1,024 tracks of 63.
-const BLOCKS_MOST: usize = 1_024 * 63;
-
-/// Whether two descriptors name one block: a mark is kept for each block.
-fn twice_by_marks(table: &[u32]) -> bool {
-    let mut marks = [0u64; BLOCKS_MOST.div_ceil(64)];
-    table.iter().filter(|&&word| names_block(word)).any(|&word| {
-        let block = word & NUMBER;
-        let (mark, bit) = (&mut marks[block as usize / 64], 1 << (block % 64));
-        let marked = *mark & bit != 0;
-        *mark |= bit;
-        marked
+/// Whether two descriptors name one block: a bit of `marks` is kept for each block, for as many blocks at
+/// a time as it has bits.
+fn named_twice(drive: &Drive, table: &[u32], marks: &mut [u32]) -> bool {
+    let window = u32::BITS * marks.len() as u32;
+    (0..drive.blocks).step_by(window as usize).any(|first| {
+        marks.fill(0);
+        table.iter().any(|&word| {
+            let at = (word & NUMBER).wrapping_sub(first);
+            if !names_block(word) || at >= window {
+                return false;
+            }
+            let (mark, bit) = (&mut marks[(at / u32::BITS) as usize], 1 << (at % u32::BITS));
+            let marked = *mark & bit != 0;
+            *mark |= bit;
+            marked
+        })
     })
 }
 
-/// The same without memory: each descriptor is held against all before it.
-fn twice_by_pairs(table: &[u32]) -> bool {
-    (0..table.len()).any(|place| {
-        let word = table[place];
-        names_block(word)
-            && table[..place]
-                .iter()
-                .any(|&before| names_block(before) && before & NUMBER == word & NUMBER)
-    })
-}
-
-fn check_table(drive: &Drive, table: &[u32], twice: fn(&[u32]) -> bool) -> Answer<()> {
+fn check_table(drive: &Drive, table: &[u32], marks: &mut [u32]) -> Answer<()> {
     let spares = drive.spares as usize;
     refuse(table.len() != spares.next_multiple_of(TABLE_BLOCK), 11)?;
     let (used, tail) = table.split_at(spares);
@@ -179,18 +172,22 @@ fn check_table(drive: &Drive, table: &[u32], twice: fn(&[u32]) -> bool) -> Answe
         }
     }
     refuse(tail.iter().any(|&word| word != 8 << 28), 11)?;
-    refuse(twice(used), 11)
+    refuse(named_twice(drive, used, marks), 11)
 }
 
-fn look_up(
+/// The sector that a block of a revectored drive lies on.
+pub fn spare_sector(
     shape: Shape,
     r: u32,
     table: &[u32],
+    scratch: &mut [u32],
     block: u32,
-    twice: fn(&[u32]) -> bool,
 ) -> Answer<u32> {
     let drive = check_drive(shape, r)?;
-    check_table(&drive, table, twice)?;
+    let marks = scratch.get_mut(..drive.spares as usize).ok_or(7u32)?;
+    let checked = check_table(&drive, table, marks);
+    marks.fill(0);
+    checked?;
     refuse(block >= drive.blocks, 5)?;
     let found = |&word: &u32| names_block(word) && word & NUMBER == block;
     let (track, sector) = match table.iter().position(found) {
@@ -201,16 +198,6 @@ fn look_up(
         None => (block / drive.homes_of_track, block % drive.homes_of_track),
     };
     Ok(track * drive.sectors + sector)
-}
-
-/// The sector that a block of a revectored drive lies on.
-pub fn spare_sector(shape: Shape, r: u32, table: &[u32], block: u32) -> Answer<u32> {
-    look_up(shape, r, table, block, twice_by_marks)
-}
-
-/// The same, with a table check that needs no memory.
-pub fn spare_sector_by_pairs(shape: Shape, r: u32, table: &[u32], block: u32) -> Answer<u32> {
-    look_up(shape, r, table, block, twice_by_pairs)
 }
 
 fn code(data: &[u8]) -> u16 {
@@ -322,51 +309,53 @@ impl Iterator for Union<'_> {
     }
 }
 
-/// A list of at most 4,096 entries, held as a value: Format lends nothing but its rooms.
-struct Held {
-    entries: [u32; LIST_MOST],
-    length: usize,
+/// Rooms for the lists that Format makes on its way, which the caller lends.
+pub struct Rooms {
+    used: Vec<u32>,
+    found: Vec<u32>,
+    grown: Vec<u32>,
+    list: Vec<u32>,
 }
 
-impl Held {
-    /// The entries, or refusal 2 where there are too many.
-    fn of(entries: impl Iterator<Item = u32>) -> Answer<Held> {
-        let mut held = Held { entries: [0; LIST_MOST], length: 0 };
-        for entry in entries {
-            refuse(held.length == LIST_MOST, 2)?;
-            held.entries[held.length] = entry;
-            held.length += 1;
-        }
-        Ok(held)
-    }
-
-    fn list(&self) -> &[u32] {
-        &self.entries[..self.length]
+impl Rooms {
+    /// Rooms that are long enough for any list.
+    pub fn new() -> Rooms {
+        let room = || vec![0; LIST_MOST];
+        Rooms { used: room(), found: room(), grown: room(), list: room() }
     }
 }
 
-/// The list of a space, 0 to 3, or refusal 2.
-fn list_of(space: u32, p: &[u32], g: &[u32]) -> Answer<Held> {
-    let (left, right): (&[u32], &[u32]) = match space {
-        0 => (&[], &[]),
-        1 => (p, &[]),
-        2 => (&[], g),
-        _ => (p, g),
-    };
-    Held::of(Union { left, right })
+/// The union of two lists in the first places of a room, or refusal 2 where it is too long.
+fn united<'a>(left: &[u32], right: &[u32], room: &'a mut [u32]) -> Answer<&'a [u32]> {
+    let mut length = 0;
+    for entry in (Union { left, right }) {
+        refuse(length == LIST_MOST, 2)?;
+        room[length] = entry;
+        length += 1;
+    }
+    Ok(&room[..length])
 }
 
-/// The sectors of the blocks `d`, in the space that skips `used`.
-fn mapped(used: &[u32], d: &[u32]) -> Held {
-    let mut held = Held { entries: [0; LIST_MOST], length: d.len() };
+/// The list of a space, 0 to 3, or refusal 2; a union is made in the room.
+fn list_of<'a>(space: u32, p: &'a [u32], g: &'a [u32], room: &'a mut [u32]) -> Answer<&'a [u32]> {
+    match space {
+        0 => Ok(&[]),
+        1 => Ok(p),
+        2 => Ok(g),
+        _ => united(p, g, room),
+    }
+}
+
+/// The sectors of the blocks `d`, in the space that skips `used`, in the first places of a room.
+fn mapped<'a>(used: &[u32], d: &[u32], room: &'a mut [u32]) -> &'a [u32] {
     let mut skipped = 0;
-    for (sector, &block) in held.entries.iter_mut().zip(d) {
+    for (sector, &block) in room.iter_mut().zip(d) {
         while skipped < used.len() && used[skipped] <= block + skipped as u32 {
             skipped += 1;
         }
         *sector = block + skipped as u32;
     }
-    held
+    &room[..d.len()]
 }
 
 /// A row of Format: what the new grown list is made of, and the new space, if another.
@@ -388,7 +377,8 @@ const ROWS: [(Grown, Option<u32>); 8] = [
     (Grown::Supplied, Some(2)),
 ];
 
-/// Format: the lengths of the new grown list and of the new space's list, and the new space.
+/// Format: the lengths of the new grown list and of the new space's list, and the new space. What `rooms`
+/// hold before and after does not matter.
 #[allow(clippy::too_many_arguments)]
 pub fn format(
     n: u32,
@@ -399,32 +389,27 @@ pub fn format(
     d: &[u32],
     grown_room: &mut [u32],
     list_room: &mut [u32],
+    rooms: &mut Rooms,
 ) -> Answer<(u32, u32, u32)> {
     check_size(n)?;
     check_list(n, p)?;
     check_list(n, g)?;
     refuse(option > 7 || space > 3 || (option & 1 == 0 && !d.is_empty()), 10)?;
-    let used = list_of(space, p, g)?;
+    let used = list_of(space, p, g, &mut rooms.used)?;
     let (source, new_space) = &ROWS[option as usize];
     let new_space = new_space.unwrap_or(space);
     let size = match source {
-        Grown::Joined => n - used.length as u32,
+        Grown::Joined => n - used.len() as u32,
         _ => n,
     };
     check_list(size, d)?;
-    let joined;
     let grown = match source {
         Grown::Kept => g,
         Grown::Emptied => &[],
         Grown::Supplied => d,
-        Grown::Joined => {
-            let found = mapped(used.list(), d);
-            joined = Held::of(Union { left: g, right: found.list() })?;
-            joined.list()
-        }
+        Grown::Joined => united(g, mapped(used, d, &mut rooms.found), &mut rooms.grown)?,
     };
-    let list = list_of(new_space, p, grown)?;
-    let list = list.list();
+    let list = list_of(new_space, p, grown, &mut rooms.list)?;
     refuse(grown_room.len() < grown.len() || list_room.len() < list.len(), 7)?;
     grown_room[..grown.len()].copy_from_slice(grown);
     list_room[..list.len()].copy_from_slice(list);

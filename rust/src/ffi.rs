@@ -157,6 +157,8 @@ extern "C" {
         r: u32,
         table: *const u32,
         table_length: usize,
+        scratch: *mut u32,
+        scratch_length: usize,
         block: u32,
     ) -> Placed;
     pub fn tb_spare_address(
@@ -164,6 +166,8 @@ extern "C" {
         r: u32,
         table: *const u32,
         table_length: usize,
+        scratch: *mut u32,
+        scratch_length: usize,
         block: u32,
     ) -> Located;
     pub fn tb_spare_shift(
@@ -171,6 +175,8 @@ extern "C" {
         r: u32,
         table: *const u32,
         table_length: usize,
+        scratch: *mut u32,
+        scratch_length: usize,
         block: u32,
     ) -> Shifted;
     pub fn tb_spare_block(
@@ -178,6 +184,8 @@ extern "C" {
         r: u32,
         table: *const u32,
         table_length: usize,
+        scratch: *mut u32,
+        scratch_length: usize,
         sector: u32,
     ) -> Named;
     pub fn tb_spare_block_at(
@@ -185,6 +193,8 @@ extern "C" {
         r: u32,
         table: *const u32,
         table_length: usize,
+        scratch: *mut u32,
+        scratch_length: usize,
         cylinder: u32,
         head: u32,
         sector: u32,
@@ -194,10 +204,18 @@ extern "C" {
         r: u32,
         table: *mut u32,
         table_length: usize,
+        scratch: *mut u32,
+        scratch_length: usize,
         block: u32,
     ) -> Replaced;
-    pub fn tb_spare_census(shape: Shape, r: u32, table: *const u32, table_length: usize)
-        -> Counted;
+    pub fn tb_spare_census(
+        shape: Shape,
+        r: u32,
+        table: *const u32,
+        table_length: usize,
+        scratch: *mut u32,
+        scratch_length: usize,
+    ) -> Counted;
     pub fn tb_spare_first(
         shape: Shape,
         r: u32,
@@ -223,6 +241,8 @@ extern "C" {
         r: u32,
         table: *const u32,
         table_length: usize,
+        scratch: *mut u32,
+        scratch_length: usize,
         block: u32,
         home: *const u8,
         home_length: usize,
@@ -234,6 +254,8 @@ extern "C" {
         r: u32,
         table: *const u32,
         table_length: usize,
+        scratch: *mut u32,
+        scratch_length: usize,
         block: u32,
         home: *const u8,
         home_length: usize,

@@ -6,8 +6,9 @@
 //! with its code ([`image`]).
 //!
 //! Every call takes any input and either answers or refuses with a [`Refusal`]. A refused call leaves
-//! what it was lent as it was. An accepted call fills the first places of the room it was lent and
-//! leaves the rest. Each call names its checks in order; the first that fails is the refusal.
+//! what it was lent as it was, but for the scratch that goes with a table ([`spares`] says what is left
+//! in it). An accepted call fills the first places of the room it was lent and leaves the rest. Each
+//! call names its checks in order; the first that fails is the refusal.
 //!
 //! Slices are lent for the call and never kept. An empty slice goes with the pointer that Rust gives
 //! it, which is not null and points nowhere; the library reads nothing through it.
@@ -48,9 +49,9 @@ pub const SECTORS_LEAST: u32 = 2;
 /// The most sectors of a track.
 pub const SECTORS_MOST: u32 = 64;
 /// The most entries of a list.
-pub const LIST_MOST: usize = 4_096;
+pub const LIST_MOST: usize = 65_536;
 /// The most spares of a revectored drive.
-pub const SPARES_MOST: u32 = 1_024;
+pub const SPARES_MOST: u32 = 65_536;
 /// The descriptors of one table block.
 pub const TABLE_BLOCK: usize = 128;
 /// The bytes of a sector's data.

@@ -1,7 +1,8 @@
 //! A read of a revectored block from the image of its home track and that of its spare's track.
 //!
 //! No byte of the other image is looked at. For a block at home the second image may be
-//! any of the right length.
+//! any of the right length. Each call checks the table whole, and takes `scratch` for that and leaves
+//! it as the calls of [`spares`](crate::spares) do.
 
 use crate::ffi;
 use crate::refusal::{answered, Refusal};
@@ -25,25 +26,28 @@ pub struct Spot {
 /// Accepts where the image of `block` is good.
 ///
 /// Checks: [`OutOfRange`](Refusal::OutOfRange) for shape, `r` and the number of spares;
-/// [`BadTable`](Refusal::BadTable); [`NoSuchBlock`](Refusal::NoSuchBlock);
-/// [`WrongLength`](Refusal::WrongLength) where either image is not 530 bytes a sector;
-/// [`NoAddress`](Refusal::NoAddress); [`OtherBlock`](Refusal::OtherBlock);
+/// [`NoRoom`](Refusal::NoRoom) for `scratch`; [`BadTable`](Refusal::BadTable);
+/// [`NoSuchBlock`](Refusal::NoSuchBlock); [`WrongLength`](Refusal::WrongLength) where either image is
+/// not 530 bytes a sector; [`NoAddress`](Refusal::NoAddress); [`OtherBlock`](Refusal::OtherBlock);
 /// [`ForcedError`](Refusal::ForcedError) or [`BadCode`](Refusal::BadCode).
 pub fn judge(
     shape: Shape,
     r: u32,
     table: &[u32],
+    scratch: &mut [u32],
     block: u32,
     home: &[u8],
     spare: &[u8],
 ) -> Result<(), Refusal> {
-    // SAFETY: pointers and lengths are those of live slices.
+    // SAFETY: pointers and lengths are those of live slices, and scratch overlaps nothing.
     let answer = unsafe {
         ffi::tb_read_judge(
             shape,
             r,
             table.as_ptr(),
             table.len(),
+            scratch.as_mut_ptr(),
+            scratch.len(),
             block,
             home.as_ptr(),
             home.len(),
@@ -61,17 +65,20 @@ pub fn spot(
     shape: Shape,
     r: u32,
     table: &[u32],
+    scratch: &mut [u32],
     block: u32,
     home: &[u8],
     spare: &[u8],
 ) -> Result<Spot, Refusal> {
-    // SAFETY: pointers and lengths are those of live slices.
+    // SAFETY: pointers and lengths are those of live slices, and scratch overlaps nothing.
     let answer = unsafe {
         ffi::tb_read_data(
             shape,
             r,
             table.as_ptr(),
             table.len(),
+            scratch.as_mut_ptr(),
+            scratch.len(),
             block,
             home.as_ptr(),
             home.len(),
@@ -87,7 +94,7 @@ pub fn spot(
 }
 
 /// The 512 bytes of data of a good image of `block`, where they lie in `home` or in `spare`. They
-/// belong to the images and not to the table.
+/// belong to the images, and neither to the table nor to the scratch.
 ///
 /// Checks: those of [`judge`].
 ///
@@ -97,11 +104,11 @@ pub fn spot(
 /// use tautberry::{reading, Shape};
 ///
 /// let shape = Shape::ungrouped(1, 1, 2);
-/// let table = [0; 128];
+/// let (table, mut scratch) = ([0; 128], [0; 1]);
 /// let part = {
 ///     let home = [0; 2 * 530];
 ///     let spare = [0; 2 * 530];
-///     reading::data(shape, 1, &table, 0, &home, &spare)
+///     reading::data(shape, 1, &table, &mut scratch, 0, &home, &spare)
 /// };
 /// assert!(part.is_err());
 /// ```
@@ -109,11 +116,12 @@ pub fn data<'a>(
     shape: Shape,
     r: u32,
     table: &[u32],
+    scratch: &mut [u32],
     block: u32,
     home: &'a [u8],
     spare: &'a [u8],
 ) -> Result<&'a [u8], Refusal> {
-    let spot = spot(shape, r, table, block, home, spare)?;
+    let spot = spot(shape, r, table, scratch, block, home, spare)?;
     let image = match spot.track {
         Track::Home => home,
         Track::Spare => spare,

@@ -10,7 +10,7 @@ pub enum Refusal {
     /// A number of the drive is out of its range: of the shape, of its sectors or of its spares; or
     /// the heads of a shape are not its groups × tracks.
     OutOfRange = 1,
-    /// A list is longer than 4,096 entries, or a list to be made would be.
+    /// A list is longer than [`LIST_MOST`](crate::LIST_MOST) entries, or a list to be made would be.
     TooLong = 2,
     /// An entry of a list does not exceed its neighbour before it.
     NotRising = 3,
@@ -20,7 +20,7 @@ pub enum Refusal {
     NoSuchBlock = 5,
     /// The drive has no sector of this number, or no such cylinder, head or sector of a track.
     NoSuchSector = 6,
-    /// The result does not fit into the room.
+    /// The result does not fit into the room, or the scratch has fewer numbers than the drive has spares.
     NoRoom = 7,
     /// The bytes are no page, or there is no such kind of page to write.
     BadPage = 8,

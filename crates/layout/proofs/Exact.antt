@@ -10,7 +10,7 @@ use Rattle.paper.proofs.Chain.{orElse-first, orElse-next}
 use Rattle.paper.proofs.Rows.{Tells, tells-lt, tells-le, tells-not, tells-both, passed-shows, row, rows}
 use Rattle.shape.specs.declared.Shape.{Shape}
 use Rattle.shape.specs.Shapes.{Shaped, shapeFault, ShapeJudged}
-use Rattle.shape.proofs.Exact.{shape-shows, shape-exactly}
+use Rattle.shape.proofs.Exact.{tells-shaped, shape-shows, shape-exactly}
 use Rattle.layout.specs.Layouts.{tracksOf, Spared, spared, driveFault, DriveJudged}
 
 module _ (shape : Shape) (r : ℕ) where
@@ -29,6 +29,9 @@ module _ (shape : Shape) (r : ℕ) where
     shape-shows shape (orElse-first (shapeFault shape) _ none),
     passed-shows tells-drives outOfRange (omega arith) (orElse-next (shapeFault shape) _ none),
   )
+
+  pub drive-passes : Shaped shape → Spared shape r → driveFault shape r ≡ 0
+  drive-passes in-range spares = rw (tells-shaped shape .told in-range, tells-drives .told spares)
 
   pub drive-exactly : Exactly (DriveJudged shape r) (driveFault shape r)
   drive-exactly = rows (ShapeJudged shape) (When outOfRange (Spared shape r → ⊥)) (shape-exactly shape) (row (tells-not tells-drives) outOfRange)

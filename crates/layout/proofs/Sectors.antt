@@ -36,6 +36,9 @@ module _ {drive : Drive} (laid : Laid drive) where
       let more : drive .l ≤ sectorsPerTrack drive = omega arith in
       omega (arith, laid .are-blocks, mul-le-mul-left (drive .tracks) more)
 
+  pub spares-some : 1 ≤ drive .spares
+  spares-some = omega (arith, laid .are-spares, mul-le-mul-left (drive .tracks) (laid .spare-some))
+
   -- the track of a home is that of its block, and so is the sector in it
   pub home-track : (b : ℕ) → homeSector drive b / sectorsPerTrack drive ≡ b / drive .l
   home-track b = digits-div (b / drive .l) (omega (arith, home-offset-below b))

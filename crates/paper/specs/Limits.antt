@@ -25,11 +25,11 @@ sectorsMost = 64
 
 -- entries of a list
 abbrev pub listMost : ℕ
-listMost = 4096
+listMost = 65536
 
 -- spares of a revectored drive
 abbrev pub sparesMost : ℕ
-sparesMost = 1024
+sparesMost = 65536
 
 -- descriptors of a table block
 abbrev pub tableBlock : ℕ

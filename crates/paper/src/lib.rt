@@ -51,9 +51,9 @@ pub const SECTORS_LEAST: u32 = 2;
 
 pub const SECTORS_MOST: u32 = 64;
 
-pub const LIST_MOST: usize = 4_096;
+pub const LIST_MOST: usize = 65_536;
 
-pub const SPARES_MOST: u32 = 1_024;
+pub const SPARES_MOST: u32 = 65_536;
 
 pub const TABLE_BLOCK: usize = 128;
 

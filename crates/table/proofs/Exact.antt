@@ -1,64 +1,108 @@
--- The check of a table gives exactly the numbers of its rows, and shows what it checks where it gives none.
+-- The checks of a table and its scratch give exactly the numbers of their rows, and show what they check where they give none.
 -- Assumes nothing.
 use Prim.Native.Nat.{ℕ, _<_, _≤_}
-use mathlib.Core.Path.{_≡_}
+use mathlib.Core.Path.{_≡_, sym, _∙_}
 use mathlib.Core.List.{List}
 use native.Mathlib.Omega.{arith}
-use Rattle.paper.specs.Refusals.{badTable, noSuchBlock}
+use lib.ListN.{length, drop, replicate, length-replicate}
+use borrow.Author.Tests.{lt-leb, le-ltb}
+use Rattle.paper.specs.Refusals.{noRoom, badTable, noSuchBlock}
+use Rattle.paper.specs.Promise.{written}
 use Rattle.paper.specs.Exactly.{Exactly, When}
-use Rattle.paper.proofs.Cases.{byLt}
-use Rattle.paper.proofs.Chain.{orElse-first, orElse-next}
-use Rattle.paper.proofs.Rows.{tells-le, passed-shows, passed-not, row, rows}
+use Rattle.paper.proofs.Chain.{orElse-first, orElse-next, answer-refused, answer-accepted}
+use Rattle.paper.proofs.Rows.{tells-le, tells-lt, passed-not, not-over, below-shows, row, rows}
 use Rattle.shape.specs.declared.Shape.{Shape}
-use Rattle.shape.specs.Shapes.{Shaped}
-use Rattle.layout.specs.Layouts.{Spared, driveOf, driveFault, DriveJudged}
+use Rattle.layout.specs.Layouts.{driveOf, driveFault, DriveJudged}
 use Rattle.layout.specs.Steps.{Laid}
 use Rattle.layout.proofs.Layings.{laid}
-use Rattle.layout.proofs.Exact.{drive-shows, drive-exactly}
-use Rattle.table.specs.Rules.{Breaks, tableFault, blockFault, TableJudged, BlockJudged}
+use Rattle.layout.proofs.Exact.{drive-shows, drive-passes, drive-exactly}
+use Rattle.table.specs.Rules.{Breaks, Sound, tableFault, blockFault, TableJudged, BlockJudged}
+use Rattle.table.specs.Scratch.{Enough, scratchFault, ScratchJudged, Scratched}
 use Rattle.table.specs.Steps.{Obeys}
-use Rattle.table.proofs.Obeying.{obeys-told, tells-obeys, tells-breaks}
+use Rattle.table.proofs.Obeying.{obeys-told, tells-breaks, unbroken-obeys}
 
--- what checks 1 and 11 show
-pub record Ready (shape : Shape) (r : ℕ) (t : List ℕ) : Type 0 where
-  pub shaped : Shaped shape
-  pub drives : Spared shape r
-  pub laid : Laid (driveOf shape r)
-  pub obeys : Obeys (driveOf shape r) t
+-- a drive and a table that pass: the drive is laid, and the table obeys the rules
+module _ {shape : Shape} {r : ℕ} {t : List ℕ} (sound : Sound shape r t) where
+  pub sound-laid : Laid (driveOf shape r)
+  sound-laid = laid (sound .shaped) (sound .spared)
 
-module _ (shape : Shape) (r : ℕ) (t : List ℕ) where
-  pub table-shows : tableFault shape r t ≡ 0 → Laid (driveOf shape r) × Obeys (driveOf shape r) t
-  table-shows none =
-      let drive = drive-shows shape r (orElse-first (driveFault shape r) _ none) in (
-        laid (drive .0) (drive .1),
-        passed-shows (tells-obeys (driveOf shape r) t) badTable (omega arith) (orElse-next (driveFault shape r) _ none),
-      )
+  pub sound-obeys : Obeys (driveOf shape r) t
+  sound-obeys = unbroken-obeys (sound .unbroken)
 
-  pub table-exactly : Exactly (TableJudged shape r t) (tableFault shape r t)
+module _ (shape : Shape) (r : ℕ) (scratch : List ℕ) where
+  pub scratch-exactly : Exactly (ScratchJudged shape r scratch) (scratchFault shape r scratch)
+  scratch-exactly =
+      rows (DriveJudged shape r) (When noRoom (length scratch < driveOf shape r .spares))
+      (drive-exactly shape r)
+      (row (tells-lt (length scratch) (driveOf shape r .spares)) noRoom)
+
+  pub scratch-enough : scratchFault shape r scratch ≡ 0 → Enough shape r scratch
+  scratch-enough none = not-over (length scratch) (driveOf shape r .spares) noRoom (omega arith) (orElse-next (driveFault shape r) _ none)
+
+  -- refused by 1 or by this 7, the scratch is as it was
+  pub scratch-kept : (k : ℕ) → scratchFault shape r scratch ≡ k → (k ≡ 0 → ⊥) → Scratched shape r scratch scratch
+  scratch-kept k is some = sym (answer-refused (scratchFault shape r scratch) (λ fault. scratch) _ (λ none. some (sym is ∙ none)))
+
+  -- past them, what stands beyond the numbers for the spares after a walk stands when these are cleared
+  pub scratch-cleared :
+      (walked : List ℕ) {left : List ℕ} → scratchFault shape r scratch ≡ 0 → drop (driveOf shape r .spares) walked ≡ drop (driveOf shape r .spares) scratch →
+      left ≡ written (replicate (driveOf shape r .spares) 0) walked → Scratched shape r scratch left
+  scratch-cleared walked none beyond is =
+      rw (answer-accepted (scratchFault shape r scratch) (λ fault. scratch) (written (replicate (driveOf shape r .spares) 0) scratch) none, is, length-replicate {A = ℕ} (driveOf shape r .spares) 0, beyond)
+
+module _ (shape : Shape) (r : ℕ) (t scratch : List ℕ) where
+  pub table-exactly : Exactly (TableJudged shape r t scratch) (tableFault shape r t scratch)
   table-exactly =
-      rows (DriveJudged shape r) (When badTable (Breaks (driveOf shape r) t)) (drive-exactly shape r) (row (tells-breaks (driveOf shape r) t) badTable)
+      rows (ScratchJudged shape r scratch) (When badTable (Breaks (driveOf shape r) t))
+      (scratch-exactly shape r scratch)
+      (row (tells-breaks (driveOf shape r) t) badTable)
 
-  pub table-ready : tableFault shape r t ≡ 0 → Ready shape r t
-  table-ready none =
-      let drive = drive-shows shape r (orElse-first (driveFault shape r) _ none) in
-      let table = table-shows none in
-      record { shaped = drive .0; drives = drive .1; laid = table .0; obeys = table .1 }
+  -- no number of them shows a drive and a table that pass, and scratch that is long enough
+  module _ (none : tableFault shape r t scratch ≡ 0) where
+    scratch-none : scratchFault shape r scratch ≡ 0
+    scratch-none = orElse-first (scratchFault shape r scratch) _ none
 
-  pub table-passes : driveFault shape r ≡ 0 → Obeys (driveOf shape r) t → tableFault shape r t ≡ 0
-  table-passes none obeys = rw (none, obeys-told (driveOf shape r) t obeys)
+    pub table-sound : Sound shape r t
+    table-sound =
+        let drive = drive-shows shape r (orElse-first (driveFault shape r) _ scratch-none) in
+        record {
+          shaped = drive .0;
+          spared = drive .1;
+          unbroken = passed-not (tells-breaks (driveOf shape r) t) badTable (omega arith) (orElse-next (scratchFault shape r scratch) _ none);
+        }
+
+    pub table-enough : Enough shape r scratch
+    table-enough = scratch-enough shape r scratch scratch-none
+
+  -- and they give none there
+  module _ (sound : Sound shape r t) (enough : Enough shape r scratch) where
+    pub table-passes : tableFault shape r t scratch ≡ 0
+    table-passes =
+        rw (
+          drive-passes shape r (sound .shaped) (sound .spared),
+          le-ltb (length scratch) (driveOf shape r .spares) enough,
+          obeys-told (driveOf shape r) t (sound-obeys sound),
+        )
+
+    pub block-passes : (b : ℕ) → b < driveOf shape r .blocks → blockFault shape r t scratch b ≡ 0
+    block-passes b below = rw (table-passes, lt-leb (driveOf shape r .blocks) b below)
 
   module _ (b : ℕ) where
-    pub block-ready : blockFault shape r t b ≡ 0 → Ready shape r t
-    block-ready none = table-ready (orElse-first (tableFault shape r t) _ none)
-
-    pub block-below : blockFault shape r t b ≡ 0 → b < driveOf shape r .blocks
-    block-below none =
-        byLt b (driveOf shape r .blocks)
-        (λ below. below)
-        (λ past. absurd (passed-not (tells-le (driveOf shape r .blocks) b) noSuchBlock (omega arith) (orElse-next (tableFault shape r t) _ none) past))
-
-    pub block-exactly : Exactly (BlockJudged shape r t b) (blockFault shape r t b)
+    pub block-exactly : Exactly (BlockJudged shape r t scratch b) (blockFault shape r t scratch b)
     block-exactly =
-        rows (TableJudged shape r t) (When noSuchBlock (driveOf shape r .blocks ≤ b))
+        rows (TableJudged shape r t scratch) (When noSuchBlock (driveOf shape r .blocks ≤ b))
         table-exactly
         (row (tells-le (driveOf shape r .blocks) b) noSuchBlock)
+
+    module _ (none : blockFault shape r t scratch b ≡ 0) where
+      pub block-table : tableFault shape r t scratch ≡ 0
+      block-table = orElse-first (tableFault shape r t scratch) _ none
+
+      pub block-sound : Sound shape r t
+      block-sound = table-sound block-table
+
+      pub block-enough : Enough shape r scratch
+      block-enough = table-enough block-table
+
+      pub block-below : b < driveOf shape r .blocks
+      block-below = below-shows (driveOf shape r .blocks) b noSuchBlock (omega arith) (orElse-next (tableFault shape r t scratch) _ none)

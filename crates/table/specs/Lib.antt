@@ -1,4 +1,5 @@
 pub mod Places
+pub mod Scratch
 pub mod Rules
 pub mod Lookup
 pub mod Counting

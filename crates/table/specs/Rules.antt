@@ -1,4 +1,4 @@
--- Document 01, "Descriptors and spares": the ways in which a descriptor table breaks its rules, the check of a table, and that of a block after it.
+-- Document 01, "Descriptors and spares": the ways in which a descriptor table breaks its rules, the check of a table, and that of a block after it; document 02, Q-6: the check of scratch before them.
 use Prim.Native.Nat.{ℕ, _<_, _≤_}
 use mathlib.Core.Path.{_≡_}
 use mathlib.Core.Bool.{not}
@@ -10,10 +10,12 @@ use Rattle.paper.specs.Refusals.{badTable, noSuchBlock}
 use Rattle.paper.specs.Exactly.{When, _andThen_}
 use Rattle.paper.specs.Conditions.{NotBelow}
 use Rattle.shape.specs.declared.Shape.{Shape}
+use Rattle.shape.specs.Shapes.{Shaped}
 use Rattle.layout.specs.declared.Drive.{Drive}
-use Rattle.layout.specs.Layouts.{driveOf, driveFault, DriveJudged}
+use Rattle.layout.specs.Layouts.{Spared, driveOf}
 use Rattle.layout.specs.Descriptors.{free, atPrimary, elsewhere, unusable, null, codeOf, numberOf, primary, Allocated}
 use Rattle.table.specs.Places.{tableLength}
+use Rattle.table.specs.Scratch.{scratchFault, ScratchJudged}
 use Rattle.table.specs.Steps.{obeys}
 
 -- the ways in which the word w at place q breaks a rule that looks at one place
@@ -45,18 +47,24 @@ pub data Breaks (drive : Drive) (t : List ℕ) : Type 0 where
       (p q : ℕ) → p < q → q < length t → Allocated (getD t p 0) → Allocated (getD t q 0) →
       numberOf (getD t p 0) ≡ numberOf (getD t q 0) → Breaks drive t
 
--- checks 1, 11: the test refuses exactly the tables that break a rule, as the rows below say
-abbrev pub tableFault : Shape → ℕ → List ℕ → ℕ
-tableFault shape r t = driveFault shape r orElse refuse (not (obeys (driveOf shape r) t)) badTable
+-- a drive and a table that pass: the shape and r are in their ranges, and no rule is broken
+pub record Sound (shape : Shape) (r : ℕ) (t : List ℕ) : Type 0 where
+  pub shaped : Shaped shape
+  pub spared : Spared shape r
+  pub unbroken : Breaks (driveOf shape r) t → ⊥
 
--- exactly when 1 and 11 are given for a table
-abbrev pub TableJudged : Shape → ℕ → List ℕ → ℕ → Type 0
-TableJudged shape r t = DriveJudged shape r andThen When badTable (Breaks (driveOf shape r) t)
+-- checks 1, 7, 11: the test refuses exactly the tables that break a rule, as the rows below say
+abbrev pub tableFault : Shape → ℕ → List ℕ → List ℕ → ℕ
+tableFault shape r t scratch = scratchFault shape r scratch orElse refuse (not (obeys (driveOf shape r) t)) badTable
 
--- checks 1, 11, 5
-abbrev pub blockFault : Shape → ℕ → List ℕ → ℕ → ℕ
-blockFault shape r t b = tableFault shape r t orElse refuse (leb (driveOf shape r .blocks) b) noSuchBlock
+-- exactly when 1, 7 and 11 are given for a table and its scratch
+abbrev pub TableJudged : Shape → ℕ → List ℕ → List ℕ → ℕ → Type 0
+TableJudged shape r t scratch = ScratchJudged shape r scratch andThen When badTable (Breaks (driveOf shape r) t)
 
--- exactly when 1, 11 and 5 are given for a table and a block: each number of `spares::sector_of`, `address_of` and `shift`
-abbrev pub BlockJudged : Shape → ℕ → List ℕ → ℕ → ℕ → Type 0
-BlockJudged shape r t b = TableJudged shape r t andThen When noSuchBlock (NotBelow (driveOf shape r .blocks) b)
+-- checks 1, 7, 11, 5
+abbrev pub blockFault : Shape → ℕ → List ℕ → List ℕ → ℕ → ℕ
+blockFault shape r t scratch b = tableFault shape r t scratch orElse refuse (leb (driveOf shape r .blocks) b) noSuchBlock
+
+-- exactly when 1, 7, 11 and 5 are given for a table, its scratch and a block: each number of `spares::sector_of`, `address_of` and `shift`
+abbrev pub BlockJudged : Shape → ℕ → List ℕ → List ℕ → ℕ → ℕ → Type 0
+BlockJudged shape r t scratch b = TableJudged shape r t scratch andThen When noSuchBlock (NotBelow (driveOf shape r .blocks) b)

@@ -1,12 +1,13 @@
 -- For the code alone: no sentence of the paper needs it.
--- The test that a table breaks no rule, what is known of a table that passes it, and a census as it is counted.
-use Prim.Native.Nat.{ℕ, _+_, _<_, _^_}
+-- The test that a table breaks no rule, the marks by which it finds a block named twice, what is known of a table that passes it, and a census as it is counted.
+use Prim.Native.Nat.{ℕ, _+_, _-_, _/_, _%_, _<_, _^_}
 use mathlib.Core.Path.{_≡_}
 use mathlib.Core.Bool.{Bool, true, not, _&&_, _||_}
 use mathlib.Core.List.{List}
 use lib.Dec.{eqb, ltb, leb}
-use lib.ListN.{length, getD}
+use lib.ListN.{length, getD, set}
 use Rattle.paper.specs.Checks.{pick, oneIf}
+use Rattle.bits.specs.Bits.{numberBits, bitAt, withBit}
 use Rattle.seek.specs.Count.{countBelow}
 use Rattle.seek.specs.Every.{allBelow}
 use Rattle.layout.specs.declared.Drive.{Drive}
@@ -27,6 +28,26 @@ mayStand drive q w =
 -- the block that a place names is named by no place before it
 abbrev pub namedFirst : List ℕ → ℕ → Bool
 namedFirst t q = not (isAllocated (getD t q 0)) || allBelow (λ p. not (names (getD t p 0) (numberOf (getD t q 0)))) q
+
+-- scratch is a window of marks, one bit for each block: block b has bit b mod 32 of number b / 32, and the window is so many numbers from a first one on
+abbrev pub inWindow : ℕ → ℕ → ℕ → Bool
+inWindow from count b = leb from (b / numberBits) && ltb (b / numberBits - from) count
+
+-- the mark of a block of the window is on
+abbrev pub isMarked : List ℕ → ℕ → ℕ → Bool
+isMarked scratch from b = bitAt (getD scratch (b / numberBits - from) 0) (b % numberBits)
+
+-- scratch with the mark of a block turned on
+abbrev pub withMark : List ℕ → ℕ → ℕ → List ℕ
+withMark scratch from b = set scratch (b / numberBits - from) (withBit (getD scratch (b / numberBits - from) 0) (b % numberBits))
+
+-- a word names a block of the window
+abbrev pub namesIn : ℕ → ℕ → ℕ → Bool
+namesIn from count word = isAllocated word && inWindow from count (numberOf word)
+
+-- the block that a place names, where it is one of the window, is named by no place before it
+abbrev pub firstIn : ℕ → ℕ → List ℕ → ℕ → Bool
+firstIn from count t q = not (namesIn from count (getD t q 0)) || namedFirst t q
 
 -- a table breaks no rule
 abbrev pub obeys : Drive → List ℕ → Bool

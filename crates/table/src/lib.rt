@@ -1,14 +1,19 @@
 // The descriptor table of a revectored drive: the check of its rules, the place that names a block, where a block lies, what lies on a sector, and the census.
 ghost use mathlib.Core.Path.{_≡_};
-ghost use Prim.Native.Nat.{_<_, _*_, _^_};
-ghost use lib.ListN.{length};
+ghost use Prim.Native.Nat.{_<_, _≤_, _*_, _^_};
+ghost use lib.ListN.{length, getD, drop};
+ghost use Rattle.seek.specs.Every.{allBelow};
 ghost use Rattle.layout.specs.Layouts.{sectorsPerTrack};
 ghost use Rattle.layout.specs.Steps.{Laid};
 ghost use Rattle.table.specs.Rules.{tableFault, blockFault};
+ghost use Rattle.table.specs.Scratch.{Scratched};
 ghost use Rattle.table.specs.Places.{tableLength, codeAt};
-ghost use Rattle.table.specs.Steps.{mayStand, namedFirst, obeys, Obeys, Countable, counted};
+ghost use Rattle.table.specs.Steps.{mayStand, obeys, Obeys, Countable, counted};
 ghost use Rattle.table.specs.Counting.{censusOf};
 ghost use Rattle.table.specs.Lookup.{placeOf, liesOn, lyingOn};
+
+mod twice;
+
 use layout::AT_PRIMARY;
 use layout::CODE_UNIT;
 use layout::Drive;
@@ -17,6 +22,7 @@ use layout::FREE;
 use layout::NULL;
 use layout::UNUSABLE;
 use paper::BAD_TABLE;
+use paper::NO_ROOM;
 use paper::NO_SUCH_BLOCK;
 use paper::Named;
 use paper::TABLE_BLOCK;
@@ -72,40 +78,14 @@ fn may_stand(drive: Drive, place: usize, word: u32) -> bool
     layout::code_of(word) == code_at(drive, place, number)
 }
 
-// Whether no place before this one names the block that it names.
-fn named_first(table: &[u32], place: usize) -> bool
-    requires { ⌜ place < length (now table) ⌝ }
-    ensures { λ result. ⌜ result ≡ namedFirst (now (table .entry)) place ⌝ }
-{
-    let word = table[place];
-    if !layout::is_allocated(word) {
-        return true;
-    }
-    let block = layout::number_of(word);
-    let mut before = 0;
-    while before < place {
-        if layout::names(table[before], block) {
-            return false;
-        }
-        before += 1;
-    }
-    true
-}
-
-// Whether a table breaks no rule.
-fn obeys_rules(drive: Drive, table: &[u32]) -> bool
+// Whether every word of a table may stand where it does.
+fn all_stand(drive: Drive, table: &[u32]) -> bool
     requires { ⌜ Laid drive ⌝ }
-    ensures { λ result. ⌜ result ≡ obeys drive (now (table .entry)) ⌝ }
+    ensures { λ result. ⌜ result ≡ allBelow (λ q. mayStand drive q (getD (now (table .entry)) q 0)) (length (now (table .entry))) ⌝ }
 {
-    if table.len() != table_length(drive) {
-        return false;
-    }
     let mut place = 0;
     while place < table.len() {
         if !may_stand(drive, place, table[place]) {
-            return false;
-        }
-        if !named_first(table, place) {
             return false;
         }
         place += 1;
@@ -113,25 +93,49 @@ fn obeys_rules(drive: Drive, table: &[u32]) -> bool
     true
 }
 
-// Refusal 1 for the drive's numbers, 11 for a table that breaks its rules, else 0. Only other crates call this.
-pub fn table_fault(shape: Shape, r: u32, table: &[u32]) -> u32
-    ensures { λ result. ⌜ result ≡ tableFault shape r (now (table .entry)) ⌝ }
+// Whether a table breaks no rule. Of the scratch only the numbers for the spares are written.
+fn obeys_rules(drive: Drive, table: &[u32], scratch: &mut [u32]) -> bool
+    requires { ⌜ Laid drive ⌝ }
+    requires { ⌜ drive .spares ≤ length (now scratch) ⌝ }
+    ensures { λ result. ⌜ result ≡ obeys drive (now (table .entry)) ⌝ }
+    ensures { λ result. ⌜ drop (drive .spares) (now (scratch .exit)) ≡ drop (drive .spares) (now (scratch .entry)) ⌝ }
+{
+    if table.len() != table_length(drive) {
+        return false;
+    }
+    if !all_stand(drive, table) {
+        return false;
+    }
+    twice::named_once(drive, table, scratch)
+}
+
+// Refusal 1 for the drive's numbers, 7 for scratch that is too short, 11 for a table that breaks its rules, else 0. Past 7 the numbers of scratch for the spares are zeros. Only other crates call this.
+pub fn table_fault(shape: Shape, r: u32, table: &[u32], scratch: &mut [u32]) -> u32
+    ensures { λ result. ⌜ result ≡ tableFault shape r (now (table .entry)) (now (scratch .entry)) ⌝ }
+    ensures { λ result. ⌜ Scratched shape r (now (scratch .entry)) (now (scratch .exit)) ⌝ }
 {
     let fault = layout::drive_fault(shape, r);
     if fault != 0 {
         return fault;
     }
-    if !obeys_rules(layout::drive_of(shape, r), table) {
+    let drive = layout::drive_of(shape, r);
+    if scratch.len() < drive.spares as usize {
+        return NO_ROOM;
+    }
+    let obeyed = obeys_rules(drive, table, scratch);
+    twice::clear_scratch(scratch, drive.spares as usize);
+    if !obeyed {
         return BAD_TABLE;
     }
     0
 }
 
-// Refusal 1 for the drive's numbers, 11 for its table, 5 for a block number that is not below the number of blocks, else 0. Only other crates call this.
-pub fn block_fault(shape: Shape, r: u32, table: &[u32], block: u32) -> u32
-    ensures { λ result. ⌜ result ≡ blockFault shape r (now (table .entry)) block ⌝ }
+// Refusal 1 for the drive's numbers, 7 for scratch, 11 for the table, 5 for a block number that is not below the number of blocks, else 0. Only other crates call this.
+pub fn block_fault(shape: Shape, r: u32, table: &[u32], scratch: &mut [u32], block: u32) -> u32
+    ensures { λ result. ⌜ result ≡ blockFault shape r (now (table .entry)) (now (scratch .entry)) block ⌝ }
+    ensures { λ result. ⌜ Scratched shape r (now (scratch .entry)) (now (scratch .exit)) ⌝ }
 {
-    let fault = table_fault(shape, r, table);
+    let fault = table_fault(shape, r, table, scratch);
     if fault != 0 {
         return fault;
     }
