@@ -16,10 +16,10 @@
  * - A room or scratch overlaps nothing else that is lent to the same call. What is only read may overlap.
  * - An accepted call fills the first elements of its room and leaves the rest as it was. The room of tb_spare_replace is
  *   the table, of which it writes the descriptors that its comment names.
- * - Scratch comes with every table, for the table's check. It needs one uint32_t for each spare of the drive, which is
- *   cylinders x heads x r, and any more may be lent. What it holds before the call does not matter. After a call that
- *   passes TB_OUT_OF_RANGE and TB_NO_ROOM, accepted or refused, its first cylinders x heads x r numbers are 0 and the
- *   rest is as it was. A call that refuses by one of these two leaves all of it as it was.
+ * - Scratch comes with every table, for the check of the table. It needs one uint32_t for each spare of the drive, which
+ *   is cylinders x heads x r, and any more may be lent. What it holds before the call does not matter. After a call that
+ *   passes the checks TB_OUT_OF_RANGE and TB_NO_ROOM, accepted or refused, the first cylinders x heads x r numbers of
+ *   scratch are 0 and the rest is as it was. A call that is refused by one of these two leaves all of it as it was.
  * - `forced` is the language's own bool: a byte that is 0 or 1.
  *
  * What libboard.a asks of its place: an x86-64 processor with SSE2, the System V calling convention, the red zone

@@ -416,7 +416,7 @@ static void refused(const char *call, const void *answer, size_t size, uint32_t 
 #define ONES 0xFFFFFFFFu
 
 /* Scratch after a call: so many zeros at its start, and each number behind them as it was. */
-static void scratch_left(const char *call, uint32_t zeros)
+static void scratch_left(const char *at_start, const char *behind, uint32_t zeros)
 {
     uint32_t cleared = 0;
     uint32_t kept = 0;
@@ -424,8 +424,8 @@ static void scratch_left(const char *call, uint32_t zeros)
         cleared += i < zeros && scratch[i] == 0;
         kept += i >= zeros && scratch[i] == ONES;
     }
-    same(call, cleared, zeros);
-    same(call, kept, sizeof scratch / sizeof scratch[0] - zeros);
+    same(at_start, cleared, zeros);
+    same(behind, kept, sizeof scratch / sizeof scratch[0] - zeros);
 }
 
 /* A call on scratch full of ones, with its number and what it leaves of the scratch of a drive with so many spares. */
@@ -438,7 +438,9 @@ static void scratch_left(const char *call, uint32_t zeros)
         } else { \
             refused(#call, &answer, sizeof answer, number); \
         } \
-        scratch_left(#call, (number) == TB_OUT_OF_RANGE || (number) == TB_NO_ROOM ? 0 : (spares)); \
+        scratch_left( \
+            "zeros of scratch after " #call, "other numbers of scratch after " #call, \
+            (number) == TB_OUT_OF_RANGE || (number) == TB_NO_ROOM ? 0 : (spares)); \
     } while (0)
 
 /* A drive of 880 cylinders, 16 heads and 53 sectors, one of them a spare: 14,080 spares and 732,160 blocks. */

@@ -18,8 +18,9 @@ static const uint32_t r = SPARES_OF_TRACK;
 static uint32_t table[TB_TABLE_LENGTH(SPARES)];
 static const size_t table_length = sizeof table / sizeof table[0];
 
-/* Each call that is lent the table is lent scratch for the table's check. It has one number for each spare, so it is shorter than the table, which
- * has whole table blocks. Between calls nothing is kept in it: one scratch serves every call, and any drive with no more spares. */
+/* Each call that is lent the table is lent scratch too, for the check of the table. It has one number for each spare. That is fewer here than the
+ * table has, which is made of whole table blocks. Nothing is kept in it between calls: one scratch serves every call, and every drive that has no
+ * more spares. */
 static uint32_t scratch[SPARES];
 static const size_t scratch_length = sizeof scratch / sizeof scratch[0];
 

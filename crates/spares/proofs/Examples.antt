@@ -16,9 +16,13 @@ use Rattle.spares.specs.declared.Shifted.{Shifted}
 use Rattle.spares.specs.declared.Shifted.the-variants.{By, Refused}
 use Rattle.spares.specs.Spares.{shiftOf}
 
+-- a number for each spare
+abbrev scratch : List ℕ
+scratch = replicate 4 0
+
 -- what `spares::shift` answers
 abbrev shifted : Shape → ℕ → List ℕ → ℕ → Shifted
-shifted shape r t b = answer (blockFault shape r t b) Refused (By (shiftOf (driveOf shape r) t b))
+shifted shape r t b = answer (blockFault shape r t scratch b) Refused (By (shiftOf (driveOf shape r) t b))
 
 abbrev small : Shape
 small = record { cylinders = 4; heads = 1; sectors = 3; groups = 1; tracks = 1; offset = 0 }

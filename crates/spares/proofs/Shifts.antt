@@ -19,11 +19,11 @@ use Rattle.layout.specs.declared.Drive.{Drive}
 use Rattle.layout.specs.Layouts.{driveOf, homeCylinder, spareCylinder}
 use Rattle.layout.specs.Steps.{Laid}
 use Rattle.layout.proofs.Sectors.{blocks-few, home-cylinder-below, spare-cylinder-below}
-use Rattle.table.specs.Rules.{blockFault}
+use Rattle.table.specs.Rules.{Sound}
 use Rattle.table.specs.Steps.{Obeys}
 use Rattle.table.specs.Lookup.{placeOf, Replaced, isReplaced}
 use Rattle.table.proofs.Lookups.{tells-replaced, place-spare}
-use Rattle.table.proofs.Exact.{block-ready, block-below}
+use Rattle.table.proofs.Exact.{sound-laid, sound-obeys}
 use Rattle.order.proofs.Signs.{minus-within, minus-below}
 use Rattle.spares.specs.Spares.{shiftOf}
 
@@ -79,8 +79,6 @@ module _ (drive : Drive) (t : List ℕ) (b : ℕ) where
       (home-cylinder-below laid below cylinders tracks)))
       (λ e. rw e (omega (arith, home-cylinder-below laid below cylinders tracks)))
 
--- the same for the call: a shift that is answered is less than C to either side
-pub shift-answered : (shape : Shape) (r : ℕ) (t : List ℕ) (b : ℕ) → blockFault shape r t b ≡ 0 → natAbs (shiftOf (driveOf shape r) t b) < shape .cylinders
-shift-answered shape r t b none =
-    let ready = block-ready shape r t b none in
-    shift-within (driveOf shape r) t b (ready .laid) (ready .obeys) (block-below shape r t b none) (shape .cylinders) refl
+-- the same for a drive and a table that pass
+pub shift-sound : {shape : Shape} {r : ℕ} {t : List ℕ} → Sound shape r t → (b : ℕ) → b < driveOf shape r .blocks → natAbs (shiftOf (driveOf shape r) t b) < shape .cylinders
+shift-sound {shape} {r} {t} sound b below = shift-within (driveOf shape r) t b (sound-laid sound) (sound-obeys sound) below (shape .cylinders) refl

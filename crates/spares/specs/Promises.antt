@@ -1,4 +1,4 @@
--- What the public calls of `spares` promise.
+-- What the public calls of `spares` promise. What each that is lent a table leaves of its scratch is `Scratched` of `table`.
 use Prim.Native.Nat.{ℕ}
 use mathlib.Core.List.{List}
 use lib.IntN.{ℤ, pos}
@@ -50,30 +50,30 @@ abbrev pub GivesCounted : ℕ → Counted → Counted → Type 0
 GivesCounted = Gives saidCounted (λ fault. (fault, 0, 0, 0, 0, 0)) NotCounted
 
 -- the sector that a block lies on
-abbrev pub SectorOf : Shape → ℕ → List ℕ → ℕ → Placed → Type 0
-SectorOf shape r t b = GivesPlaced (blockFault shape r t b) (At (liesOn (driveOf shape r) t b))
+abbrev pub SectorOf : Shape → ℕ → List ℕ → List ℕ → ℕ → Placed → Type 0
+SectorOf shape r t scratch b = GivesPlaced (blockFault shape r t scratch b) (At (liesOn (driveOf shape r) t b))
 
 -- the address of the sector that a block lies on
-abbrev pub AddressOf : Shape → ℕ → List ℕ → ℕ → Located → Type 0
-AddressOf shape r t b = GivesLocated (blockFault shape r t b) (LocatedAt (addressAt shape (liesOn (driveOf shape r) t b)))
+abbrev pub AddressOf : Shape → ℕ → List ℕ → List ℕ → ℕ → Located → Type 0
+AddressOf shape r t scratch b = GivesLocated (blockFault shape r t scratch b) (LocatedAt (addressAt shape (liesOn (driveOf shape r) t b)))
 
 -- how many cylinders a block is shifted
-abbrev pub ShiftOf : Shape → ℕ → List ℕ → ℕ → Shifted → Type 0
-ShiftOf shape r t b = GivesShifted (blockFault shape r t b) (By (shiftOf (driveOf shape r) t b))
+abbrev pub ShiftOf : Shape → ℕ → List ℕ → List ℕ → ℕ → Shifted → Type 0
+ShiftOf shape r t scratch b = GivesShifted (blockFault shape r t scratch b) (By (shiftOf (driveOf shape r) t b))
 
 -- the block that lies on a sector, or none
-abbrev pub BlockOn : Shape → ℕ → List ℕ → ℕ → Named → Type 0
-BlockOn shape r t s = GivesNamed (blockOnFault shape r t s) (lyingOn (driveOf shape r) t s)
+abbrev pub BlockOn : Shape → ℕ → List ℕ → List ℕ → ℕ → Named → Type 0
+BlockOn shape r t scratch s = GivesNamed (blockOnFault shape r t scratch s) (lyingOn (driveOf shape r) t s)
 
 -- the block that lies on the sector with a cylinder, a head and a sector of a track, or none
-abbrev pub BlockAt : Shape → ℕ → List ℕ → ℕ → ℕ → ℕ → Named → Type 0
-BlockAt shape r t cylinder head sector =
-    GivesNamed (blockAtFault shape r t cylinder head sector) (lyingOn (driveOf shape r) t (sectorAt shape cylinder head sector))
+abbrev pub BlockAt : Shape → ℕ → List ℕ → List ℕ → ℕ → ℕ → ℕ → Named → Type 0
+BlockAt shape r t scratch cylinder head sector =
+    GivesNamed (blockAtFault shape r t scratch cylinder head sector) (lyingOn (driveOf shape r) t (sectorAt shape cylinder head sector))
 
 -- the place that a replacement takes; the table then has the block's descriptor there, and the place that it had, if it had one, is unusable
-abbrev pub Replacement : Shape → ℕ → List ℕ → ℕ → Replaced → List ℕ → Type 0
-Replacement shape r t b = FillsReplaced (replaceFault shape r t b) (Place (spareFor (driveOf shape r) t b)) t (movedIn (driveOf shape r) t b)
+abbrev pub Replacement : Shape → ℕ → List ℕ → List ℕ → ℕ → Replaced → List ℕ → Type 0
+Replacement shape r t scratch b = FillsReplaced (replaceFault shape r t scratch b) (Place (spareFor (driveOf shape r) t b)) t (movedIn (driveOf shape r) t b)
 
 -- how many places of the table have each code
-abbrev pub CensusOf : Shape → ℕ → List ℕ → Counted → Type 0
-CensusOf shape r t = GivesCounted (tableFault shape r t) (Counts (censusOf t))
+abbrev pub CensusOf : Shape → ℕ → List ℕ → List ℕ → Counted → Type 0
+CensusOf shape r t scratch = GivesCounted (tableFault shape r t scratch) (Counts (censusOf t))

@@ -4,6 +4,7 @@ ghost use Prim.Native.Nat.{_<_};
 ghost use lib.IntN.{pos, _-ℤ_};
 ghost use Rattle.paper.specs.Limits.{unitsMost};
 ghost use Rattle.layout.specs.Steps.{Laid};
+ghost use Rattle.table.specs.Scratch.{Scratched};
 ghost use Rattle.table.specs.Steps.{Obeys};
 ghost use Rattle.first_table.specs.Promises.{FirstTable};
 ghost use Rattle.spares.specs.Spares.{shiftOf};
@@ -35,22 +36,24 @@ pub enum Counted {
     Refused(u32),
 }
 
-// Block to sector number. Checks 1, 11, 5.
-pub fn sector_of(shape: Shape, r: u32, table: &[u32], block: u32) -> Placed
-    ensures { λ result. ⌜ SectorOf shape r (now (table .entry)) block result ⌝ }
+// Block to sector number. Checks 1, 7, 11, 5.
+pub fn sector_of(shape: Shape, r: u32, table: &[u32], scratch: &mut [u32], block: u32) -> Placed
+    ensures { λ result. ⌜ SectorOf shape r (now (table .entry)) (now (scratch .entry)) block result ⌝ }
+    ensures { λ result. ⌜ Scratched shape r (now (scratch .entry)) (now (scratch .exit)) ⌝ }
 {
-    let fault = table::block_fault(shape, r, table, block);
+    let fault = table::block_fault(shape, r, table, scratch, block);
     if fault != 0 {
         return Placed::Refused(fault);
     }
     Placed::At(table::lies_on(layout::drive_of(shape, r), table, block))
 }
 
-// Block to cylinder, head, sector and angle. Checks 1, 11, 5.
-pub fn address_of(shape: Shape, r: u32, table: &[u32], block: u32) -> Located
-    ensures { λ result. ⌜ AddressOf shape r (now (table .entry)) block result ⌝ }
+// Block to cylinder, head, sector and angle. Checks 1, 7, 11, 5.
+pub fn address_of(shape: Shape, r: u32, table: &[u32], scratch: &mut [u32], block: u32) -> Located
+    ensures { λ result. ⌜ AddressOf shape r (now (table .entry)) (now (scratch .entry)) block result ⌝ }
+    ensures { λ result. ⌜ Scratched shape r (now (scratch .entry)) (now (scratch .exit)) ⌝ }
 {
-    let fault = table::block_fault(shape, r, table, block);
+    let fault = table::block_fault(shape, r, table, scratch, block);
     if fault != 0 {
         return Located::Refused(fault);
     }
@@ -84,22 +87,24 @@ fn shift_of(drive: Drive, table: &[u32], block: u32) -> i32
     0
 }
 
-// How far a block's spare is from its home. Checks 1, 11, 5.
-pub fn shift(shape: Shape, r: u32, table: &[u32], block: u32) -> Shifted
-    ensures { λ result. ⌜ ShiftOf shape r (now (table .entry)) block result ⌝ }
+// How far a block's spare is from its home. Checks 1, 7, 11, 5.
+pub fn shift(shape: Shape, r: u32, table: &[u32], scratch: &mut [u32], block: u32) -> Shifted
+    ensures { λ result. ⌜ ShiftOf shape r (now (table .entry)) (now (scratch .entry)) block result ⌝ }
+    ensures { λ result. ⌜ Scratched shape r (now (scratch .entry)) (now (scratch .exit)) ⌝ }
 {
-    let fault = table::block_fault(shape, r, table, block);
+    let fault = table::block_fault(shape, r, table, scratch, block);
     if fault != 0 {
         return Shifted::Refused(fault);
     }
     Shifted::By(shift_of(layout::drive_of(shape, r), table, block))
 }
 
-// Sector number to block. Checks 1, 11, 6.
-pub fn block_on(shape: Shape, r: u32, table: &[u32], sector: u32) -> Named
-    ensures { λ result. ⌜ BlockOn shape r (now (table .entry)) sector result ⌝ }
+// Sector number to block. Checks 1, 7, 11, 6.
+pub fn block_on(shape: Shape, r: u32, table: &[u32], scratch: &mut [u32], sector: u32) -> Named
+    ensures { λ result. ⌜ BlockOn shape r (now (table .entry)) (now (scratch .entry)) sector result ⌝ }
+    ensures { λ result. ⌜ Scratched shape r (now (scratch .entry)) (now (scratch .exit)) ⌝ }
 {
-    let fault = table::table_fault(shape, r, table);
+    let fault = table::table_fault(shape, r, table, scratch);
     if fault != 0 {
         return Named::Refused(fault);
     }
@@ -109,11 +114,12 @@ pub fn block_on(shape: Shape, r: u32, table: &[u32], sector: u32) -> Named
     table::lying_on(layout::drive_of(shape, r), table, sector)
 }
 
-// Cylinder, head and sector to block. Checks 1, 11, 6.
-pub fn block_at(shape: Shape, r: u32, table: &[u32], cylinder: u32, head: u32, sector: u32) -> Named
-    ensures { λ result. ⌜ BlockAt shape r (now (table .entry)) cylinder head sector result ⌝ }
+// Cylinder, head and sector to block. Checks 1, 7, 11, 6.
+pub fn block_at(shape: Shape, r: u32, table: &[u32], scratch: &mut [u32], cylinder: u32, head: u32, sector: u32) -> Named
+    ensures { λ result. ⌜ BlockAt shape r (now (table .entry)) (now (scratch .entry)) cylinder head sector result ⌝ }
+    ensures { λ result. ⌜ Scratched shape r (now (scratch .entry)) (now (scratch .exit)) ⌝ }
 {
-    let fault = table::table_fault(shape, r, table);
+    let fault = table::table_fault(shape, r, table, scratch);
     if fault != 0 {
         return Named::Refused(fault);
     }
@@ -125,11 +131,12 @@ pub fn block_at(shape: Shape, r: u32, table: &[u32], cylinder: u32, head: u32, s
     table::lying_on(layout::drive_of(shape, r), table, sector)
 }
 
-// Replaces a block, at home or on a spare: marks the spare that it lay on unusable, writes its descriptor at the first free place in its search order, and answers the place. Checks 1, 11, 5, 13.
-pub fn replace(shape: Shape, r: u32, table: &mut [u32], block: u32) -> Replaced
-    ensures { λ result. ⌜ Replacement shape r (now (table .entry)) block result (now (table .exit)) ⌝ }
+// Replaces a block, at home or on a spare: marks the spare that it lay on unusable, writes its descriptor at the first free place in its search order, and answers the place. Checks 1, 7, 11, 5, 13.
+pub fn replace(shape: Shape, r: u32, table: &mut [u32], scratch: &mut [u32], block: u32) -> Replaced
+    ensures { λ result. ⌜ Replacement shape r (now (table .entry)) (now (scratch .entry)) block result (now (table .exit)) ⌝ }
+    ensures { λ result. ⌜ Scratched shape r (now (scratch .entry)) (now (scratch .exit)) ⌝ }
 {
-    let fault = table::block_fault(shape, r, table, block);
+    let fault = table::block_fault(shape, r, table, scratch, block);
     if fault != 0 {
         return Replaced::Refused(fault);
     }
@@ -140,11 +147,12 @@ pub fn replace(shape: Shape, r: u32, table: &mut [u32], block: u32) -> Replaced
     Replaced::Place(place as u32)
 }
 
-// Counts the descriptors of each code. Checks 1, 11.
-pub fn census(shape: Shape, r: u32, table: &[u32]) -> Counted
-    ensures { λ result. ⌜ CensusOf shape r (now (table .entry)) result ⌝ }
+// Counts the descriptors of each code. Checks 1, 7, 11.
+pub fn census(shape: Shape, r: u32, table: &[u32], scratch: &mut [u32]) -> Counted
+    ensures { λ result. ⌜ CensusOf shape r (now (table .entry)) (now (scratch .entry)) result ⌝ }
+    ensures { λ result. ⌜ Scratched shape r (now (scratch .entry)) (now (scratch .exit)) ⌝ }
 {
-    let fault = table::table_fault(shape, r, table);
+    let fault = table::table_fault(shape, r, table, scratch);
     if fault != 0 {
         return Counted::Refused(fault);
     }

@@ -96,6 +96,22 @@ impl Draw {
             _ => needed,
         }
     }
+
+    /// Scratch for so many spares, at least one: short one time in eight, at times longer than it must be;
+    /// full of ones, or of numbers without any order.
+    pub fn scratch(&mut self, spares: u32) -> Room<u32> {
+        let length = match self.below(16) {
+            0 => spares - 1,
+            1 => self.below(spares),
+            2..=5 => spares + self.within(1, 9),
+            _ => spares,
+        };
+        if self.one_in(3) {
+            Room::full_of_ones(length as usize)
+        } else {
+            self.word_room(length as usize)
+        }
+    }
 }
 
 impl Drop for Draw {
@@ -115,6 +131,13 @@ pub struct Room<T> {
     cells: Vec<T>,
 }
 
+impl Room<u32> {
+    /// A room of `length` words in which every bit is on.
+    pub fn full_of_ones(length: usize) -> Room<u32> {
+        Room::of(vec![u32::MAX; length + 2 * GUARD])
+    }
+}
+
 impl<T: Copy + PartialEq> Room<T> {
     fn of(cells: Vec<T>) -> Room<T> {
         Room { cells }
@@ -126,10 +149,40 @@ impl<T: Copy + PartialEq> Room<T> {
         &mut self.cells[GUARD..end]
     }
 
+    /// What the room holds.
+    pub fn held(&self) -> &[T] {
+        &self.cells[GUARD..self.cells.len() - GUARD]
+    }
+
     /// Whether all but the first `written` places of the room are as they were in `before`.
     pub fn kept(&self, before: &Room<T>, written: usize) -> bool {
         self.cells.len() == before.cells.len()
             && self.cells[..GUARD] == before.cells[..GUARD]
             && self.cells[GUARD + written..] == before.cells[GUARD + written..]
+    }
+}
+
+/// Scratch as it was lent, and as the library and the model leave it.
+pub struct Scratch {
+    before: Room<u32>,
+    pub library: Room<u32>,
+    pub model: Room<u32>,
+}
+
+impl Scratch {
+    /// The same scratch for both sides.
+    pub fn of(before: Room<u32>) -> Scratch {
+        Scratch { library: before.clone(), model: before.clone(), before }
+    }
+
+    /// Whether the library has written to it.
+    pub fn written(&self) -> bool {
+        self.library != self.before
+    }
+
+    /// Whether its last number still is what it was, and is not 0.
+    pub fn end_stands(&self) -> bool {
+        let last = self.library.held().last();
+        last == self.before.held().last() && last.is_some_and(|number| *number != 0)
     }
 }

@@ -2,7 +2,7 @@
 
 use crate::draw::Draw;
 use crate::model::format::{list_of, Night};
-use crate::model::numbers::UNITS_MOST;
+use crate::model::numbers::{LIST_MOST, UNITS_MOST};
 
 /// A night that owns its lists.
 #[derive(Clone, Debug)]
@@ -29,12 +29,12 @@ impl Drawn {
 }
 
 impl Draw {
-    /// A night in its ranges, mostly short; one in eighty with as many entries as a list may have, or
+    /// A night in its ranges, mostly short; one in five hundred with as many entries as a list may have, or
     /// a few more.
     pub fn night(&mut self) -> Drawn {
         let option = self.below(8);
         let space = self.below(4);
-        if self.one_in(80) {
+        if self.one_in(500) {
             return self.long_night(space, option);
         }
         let n = self.of_these(&[1, 6, 20, 24, 300]).min(self.within(1, 300));
@@ -66,11 +66,11 @@ impl Draw {
         }
     }
 
-    /// Entries about 4,096 in all, dealt out to P, G and D, some to two of them.
+    /// About as many entries in all as a list may have, dealt out to P, G and D, some to two of them.
     fn long_night(&mut self, space: u32, option: u32) -> Drawn {
-        let n = self.of_these(&[6_000, 20_000, 100_000]);
+        let n = self.of_these(&[70_000, 100_000, 400_000]);
         let n = if self.one_in(20) { UNITS_MOST } else { n };
-        let in_all = self.of_these(&[4_094, 4_095, 4_096, 4_096, 4_097, 4_098, 5_000]);
+        let in_all = LIST_MOST - 2 + self.of_these(&[0, 1, 2, 2, 3, 4, 1_000]);
         let (mut p, mut g, mut sectors) = (Vec::new(), Vec::new(), Vec::new());
         let shares = self.of_these(&[[1, 1, 1], [1, 3, 4], [3, 3, 1], [1, 1, 0], [0, 1, 1]]);
         for sector in self.rising(n, in_all) {

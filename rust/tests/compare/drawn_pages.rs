@@ -1,5 +1,7 @@
 //! Drawn pages.
 
+use tautberry::{LIST_MOST, PAGE_MOST};
+
 use crate::draw::Draw;
 use crate::model;
 
@@ -9,7 +11,7 @@ impl Draw {
         let n = self.size();
         let mut list = self.any_list(n);
         if !self.one_in(4) {
-            list.truncate(4_096);
+            list.truncate(LIST_MOST);
         }
         let n = self.any_size(n);
         let kind = self.below(2) as u8;
@@ -48,8 +50,13 @@ impl Draw {
     fn resize(&mut self, page: &mut Vec<u8>) {
         let length = page.len();
         let fewer = [0, 13, 14, length.saturating_sub(1), length.saturating_sub(4)];
-        let more = [length + 1, length + 2, length + 4, 16_398, 16_399, 16_402];
-        let other = if self.one_in(2) { self.of_these(&fewer) } else { self.of_these(&more) };
+        let more = [length + 1, length + 2, length + 4];
+        let about_the_most = [PAGE_MOST, PAGE_MOST + 1, PAGE_MOST + 4];
+        let other = match self.below(20) {
+            0 => self.of_these(&about_the_most),
+            1..=9 => self.of_these(&more),
+            _ => self.of_these(&fewer),
+        };
         page.resize(other, 0xFF);
         if self.one_in(2) {
             set_length(page, other as u32);

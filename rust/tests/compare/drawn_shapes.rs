@@ -5,6 +5,9 @@ use tautberry::Shape;
 use crate::draw::Draw;
 use crate::model;
 
+/// The most spares of a drawn drive that is asked again and again.
+pub const FEW_SPARES: u32 = 1_024;
+
 /// The model's form of a shape.
 pub fn paper(shape: Shape) -> model::shape::Shape {
     let Shape { cylinders, heads, sectors, groups, tracks, offset } = shape;
@@ -105,10 +108,26 @@ impl Draw {
         (number(shape.cylinders), number(shape.heads), number(shape.sectors))
     }
 
-    /// A shape and r of a revectored drive in their ranges, in any groups.
+    /// A shape and r of a revectored drive in their ranges, in any groups: one in a hundred has many
+    /// spares, and a few of a long run have about as many as may be.
     pub fn drive(&mut self) -> (Shape, u32) {
-        let (shape, r) = match self.below(200) {
-            // T × r is 1,024, by many tracks or by many spares of a track.
+        let (shape, r) = match self.below(2_000) {
+            0 => self.most_spares(),
+            1..=20 => self.many_spares(),
+            _ => self.few_spares(),
+        };
+        (self.in_groups(shape), r)
+    }
+
+    /// The same with at most [`FEW_SPARES`].
+    pub fn drive_of_few_spares(&mut self) -> (Shape, u32) {
+        let (shape, r) = self.few_spares();
+        (self.in_groups(shape), r)
+    }
+
+    fn few_spares(&mut self) -> (Shape, u32) {
+        match self.below(200) {
+            // T × r is the most of these drives, by many tracks or by many spares of a track.
             0..=2 => self.of_these(&[
                 (shape(64, 16, 64), 1),
                 (shape(64, 16, 2), 1),
@@ -120,16 +139,49 @@ impl Draw {
                 let sectors = self.within(2, 20);
                 let r = self.within(1, sectors - 1);
                 let heads = self.within(1, 8);
-                let most = 1_024 / (r * heads);
+                let most = FEW_SPARES / (r * heads);
                 (shape(self.within(1, most.max(1)), heads, sectors), r)
+            }
+            // More than 32 blocks a spare: one bit of the scratch stands for two of them.
+            41..=80 => {
+                let (cylinders, heads) = (self.within(1, 5), self.within(1, 6));
+                (shape(cylinders, heads, self.within(33, 64)), 1)
             }
             _ => {
                 let sectors = self.within(2, 7);
                 let r = self.within(1, sectors - 1);
                 (shape(self.within(1, 5), self.within(1, 6), sectors), r)
             }
-        };
-        (self.in_groups(shape), r)
+        }
+    }
+
+    /// T × r from just above [`FEW_SPARES`] to some thousands, or the customer's drive of 14,080.
+    fn many_spares(&mut self) -> (Shape, u32) {
+        if self.one_in(3) {
+            return self.of_these(&[
+                (shape(41, 25, 4), 1),
+                (shape(205, 1, 8), 5),
+                (shape(25, 1, 42), 41),
+                (shape(880, 16, 53), 1),
+            ]);
+        }
+        let sectors = self.within(2, 64);
+        let r = self.within(1, (sectors - 1).min(4));
+        let heads = self.within(1, 64);
+        let least = FEW_SPARES / (r * heads) + 1;
+        (shape(self.within(least, 3 * least), heads, sectors), r)
+    }
+
+    /// T × r at its limit or just below it, by many tracks or by many spares of a track.
+    fn most_spares(&mut self) -> (Shape, u32) {
+        self.of_these(&[
+            (shape(4_096, 16, 64), 1),
+            (shape(4_096, 16, 2), 1),
+            (shape(4_096, 1, 64), 16),
+            (shape(64, 64, 33), 16),
+            (shape(257, 51, 7), 5),
+            (shape(1_057, 62, 40), 1),
+        ])
     }
 
     /// A shape and r, now and then with a number outside its range, or with too many spares.
@@ -145,13 +197,13 @@ impl Draw {
         }
     }
 
-    /// A drive whose T × r is just above 1,024, or far above.
+    /// A drive whose T × r is just above its limit, or far above.
     fn too_many_spares(&mut self) -> (Shape, u32) {
         self.of_these(&[
-            (shape(41, 25, 4), 1),
-            (shape(205, 1, 8), 5),
-            (shape(25, 1, 42), 41),
-            (shape(513, 1, 4), 2),
+            (shape(1_986, 33, 4), 1),
+            (shape(331, 18, 12), 11),
+            (shape(331, 6, 34), 33),
+            (shape(2_260, 29, 64), 1),
             (shape(4_096, 64, 64), 63),
         ])
     }

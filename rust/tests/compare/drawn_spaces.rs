@@ -6,20 +6,30 @@ use crate::draw::Draw;
 use crate::model::numbers::{LIST_MOST, UNITS_MOST};
 
 impl Draw {
-    /// N in its range: mostly small, so that entries and blocks meet; at times about the longest list;
-    /// now and then as large as it may be.
+    /// N in its range: mostly small, so that entries and blocks meet; at times some thousands, or about
+    /// the longest list; now and then as large as it may be.
     pub fn size(&mut self) -> u32 {
         match self.below(400) {
             0 => self.of_these(&[UNITS_MOST, UNITS_MOST - 1]),
             1 => self.within(1, UNITS_MOST),
-            2..=9 => self.within(4_000, 4_200),
+            2 => self.within(LIST_MOST as u32 - 100, LIST_MOST as u32 + 100),
+            3..=9 => self.within(4_000, 4_200),
             10..=99 => self.within(1, 600),
             _ => self.within(1, 24),
         }
     }
 
-    /// `count` different numbers below `size`, rising, in runs.
+    /// `count` different numbers below `size`, rising; they come in runs, or what is left out does.
     pub fn rising(&mut self, size: u32, count: usize) -> Vec<u32> {
+        let others = size as usize - count;
+        if others < count {
+            let left_out = self.in_runs(size, others);
+            return (0..size).filter(|number| !left_out.contains(number)).collect();
+        }
+        self.in_runs(size, count).into_iter().collect()
+    }
+
+    fn in_runs(&mut self, size: u32, count: usize) -> BTreeSet<u32> {
         let mut drawn = BTreeSet::new();
         while drawn.len() < count {
             let first = self.below(size);
@@ -30,7 +40,7 @@ impl Draw {
                 }
             }
         }
-        drawn.into_iter().collect()
+        drawn
     }
 
     /// A proper list over `size`: empty, short, any length, or as long as may be.
@@ -47,18 +57,20 @@ impl Draw {
 
     /// Makes one fault in a list over `size`, or several.
     pub fn damage_list(&mut self, list: &mut Vec<u32>, size: u32) {
+        if self.one_in(30) {
+            return self.lengthen(list);
+        }
         if list.is_empty() {
             list.push(self.outside(size));
             return;
         }
         let place = self.place(list.len());
-        match self.below(6) {
+        match self.below(5) {
             0 => list[place] = self.outside(size),
             1 => *list.last_mut().expect("an entry") = self.outside(size),
             2 => list.insert(place, list[place]),
             3 => list[place] = self.below(size.max(1)),
-            4 => list.swap(0, place),
-            _ => self.lengthen(list),
+            _ => list.swap(0, place),
         }
     }
 

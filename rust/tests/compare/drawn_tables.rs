@@ -4,48 +4,56 @@ use std::collections::HashSet;
 
 use tautberry::Shape;
 
-use crate::draw::Draw;
+use crate::draw::{Draw, Room, Scratch};
 use crate::drawn_shapes::paper;
 use crate::model::spares::{
     drive, empty_table, word, Drive, ELSEWHERE, FREE, NULL, PRIMARY, UNUSABLE,
 };
 
-/// A drive with its table and the drive's form in the model, as they were before any fault.
+/// A drive with its table and scratch, each at times at fault, and the drive's form in the model as it was
+/// before any fault.
 pub struct Tabled {
     pub shape: Shape,
     pub r: u32,
     pub table: Vec<u32>,
+    scratch: Room<u32>,
     pub drive: Drive,
 }
 
+impl Tabled {
+    /// The scratch for one comparison.
+    pub fn scratch(&self) -> Scratch {
+        Scratch::of(self.scratch.clone())
+    }
+}
+
 impl Draw {
-    /// A drive with a table that obeys the rules: empty, with a few places taken, or nearly full.
-    pub fn tabled(&mut self) -> Tabled {
+    /// A drive with a table that obeys the rules, and with scratch; now and then with a fault in one of the
+    /// three, or in more.
+    pub fn any_tabled(&mut self) -> Tabled {
         let (shape, r) = self.drive();
         let drive = drive(paper(shape), r).expect("a drive in its range");
-        let table = self.table(drive);
-        Tabled { shape, r, table, drive }
-    }
-
-    /// The same, now and then with a fault in the drive, the table or both.
-    pub fn any_tabled(&mut self) -> Tabled {
-        let mut tabled = self.tabled();
+        let mut table = self.table(drive);
         while self.one_in(6) {
-            self.damage_table(&mut tabled.table, tabled.drive);
+            self.damage_table(&mut table, drive);
         }
-        (tabled.shape, tabled.r) = self.any_drive(tabled.shape, tabled.r);
-        tabled
+        let scratch = self.scratch(drive.spares());
+        let (shape, r) = self.any_drive(shape, r);
+        Tabled { shape, r, table, scratch, drive }
     }
 
+    /// A table that obeys the rules: empty, with a few places taken, or nearly full.
     fn table(&mut self, drive: Drive) -> Vec<u32> {
         let mut table = empty_table(drive);
         let mut named = HashSet::new();
         let taken_of_16 = self.of_these(&[0, 2, 8, 15, 16]);
+        let mut before = 0;
         for place in 0..drive.spares() {
             if self.below(16) >= taken_of_16 {
                 continue;
             }
-            let block = self.block_for(drive, place);
+            let block = self.block_for(drive, place, before);
+            before = block;
             if self.one_in(6) {
                 table[place as usize] = word(UNUSABLE, 0);
             } else if named.insert(block) {
@@ -55,12 +63,13 @@ impl Draw {
         table
     }
 
-    /// A block that may be sent to a place: often one whose primary it is.
-    fn block_for(&mut self, drive: Drive, place: u32) -> u32 {
-        if self.one_in(2) {
-            place / drive.r * drive.l + self.below(drive.l)
-        } else {
-            self.below(drive.blocks())
+    /// A block that may be sent to a place: often one whose primary it is; at times 32 blocks a spare away
+    /// from the block before, so that one bit of the scratch stands for both.
+    fn block_for(&mut self, drive: Drive, place: u32, before: u32) -> u32 {
+        match self.below(8) {
+            0 => (before + 32 * drive.spares()) % drive.blocks(),
+            1..=4 => place / drive.r * drive.l + self.below(drive.l),
+            _ => self.below(drive.blocks()),
         }
     }
 

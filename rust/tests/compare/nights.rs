@@ -1,7 +1,7 @@
 //! Format against the model.
 
 use tautberry::format::{format, Formatted};
-use tautberry::{skip, Refusal, LIST_MOST};
+use tautberry::{skip, Refusal};
 
 use crate::draw::{Draw, Room};
 use crate::drawn_nights::Drawn;
@@ -19,7 +19,8 @@ pub fn formatted(night: &Drawn, grown: &mut [u32], list: &mut [u32]) -> Result<F
 
 /// A night's new lists and space, in rooms that are long enough.
 fn in_full(night: &Drawn) -> Result<(Vec<u32>, Vec<u32>, u32), Refusal> {
-    let (mut grown, mut list) = (vec![0; LIST_MOST], vec![0; LIST_MOST]);
+    let most = night.p.len() + night.g.len() + night.d.len();
+    let (mut grown, mut list) = (vec![0; most], vec![0; most]);
     let answer = formatted(night, &mut grown, &mut list)?;
     grown.truncate(answer.grown as usize);
     list.truncate(answer.list as usize);
@@ -30,7 +31,7 @@ fn in_full(night: &Drawn) -> Result<(Vec<u32>, Vec<u32>, u32), Refusal> {
 pub fn formats_like_the_model(
     call: &'static str,
     seeds: u64,
-    format: impl Fn(&Drawn, &mut [u32], &mut [u32]) -> Result<(u32, u32, u32), u32>,
+    mut format: impl FnMut(&Drawn, &mut [u32], &mut [u32]) -> Result<(u32, u32, u32), u32>,
 ) {
     let mut tally = Tally::of(call);
     for seed in tally.seeds(seeds) {

@@ -41,14 +41,14 @@ fn plain_spare_sector() {
         let mut draw = Draw::of(seed);
         let tabled = draw.any_tabled();
         let block = draw.near(tabled.drive.blocks());
-        let (r, table, shape) = (tabled.r, &tabled.table, plain::Shape::from(tabled.shape));
-        let drive = (tabled.shape, Some(r));
-        let model = model::spares::sector_of(paper(tabled.shape), r, table, block);
-        tally.same_numbers_on(seed, drive, plain::spare_sector(shape, r, table, block), model);
-        let by_pairs = plain::spare_sector_by_pairs(shape, r, table, block);
-        tally.same_numbers_on(seed, drive, by_pairs, model);
+        let (shape, r, table) = (tabled.shape, tabled.r, &tabled.table);
+        let mut scratch = tabled.scratch();
+        let lent = scratch.library.lent();
+        let plain = plain::spare_sector(plain::Shape::from(shape), r, table, lent, block);
+        let model = model::spares::sector_of(paper(shape), r, table, scratch.model.lent(), block);
+        tally.same_numbers_on_table(seed, (shape, r), &scratch, plain, model);
     }
-    tally.saw(&[0, 1, 5, 11]);
+    tally.saw(&[0, 1, 5, 7, 11]);
 }
 
 #[test]
@@ -68,8 +68,9 @@ fn plain_write_page() {
 
 #[test]
 fn plain_format() {
+    let mut rooms = plain::Rooms::new();
     formats_like_the_model("plain::format", SEEDS, |night, grown, list| {
         let Drawn { n, p, g, space, option, d } = night;
-        plain::format(*n, p, g, *space, *option, d, grown, list)
+        plain::format(*n, p, g, *space, *option, d, grown, list, &mut rooms)
     });
 }

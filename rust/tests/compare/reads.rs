@@ -21,8 +21,8 @@ struct Drawn {
 }
 
 impl Drawn {
-    fn drive(&self) -> (Shape, Option<u32>) {
-        (self.tabled.shape, Some(self.tabled.r))
+    fn drive(&self) -> (Shape, u32) {
+        (self.tabled.shape, self.tabled.r)
     }
 
     fn paper(&self) -> Read<'_> {
@@ -66,10 +66,14 @@ fn reading_judge() {
     for seed in tally.seeds(SEEDS) {
         let read = any_read(&mut Draw::of(seed));
         let Drawn { tabled, block, home, spare } = &read;
-        let library = reading::judge(tabled.shape, tabled.r, &tabled.table, *block, home, spare);
-        tally.same_on(seed, read.drive(), library, model::image::judge_read(read.paper()));
+        let (shape, r, table) = (tabled.shape, tabled.r, &tabled.table);
+        let mut scratch = tabled.scratch();
+        let lent = scratch.library.lent();
+        let library = reading::judge(shape, r, table, lent, *block, home, spare);
+        let model = model::image::judge_read(read.paper(), scratch.model.lent());
+        tally.same_on_table(seed, read.drive(), &scratch, library, model);
     }
-    tally.saw(&[0, 1, 5, 11, 14, 15, 16, 17, 18]);
+    tally.saw(&[0, 1, 5, 7, 11, 14, 15, 16, 17, 18]);
 }
 
 #[test]
@@ -81,7 +85,9 @@ fn reading_spot_and_data() {
         let read = any_read(&mut Draw::of(seed));
         let Drawn { tabled, block, home, spare } = &read;
         let (shape, r, table) = (tabled.shape, tabled.r, &tabled.table);
-        let library = reading::spot(shape, r, table, *block, home, spare).map(|spot| {
+        let mut scratch = tabled.scratch();
+        let lent = scratch.library.lent();
+        let library = reading::spot(shape, r, table, lent, *block, home, spare).map(|spot| {
             let image = match spot.track {
                 Track::Home => 0,
                 Track::Spare => 1,
@@ -90,18 +96,21 @@ fn reading_spot_and_data() {
         });
         at_home += u32::from(matches!(library, Ok((0, _))));
         on_spare += u32::from(matches!(library, Ok((1, _))));
-        tally.same_on(seed, read.drive(), library, model::image::spot(read.paper()));
+        let model = model::image::spot(read.paper(), scratch.model.lent());
+        tally.same_on_table(seed, read.drive(), &scratch, library, model);
 
-        let library = reading::data(shape, r, table, *block, home, spare);
-        let model = model::image::read_data(read.paper());
+        let mut scratch = tabled.scratch();
+        let lent = scratch.library.lent();
+        let library = reading::data(shape, r, table, lent, *block, home, spare);
+        let model = model::image::read_data(read.paper(), scratch.model.lent());
         let same_place = match (library, model) {
             (Ok(ours), Ok(theirs)) => ours.as_ptr() == theirs.as_ptr(),
             _ => true,
         };
         assert!(same_place, "reading::data lies elsewhere at seed {seed}");
-        parts.same_on(seed, read.drive(), library, model);
+        parts.same_on_table(seed, read.drive(), &scratch, library, model);
     }
-    tally.saw(&[0, 1, 5, 11, 14, 15, 16, 17, 18]);
-    parts.saw(&[0, 1, 5, 11, 14, 15, 16, 17, 18]);
+    tally.saw(&[0, 1, 5, 7, 11, 14, 15, 16, 17, 18]);
+    parts.saw(&[0, 1, 5, 7, 11, 14, 15, 16, 17, 18]);
     assert!(at_home > 1_000 && on_spare > 1_000, "{at_home} at home, {on_spare} on spares");
 }

@@ -6,7 +6,7 @@ use std::ops::Range;
 
 use tautberry::{Refusal, Shape};
 
-use crate::draw::Room;
+use crate::draw::{Room, Scratch};
 use crate::drawn_shapes::{grouped, paper};
 use crate::model;
 
@@ -16,6 +16,7 @@ pub struct Tally {
     library: BTreeMap<u32, u32>,
     model: BTreeMap<u32, u32>,
     groups: Option<Groups>,
+    scratch: Option<Scratches>,
 }
 
 /// What the groups of the shapes came to, of a call that takes a shape.
@@ -29,8 +30,22 @@ struct Groups {
     accepted: u32,
 }
 
-/// Every comparison of a call that takes a shape must have seen each of the three so often.
-const GROUPS_LEAST: u32 = 100;
+/// What the scratch came to, of a call that is lent a table.
+#[derive(Debug, Default)]
+struct Scratches {
+    /// Too short.
+    short: u32,
+    /// Written by a call that was accepted.
+    accepted: u32,
+    /// Written by a call that was refused.
+    refused: u32,
+    /// Written, and longer than it had to be.
+    longer: u32,
+}
+
+/// Every comparison of a call that takes a shape must have seen each count of [`Groups`] so often, and one
+/// of a call that is lent a table each count of [`Scratches`].
+const SEEN_LEAST: u32 = 100;
 
 impl Groups {
     /// Counts one answer about a drive, with r where it has spares.
@@ -46,9 +61,21 @@ impl Groups {
     }
 }
 
+impl Scratches {
+    /// Counts the scratch of one answer.
+    fn count(&mut self, scratch: &Scratch, number: u32) {
+        let written = scratch.written();
+        self.short += u32::from(number == 7);
+        self.accepted += u32::from(written && number == 0);
+        self.refused += u32::from(written && number != 0);
+        self.longer += u32::from(written && scratch.end_stands());
+    }
+}
+
 impl Tally {
     pub fn of(call: &'static str) -> Tally {
-        Tally { call, library: BTreeMap::new(), model: BTreeMap::new(), groups: None }
+        let (library, model) = (BTreeMap::new(), BTreeMap::new());
+        Tally { call, library, model, groups: None, scratch: None }
     }
 
     /// So many seeds that no other call has, as its name gives them.
@@ -109,6 +136,36 @@ impl Tally {
         self.same_numbers(seed, library, model);
     }
 
+    /// The same for a call that is lent a table: the scratch after it must be the same too.
+    pub fn same_on_table<T: PartialEq + Debug>(
+        &mut self,
+        seed: u64,
+        drive: (Shape, u32),
+        scratch: &Scratch,
+        library: Result<T, Refusal>,
+        model: Result<T, u32>,
+    ) {
+        self.same_numbers_on_table(seed, drive, scratch, library.map_err(Refusal::number), model);
+    }
+
+    /// The same for a side that gives numbers.
+    pub fn same_numbers_on_table<T: PartialEq + Debug>(
+        &mut self,
+        seed: u64,
+        (shape, r): (Shape, u32),
+        scratch: &Scratch,
+        library: Result<T, u32>,
+        model: Result<T, u32>,
+    ) {
+        self.scratch.get_or_insert_default().count(scratch, number(&library));
+        self.same_numbers_on(seed, (shape, Some(r)), library, model);
+        assert!(
+            scratch.library == scratch.model,
+            "{} leaves other scratch than the model at seed {seed}",
+            self.call
+        );
+    }
+
     /// The rooms after one input: the same on both sides, and as before past what was written, which
     /// is nothing on a refusal.
     pub fn same_room<T: PartialEq + Copy + Debug>(
@@ -131,14 +188,21 @@ impl Tally {
     }
 
     /// Both sides must have given these numbers, 0 for accepted, and no others. A call that takes a shape
-    /// must have been refused for its groups alone, and accepted with groups.
+    /// must have been refused for its groups alone, and accepted with groups. One that is lent a table must
+    /// have been refused for its scratch, and must have written to it, accepted and refused.
     pub fn saw(self, numbers: &[u32]) {
         let inputs: u32 = self.library.values().sum();
         println!("{}: {inputs} inputs, answers {:?}", self.call, self.library);
         if let Some(groups) = &self.groups {
             println!("{}: {groups:?}", self.call);
             for seen in [groups.heads, groups.offset, groups.accepted] {
-                assert!(seen >= GROUPS_LEAST, "{}: too few of {groups:?}", self.call);
+                assert!(seen >= SEEN_LEAST, "{}: too few of {groups:?}", self.call);
+            }
+        }
+        if let Some(scratch) = &self.scratch {
+            println!("{}: {scratch:?}", self.call);
+            for seen in [scratch.short, scratch.accepted, scratch.refused, scratch.longer] {
+                assert!(seen >= SEEN_LEAST, "{}: too few of {scratch:?}", self.call);
             }
         }
         for (side, seen) in [("library", &self.library), ("model", &self.model)] {

@@ -6,24 +6,32 @@ use native.Mathlib.Omega.{arith}
 use denote.Ref.{now}
 use Rattle.paper.proofs.Kept.{refuses, accepts}
 use Rattle.table.proofs.Obeying.{table-few}
-use Rattle.table.proofs.Exact.{table-ready}
+use Rattle.table.proofs.Exact.{sound-laid, sound-obeys, table-sound}
 use Rattle.spares.proofs.census.Statement.{statement}
 use Rattle.spares.proofs.census.Tie as tie
 
 table-fault-requires : tie.Need-table-fault-requires
 table-fault-requires c κs = search needs
 
+same-length : tie.Need-same-length
+same-length c = search needs
+
 returns : tie.Need-returns
-returns c = refuses (λ k. refl) _ (sym (c .before .table-fault .ensures)) (c .if1 .taken)
+returns c = ( refuses (λ k. refl) _ (sym (c .before .before .before .table-fault .ensures .0)) (c .if1 .taken), c .before .before .before .table-fault .ensures .1)
 
 census-of-requires : tie.Need-census-of-requires
 census-of-requires c κs =
-    let a = c .before .before .before .args in
-    let ready = table-ready (a .shape) (a .r) (now (a .table)) (sym (c .before .table-fault .ensures) ∙ c .if1 .left) in
-    omega (arith, ready .obeys .long, table-few (ready .laid))
+    let a = c .before .before .before .before .before .before .before .args in
+    let sound = table-sound (a .shape) (a .r) (now (a .table)) (now (a .scratch)) (sym (c .before .before .before .table-fault .ensures .0) ∙ c .if1 .left) in
+    omega (arith, sound-obeys sound .long, table-few (sound-laid sound))
+
+same-length-2 : tie.Need-same-length-2
+same-length-2 c = search needs
 
 returns-2 : tie.Need-returns-2
-returns-2 c = accepts (λ k. refl) (sym (c .before .before .table-fault .ensures) ∙ c .before .if1 .left) (rw (c .census-of .ensures))
+returns-2 c = ( accepts (λ k. refl) (sym (c .before .before .before .before .table-fault .ensures .0) ∙ c .before .if1 .left) (rw (c .census-of .ensures)), c .before .before .before .before .table-fault .ensures .1)
 
 pub census-spec : {M : Type 1} → statement M
-census-spec = tie.close (tie.spec table-fault-requires returns census-of-requires returns-2)
+census-spec =
+    tie.close
+    (tie.spec table-fault-requires same-length returns census-of-requires same-length-2 returns-2)
