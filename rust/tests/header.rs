@@ -126,9 +126,9 @@ fn limits_are_those_of_the_header() {
     ];
     let expected = expected.map(|(name, text)| (name.to_string(), text.to_string()));
     assert_eq!(made, BTreeMap::from(expected));
-    assert_eq!((IMAGE_SIZE, PAGE_MOST), (530, 16_398));
+    assert_eq!((IMAGE_SIZE, PAGE_MOST), (530, 262_158));
     assert_eq!((page_length(2), track_length(5)), (22, 2_650));
-    assert_eq!([0, 1, 128, 129, 1_024].map(table_length), [0, 128, 128, 256, 1_024]);
+    assert_eq!([0, 1, 128, 129, 65_536].map(table_length), [0, 128, 128, 256, 65_536]);
 }
 
 /// A C type with its name, as Rust writes the pair.
@@ -215,4 +215,14 @@ fn functions_are_those_of_the_header() {
     }
     assert_eq!(rust.matches("pub fn tb_").count(), count);
     assert_eq!(count, 25);
+}
+
+/// Scratch stands right after the table's length, in every call that is lent a table and in no other.
+#[test]
+fn scratch_follows_the_table() {
+    let header = one_line(&header());
+    let with_scratch = "table, size_t table_length, uint32_t *scratch, size_t scratch_length";
+    let tables = header.matches("table, size_t table_length").count();
+    let scratches = header.matches("scratch_length").count();
+    assert_eq!((tables, scratches, header.matches(with_scratch).count()), (9, 9, 9));
 }

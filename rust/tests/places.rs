@@ -15,12 +15,19 @@ fn track(block: u32, sector: usize) -> Vec<u8> {
     track
 }
 
-/// The table of the drive with block 7 on place 4, which is sector 3 of its track.
-fn table() -> Vec<u32> {
-    let mut table = vec![0; 128];
+/// The table of the drive with block 7 on place 4, which is sector 3 of its track, and scratch for it.
+fn table_and_scratch() -> (Vec<u32>, [u32; 8]) {
+    let (mut table, mut scratch) = (vec![0; 128], [0; 8]);
     spares::first_table(SHAPE, SPARES, &[], &mut table).expect("no bad sector");
-    assert_eq!(spares::replace(SHAPE, SPARES, &mut table, 7), Ok(4));
-    table
+    assert_eq!(spares::replace(SHAPE, SPARES, &mut table, &mut scratch, 7), Ok(4));
+    (table, scratch)
+}
+
+/// The data of a block of the drive, from images that hold a good one.
+fn data<'a>(block: u32, home: &'a [u8], spare: &'a [u8]) -> &'a [u8] {
+    let (table, mut scratch) = table_and_scratch();
+    let part = reading::data(SHAPE, SPARES, &table, &mut scratch, block, home, spare);
+    part.expect("a good image")
 }
 
 /// The same bytes at the same place.
@@ -32,34 +39,33 @@ fn lies_at(part: &[u8], whole: &[u8], offset: usize) -> bool {
 fn data_of_a_block_at_home_lie_in_the_home_image() {
     // Block 8 is sector 2 of its track.
     let (home, any) = (track(8, 2), vec![0xFF; TRACK]);
-    let part = reading::data(SHAPE, SPARES, &table(), 8, &home, &any).expect("a good image");
-    assert!(lies_at(part, &home, 2 * 530 + 16));
+    assert!(lies_at(data(8, &home, &any), &home, 2 * 530 + 16));
 }
 
 #[test]
 fn data_of_a_replaced_block_lie_in_the_spare_image() {
     let (any, spare) = (vec![0xFF; TRACK], track(7, 3));
-    let part = reading::data(SHAPE, SPARES, &table(), 7, &any, &spare).expect("a good image");
-    assert!(lies_at(part, &spare, 3 * 530 + 16));
+    assert!(lies_at(data(7, &any, &spare), &spare, 3 * 530 + 16));
 }
 
 /// Home and spare may be one image, lent twice.
 #[test]
 fn one_image_serves_as_both() {
     let both = track(7, 3);
-    let part = reading::data(SHAPE, SPARES, &table(), 7, &both, &both).expect("a good image");
-    assert!(lies_at(part, &both, 3 * 530 + 16));
+    assert!(lies_at(data(7, &both, &both), &both, 3 * 530 + 16));
 }
 
-/// The part outlives the table: it belongs to the images alone.
+/// The part outlives the table and the scratch: it belongs to the images alone.
 #[test]
 fn the_part_belongs_to_the_images() {
-    fn read<'a>(home: &'a [u8], spare: &'a [u8]) -> &'a [u8] {
-        let table = table();
-        reading::data(SHAPE, SPARES, &table, 7, home, spare).expect("a good image")
-    }
     let (home, spare) = (vec![0; TRACK], track(7, 3));
-    assert!(lies_at(read(&home, &spare), &spare, 3 * 530 + 16));
+    let part = {
+        let (table, mut scratch) = table_and_scratch();
+        let part = reading::data(SHAPE, SPARES, &table, &mut scratch, 7, &home, &spare);
+        scratch.fill(1);
+        part.expect("a good image")
+    };
+    assert!(lies_at(part, &spare, 3 * 530 + 16));
 }
 
 #[test]

@@ -15,7 +15,9 @@ use Rattle.shape.specs.declared.Shape.{Shape}
 use Rattle.layout.specs.declared.Drive.{Drive}
 use Rattle.layout.specs.Layouts.{driveOf}
 use Rattle.table.specs.Lookup.{Replaced, isReplaced}
+use Rattle.table.specs.Scratch.{Enough}
 use Rattle.table.proofs.Lookups.{tells-replaced}
+use Rattle.table.proofs.Exact.{table-alike}
 use Rattle.image.specs.Image.{dataOf}
 use Rattle.image.specs.declared.Verdict.the-variants.{Good, Refused as NotGood}
 use Rattle.reading.specs.Tracks.{trackOf, sectorIn, bytesIn, imageAt, imageFor}
@@ -64,49 +66,50 @@ module _ (size : ℕ) where
       let after : sector < other = byLt sector other (λ l. l) (λ l. absurd (apart (omega arith))) in
       getD-sets-before track (bytesIn size other) k bytes 0 (omega (arith, image-inside size sector other after))))
 
-module _ (size : ℕ) (shape : Shape) (r : ℕ) (t : List ℕ) (b : ℕ) where
-  -- images that agree are judged alike, and their data begins at the same spot
+module _ (size : ℕ) (shape : Shape) (r : ℕ) (t scratch scratch′ : List ℕ) (enough : Enough shape r scratch) (enough′ : Enough shape r scratch′) (b : ℕ) where
+  -- images that agree are judged alike, and their data begins at the same spot, whichever scratch is lent
   module _ {home spare home′ spare′ : List ℕ} (agree : Agree size (driveOf shape r) t b home spare home′ spare′) where
-    pub read-alike : blockReadFault size shape r t b home spare ≡ blockReadFault size shape r t b home′ spare′
+    pub read-alike : blockReadFault size shape r t scratch b home spare ≡ blockReadFault size shape r t scratch′ b home′ spare′
     unfolding blockReadFault lentFault
-    read-alike = rw (agree .home-alike, agree .spare-alike, agree .lies-alike)
+    read-alike = rw (table-alike shape r t scratch scratch′ enough enough′, agree .home-alike, agree .spare-alike, agree .lies-alike)
 
     pub verdict-alike :
-        answer (blockReadFault size shape r t b home spare) NotGood Good ≡ answer (blockReadFault size shape r t b home′ spare′) NotGood Good
+        answer (blockReadFault size shape r t scratch b home spare) NotGood Good ≡ answer (blockReadFault size shape r t scratch′ b home′ spare′) NotGood Good
     verdict-alike = rw read-alike
 
-    pub spot-alike : spotted size shape r t b home spare ≡ spotted size shape r t b home′ spare′
+    pub spot-alike : spotted size shape r t scratch b home spare ≡ spotted size shape r t scratch′ b home′ spare′
     spot-alike = rw read-alike
 
   -- the parts hold the same, and lie at the same place where the images do
   module _
       (home spare home′ spare′ part part′ : RefT (List ℕ))
       (agree : Agree size (driveOf shape r) t b (home .now) (spare .now) (home′ .now) (spare′ .now))
-      (first : DataSized size shape r t b home spare part)
-      (second : DataSized size shape r t b home′ spare′ part′)
+      (first : DataSized size shape r t scratch b home spare part)
+      (second : DataSized size shape r t scratch′ b home′ spare′ part′)
     where
       pub part-alike : part .now ≡ part′ .now
       part-alike =
-          byFault (blockReadFault size shape r t b (home .now) (spare .now))
+          byFault (blockReadFault size shape r t scratch b (home .now) (spare .now))
           (λ none.
-          accepted-data size shape r t b home spare part first none
+          accepted-data size shape r t scratch b home spare part first none
           ∙ ap (dataOf size) (agree .lies-alike)
-          ∙ sym (accepted-data size shape r t b home′ spare′ part′ second (sym (read-alike agree) ∙ none)))
+          ∙ sym (accepted-data size shape r t scratch′ b home′ spare′ part′ second (sym (read-alike agree) ∙ none)))
           (λ some.
-          refused-empty size shape r t b home spare part first some
-          ∙ sym (refused-empty size shape r t b home′ spare′ part′ second (λ none. some (read-alike agree ∙ none))))
+          refused-empty size shape r t scratch b home spare part first some
+          ∙ sym (refused-empty size shape r t scratch′ b home′ spare′ part′ second (λ none. some (read-alike agree ∙ none))))
 
       pub part-placed : home .ptr ≡ home′ .ptr → spare .ptr ≡ spare′ .ptr → part .ptr ≡ part′ .ptr
       part-placed homes spares =
-          byFault (blockReadFault size shape r t b (home .now) (spare .now))
+          byFault (blockReadFault size shape r t scratch b (home .now) (spare .now))
           (λ none.
           let track : trackOf t b home spare .ptr ≡ trackOf t b home′ spare′ .ptr = track-ptr t b home spare ∙ rw (homes, spares) (sym (track-ptr t b home′ spare′)) in
-          accepted-part size shape r t b home spare part first none .lies
-          ∙ rw track (sym (accepted-part size shape r t b home′ spare′ part′ second (sym (read-alike agree) ∙ none) .lies)))
+          accepted-part size shape r t scratch b home spare part first none .lies
+          ∙ rw track (sym (accepted-part size shape r t scratch′ b home′ spare′ part′ second (sym (read-alike agree) ∙ none) .lies)))
           (λ some.
-          refused-part size shape r t b home spare part first some .lies
-          ∙ rw homes (sym (refused-part size shape r t b home′ spare′ part′ second (λ none. some (read-alike agree ∙ none)) .lies)))
+          refused-part size shape r t scratch b home spare part first some .lies
+          ∙ rw homes (sym (refused-part size shape r t scratch′ b home′ spare′ part′ second (λ none. some (read-alike agree ∙ none)) .lies)))
 
+module _ (size : ℕ) (shape : Shape) (r : ℕ) (t : List ℕ) (b : ℕ) where
   -- the other image may hold anything of its length
   module _ (home spare other : List ℕ) where
     pub home-unread : Replaced t b → length home ≡ length other → Agree size (driveOf shape r) t b home spare other spare

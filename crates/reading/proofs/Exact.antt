@@ -16,9 +16,9 @@ use Rattle.paper.proofs.Rows.{Tells, tells-eq, tells-not, row, rows, rows-passe
 use Rattle.shape.specs.declared.Shape.{Shape}
 use Rattle.layout.specs.declared.Drive.{Drive}
 use Rattle.layout.specs.Layouts.{driveOf}
-use Rattle.table.specs.Rules.{blockFault, BlockJudged}
+use Rattle.table.specs.Rules.{Sound, blockFault, BlockJudged}
 use Rattle.table.specs.Steps.{Obeys}
-use Rattle.table.proofs.Exact.{Ready, block-ready, block-below, block-exactly}
+use Rattle.table.proofs.Exact.{sound-obeys, block-sound, block-below, block-exactly}
 use Rattle.image.specs.Image.{contentsFault}
 use Rattle.image.proofs.Exact.{sector-exactly}
 use Rattle.reading.specs.Tracks.{trackOf, sectorIn, bytesIn, imageAt, imageFor, headerFor}
@@ -26,9 +26,9 @@ use Rattle.reading.specs.Faults.{otherTracks, lentFault, blockReadFault}
 use Rattle.reading.specs.Judged.{LengthsJudged, LyingJudged, lies, BlockReadJudged}
 use Rattle.reading.proofs.Tracks.{seated, seated-only}
 
--- what is known of a drive, a table, a block and two images that pass 1, 11, 5 and 14
+-- what is known of a drive, a table, a block and two images that pass 11, 5 and 14, and 1 before them
 pub record Lent (size : ℕ) (shape : Shape) (r : ℕ) (t : List ℕ) (b : ℕ) (home spare : List ℕ) : Type 0 where
-  pub ready : Ready shape r t
+  pub sound : Sound shape r t
   pub below : b < driveOf shape r .blocks
   pub home-long : length home ≡ bytesIn size (shape .sectors)
   pub spare-long : length spare ≡ bytesIn size (shape .sectors)
@@ -67,21 +67,21 @@ module _ (size : ℕ) (shape : Shape) (home spare : List ℕ) where
       (λ other. let given : wrongLength ≡ 0 = rw (eq-eqb _ _ first, ne-eqb _ _ other) at none in absurd (omega arith)))
       (λ other. let given : wrongLength ≡ 0 = rw (ne-eqb _ _ other) at none in absurd (omega arith))
 
-module _ (size : ℕ) (shape : Shape) (r : ℕ) (t : List ℕ) (b : ℕ) (home spare : List ℕ) where
-  pub lent-shows : lentFault size shape r t b home spare ≡ 0 → Lent size shape r t b home spare
+module _ (size : ℕ) (shape : Shape) (r : ℕ) (t scratch : List ℕ) (b : ℕ) (home spare : List ℕ) where
+  pub lent-shows : lentFault size shape r t scratch b home spare ≡ 0 → Lent size shape r t b home spare
   unfolding lentFault
   lent-shows none =
-      let first = orElse-first (blockFault shape r t b) _ none in
-      let lengths = lengths-show size shape home spare (orElse-next (blockFault shape r t b) _ none) in
-      record { ready = block-ready shape r t b first; below = block-below shape r t b first; home-long = lengths .0; spare-long = lengths .1 }
+      let first = orElse-first (blockFault shape r t scratch b) _ none in
+      let lengths = lengths-show size shape home spare (orElse-next (blockFault shape r t scratch b) _ none) in
+      record { sound = block-sound shape r t scratch b first; below = block-below shape r t scratch b first; home-long = lengths .0; spare-long = lengths .1 }
 
-  pub read-exactly : Exactly (BlockReadJudged size shape r t b home spare) (blockReadFault size shape r t b home spare)
+  pub read-exactly : Exactly (BlockReadJudged size shape r t scratch b home spare) (blockReadFault size shape r t scratch b home spare)
   unfolding blockReadFault lentFault
   read-exactly =
-      rw (orElse-assoc (blockFault shape r t b))
-      (rows-passed (BlockJudged shape r t b) (LengthsJudged size shape home spare andThen LyingJudged size (driveOf shape r) t b home spare)
-      (block-exactly shape r t b)
+      rw (orElse-assoc (blockFault shape r t scratch b))
+      (rows-passed (BlockJudged shape r t scratch b) (LengthsJudged size shape home spare andThen LyingJudged size (driveOf shape r) t b home spare)
+      (block-exactly shape r t scratch b)
       (λ none.
       rows (LengthsJudged size shape home spare) (LyingJudged size (driveOf shape r) t b home spare)
       (row (tells-other-length size shape home spare) wrongLength)
-      (lying-exactly size (driveOf shape r) t b home spare (block-ready shape r t b none .obeys))))
+      (lying-exactly size (driveOf shape r) t b home spare (sound-obeys (block-sound shape r t scratch b none)))))

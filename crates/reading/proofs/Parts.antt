@@ -22,19 +22,19 @@ use Rattle.reading.specs.Promises.{spotOf, DataSized, AtSpot, in-home, i
 use Rattle.reading.proofs.Tracks.{image-long, data-inside}
 use Rattle.reading.proofs.Spots.{lies-inside, track-long, read-shows, spotted, home-told, spare-told, refused-told}
 
-module _ (size : ℕ) (shape : Shape) (r : ℕ) (t : List ℕ) (b : ℕ) where
+module _ (size : ℕ) (shape : Shape) (r : ℕ) (t scratch : List ℕ) (b : ℕ) where
   -- the data of a block that is read without fault has its size
   pub read-length :
-      (home spare : List ℕ) → blockReadFault size shape r t b home spare ≡ 0 →
+      (home spare : List ℕ) → blockReadFault size shape r t scratch b home spare ≡ 0 →
       length (dataOf size (imageFor size (driveOf shape r) t b home spare)) ≡ size
   read-length home spare none =
-      let lent = read-shows size shape r t b home spare none in
+      let lent = read-shows size shape r t scratch b home spare none in
       length-data size (imageFor size (driveOf shape r) t b home spare)
       (image-long size (startOf size (driveOf shape r) t b) (trackOf t b home spare) (rw (track-long lent) (lies-inside lent)))
 
   module _ (home spare : RefT (List ℕ)) where
     abbrev fault : ℕ
-    fault = blockReadFault size shape r t b (home .now) (spare .now)
+    fault = blockReadFault size shape r t scratch b (home .now) (spare .now)
 
     abbrev Empty : RefT (List ℕ) → Type 0
     Empty = Lends home 0 []
@@ -44,10 +44,10 @@ module _ (size : ℕ) (shape : Shape) (r : ℕ) (t : List ℕ) (b : ℕ) where
 
     -- the part that each spot hands back
     pub lends-home :
-        {offset : ℕ} (part : RefT (List ℕ)) → spotted size shape r t b (home .now) (spare .now) ≡ InHome offset →
-        Lends home offset (take (offset + size - offset) (drop offset (home .now))) part → DataSized size shape r t b home spare part
+        {offset : ℕ} (part : RefT (List ℕ)) → spotted size shape r t scratch b (home .now) (spare .now) ≡ InHome offset →
+        Lends home offset (take (offset + size - offset) (drop offset (home .now))) part → DataSized size shape r t scratch b home spare part
     lends-home {offset} part same lent =
-        let told = home-told size shape r t b (home .now) (spare .now) same in
+        let told = home-told size shape r t scratch b (home .now) (spare .now) same in
         let long : offset + size - offset ≡ size = omega arith in
         rw (told .0)
         (record {
@@ -56,10 +56,10 @@ module _ (size : ℕ) (shape : Shape) (r : ℕ) (t : List ℕ) (b : ℕ) where
         })
 
     pub lends-spare :
-        {offset : ℕ} (part : RefT (List ℕ)) → spotted size shape r t b (home .now) (spare .now) ≡ InSpare offset →
-        Lends spare offset (take (offset + size - offset) (drop offset (spare .now))) part → DataSized size shape r t b home spare part
+        {offset : ℕ} (part : RefT (List ℕ)) → spotted size shape r t scratch b (home .now) (spare .now) ≡ InSpare offset →
+        Lends spare offset (take (offset + size - offset) (drop offset (spare .now))) part → DataSized size shape r t scratch b home spare part
     lends-spare {offset} part same lent =
-        let told = spare-told size shape r t b (home .now) (spare .now) same in
+        let told = spare-told size shape r t scratch b (home .now) (spare .now) same in
         let long : offset + size - offset ≡ size = omega arith in
         rw (told .0)
         (record {
@@ -68,37 +68,37 @@ module _ (size : ℕ) (shape : Shape) (r : ℕ) (t : List ℕ) (b : ℕ) where
         })
 
     pub lends-empty :
-        {number : ℕ} (part : RefT (List ℕ)) → spotted size shape r t b (home .now) (spare .now) ≡ NotSpotted number →
-        Lends home 0 [] part → DataSized size shape r t b home spare part
+        {number : ℕ} (part : RefT (List ℕ)) → spotted size shape r t scratch b (home .now) (spare .now) ≡ NotSpotted number →
+        Lends home 0 [] part → DataSized size shape r t scratch b home spare part
     lends-empty part same =
-        let told = refused-told size shape r t b (home .now) (spare .now) same in
+        let told = refused-told size shape r t scratch b (home .now) (spare .now) same in
         refuses-part Empty Whole part fault (λ none. told .1 (sym (told .0) ∙ none))
 
-    module _ (part : RefT (List ℕ)) (lent : DataSized size shape r t b home spare part) where
-      pub refused-part : (blockReadFault size shape r t b (home .now) (spare .now) ≡ 0 → ⊥) → Lends home 0 [] part
+    module _ (part : RefT (List ℕ)) (lent : DataSized size shape r t scratch b home spare part) where
+      pub refused-part : (blockReadFault size shape r t scratch b (home .now) (spare .now) ≡ 0 → ⊥) → Lends home 0 [] part
       refused-part some = part-refused Empty Whole part fault some lent
 
       pub accepted-part :
-          blockReadFault size shape r t b (home .now) (spare .now) ≡ 0 →
+          blockReadFault size shape r t scratch b (home .now) (spare .now) ≡ 0 →
           Lends (trackOf t b home spare) (dataStart size (driveOf shape r) t b) (dataOf size (imageFor size (driveOf shape r) t b (home .now) (spare .now))) part
       accepted-part none = part-accepted Empty Whole part fault none lent
 
-      pub refused-empty : (blockReadFault size shape r t b (home .now) (spare .now) ≡ 0 → ⊥) → part .now ≡ []
+      pub refused-empty : (blockReadFault size shape r t scratch b (home .now) (spare .now) ≡ 0 → ⊥) → part .now ≡ []
       refused-empty some = refused-part some .holds
 
       pub accepted-data :
-          blockReadFault size shape r t b (home .now) (spare .now) ≡ 0 →
+          blockReadFault size shape r t scratch b (home .now) (spare .now) ≡ 0 →
           part .now ≡ dataOf size (imageFor size (driveOf shape r) t b (home .now) (spare .now))
       accepted-data none = accepted-part none .holds
 
-      pub empty-refused : 0 < size → part .now ≡ [] → blockReadFault size shape r t b (home .now) (spare .now) ≡ 0 → ⊥
+      pub empty-refused : 0 < size → part .now ≡ [] → blockReadFault size shape r t scratch b (home .now) (spare .now) ≡ 0 → ⊥
       empty-refused some empty none =
           omega (arith, read-length (home .now) (spare .now) none, ap length (sym (accepted-data none) ∙ empty))
 
       -- it is the data at the spot
-      pub data-at-spot : AtSpot size home spare part (spotted size shape r t b (home .now) (spare .now))
+      pub data-at-spot : AtSpot size home spare part (spotted size shape r t scratch b (home .now) (spare .now))
       data-at-spot =
-          byFault (blockReadFault size shape r t b (home .now) (spare .now))
+          byFault (blockReadFault size shape r t scratch b (home .now) (spare .now))
           (λ none.
           byBool (isReplaced t b)
           (λ e.
@@ -115,11 +115,11 @@ module _ (size : ℕ) (shape : Shape) (r : ℕ) (t : List ℕ) (b : ℕ) where
             holds = accepted-data none ∙ rw e (data-inside size (startOf size (driveOf shape r) t b) (home .now));
             lies = rw e at (accepted-part none .lies);
           }))))
-          (λ some. rw (answer-refused (blockReadFault size shape r t b (home .now) (spare .now)) NotSpotted (spotOf size shape r t b) some) (nowhere (refused-part some)))
+          (λ some. rw (answer-refused (blockReadFault size shape r t scratch b (home .now) (spare .now)) NotSpotted (spotOf size shape r t b) some) (nowhere (refused-part some)))
 
     -- two parts that the promise allows hold the same and lie at the same place
     pub data-one :
-        (first second : RefT (List ℕ)) → DataSized size shape r t b home spare first → DataSized size shape r t b home spare second →
+        (first second : RefT (List ℕ)) → DataSized size shape r t scratch b home spare first → DataSized size shape r t scratch b home spare second →
         (first .now ≡ second .now) × (first .ptr ≡ second .ptr)
     data-one =
         part-one home 0 [] (trackOf t b home spare) (dataStart size (driveOf shape r) t b) (dataOf size (imageFor size (driveOf shape r) t b (home .now) (spare .now))) fault

@@ -24,8 +24,8 @@ pub data LyingJudged (size : ℕ) (drive : Drive) (t : List ℕ) (b : ℕ) (home
       ContentsJudged size (imageAt size (bytesIn size sector) track) (headerFor drive t b) k → LyingJudged size drive t b home spare k
 
 -- exactly when a read of a block gives each number
-abbrev pub BlockReadJudged : ℕ → Shape → ℕ → List ℕ → ℕ → List ℕ → List ℕ → ℕ → Type 0
-BlockReadJudged size shape r t b home spare =
-    BlockJudged shape r t b
+abbrev pub BlockReadJudged : ℕ → Shape → ℕ → List ℕ → List ℕ → ℕ → List ℕ → List ℕ → ℕ → Type 0
+BlockReadJudged size shape r t scratch b home spare =
+    BlockJudged shape r t scratch b
     andThen (LengthsJudged size shape home spare
     andThen LyingJudged size (driveOf shape r) t b home spare)

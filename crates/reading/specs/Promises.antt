@@ -30,16 +30,16 @@ GivesSpot = Gives saidSpot (λ fault. (fault, 0, 0)) NotSpotted
 abbrev pub spotOf : ℕ → Shape → ℕ → List ℕ → ℕ → Spot
 spotOf size shape r t b = trackOf t b InHome InSpare (dataStart size (driveOf shape r) t b)
 
-abbrev pub SpotSized : ℕ → Shape → ℕ → List ℕ → ℕ → List ℕ → List ℕ → Spot → Type 0
-SpotSized size shape r t b home spare = GivesSpot (blockReadFault size shape r t b home spare) (spotOf size shape r t b)
+abbrev pub SpotSized : ℕ → Shape → ℕ → List ℕ → List ℕ → ℕ → List ℕ → List ℕ → Spot → Type 0
+SpotSized size shape r t scratch b home spare = GivesSpot (blockReadFault size shape r t scratch b home spare) (spotOf size shape r t b)
 
-abbrev pub JudgeSized : ℕ → Shape → ℕ → List ℕ → ℕ → List ℕ → List ℕ → Verdict → Type 0
-JudgeSized size shape r t b home spare = GivesVerdict (blockReadFault size shape r t b home spare) Good
+abbrev pub JudgeSized : ℕ → Shape → ℕ → List ℕ → List ℕ → ℕ → List ℕ → List ℕ → Verdict → Type 0
+JudgeSized size shape r t scratch b home spare = GivesVerdict (blockReadFault size shape r t scratch b home spare) Good
 
 -- the part that is handed back: the data where it lies in the image that the block lies in, or the empty part at the start of home
-abbrev pub DataSized : ℕ → Shape → ℕ → List ℕ → ℕ → RefT (List ℕ) → RefT (List ℕ) → RefT (List ℕ) → Type 0
-DataSized size shape r t b home spare =
-    answer (blockReadFault size shape r t b (home .now) (spare .now)) (λ fault. Lends home 0 [])
+abbrev pub DataSized : ℕ → Shape → ℕ → List ℕ → List ℕ → ℕ → RefT (List ℕ) → RefT (List ℕ) → RefT (List ℕ) → Type 0
+DataSized size shape r t scratch b home spare =
+    answer (blockReadFault size shape r t scratch b (home .now) (spare .now)) (λ fault. Lends home 0 [])
     (Lends (trackOf t b home spare) (dataStart size (driveOf shape r) t b) (dataOf size (imageFor size (driveOf shape r) t b (home .now) (spare .now))))
 
 -- the part at a spot: so many bytes from the offset on, in the image that the spot names; none at the start of home for a refusal
@@ -49,11 +49,11 @@ pub data AtSpot (size : ℕ) (home spare part : RefT (List ℕ)) : Spot → Type
   nowhere : {fault : ℕ} → Lends home 0 [] part → AtSpot size home spare part (NotSpotted fault)
 
 -- the public calls, at 512 data bytes
-abbrev pub Judge : Shape → ℕ → List ℕ → ℕ → List ℕ → List ℕ → Verdict → Type 0
+abbrev pub Judge : Shape → ℕ → List ℕ → List ℕ → ℕ → List ℕ → List ℕ → Verdict → Type 0
 Judge = JudgeSized dataSize
 
-abbrev pub Data : Shape → ℕ → List ℕ → ℕ → RefT (List ℕ) → RefT (List ℕ) → RefT (List ℕ) → Type 0
+abbrev pub Data : Shape → ℕ → List ℕ → List ℕ → ℕ → RefT (List ℕ) → RefT (List ℕ) → RefT (List ℕ) → Type 0
 Data = DataSized dataSize
 
-abbrev pub Spots : Shape → ℕ → List ℕ → ℕ → List ℕ → List ℕ → Spot → Type 0
+abbrev pub Spots : Shape → ℕ → List ℕ → List ℕ → ℕ → List ℕ → List ℕ → Spot → Type 0
 Spots = SpotSized dataSize

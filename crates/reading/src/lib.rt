@@ -6,6 +6,7 @@ ghost use Rattle.paper.specs.Checks.{pick};
 ghost use Rattle.paper.specs.Limits.{sectorsMost, imageExtra};
 ghost use Rattle.image.specs.Image.{contentsFault};
 ghost use Rattle.layout.specs.Steps.{Laid};
+ghost use Rattle.table.specs.Scratch.{Scratched};
 ghost use Rattle.reading.specs.Tracks.{headerFor, imageAt};
 ghost use Rattle.reading.specs.Steps.{seatOf};
 ghost use Rattle.reading.specs.Faults.{lentFault};
@@ -71,20 +72,22 @@ fn part_fault(size: usize, track: &[u8], start: usize, number: u32) -> u32
     image::contents_fault(size, &track[start..start + (size + IMAGE_EXTRA)], number)
 }
 
-// 1, 11, 5 or 14 for what is lent, else 0: no sector is looked into.
+// 1, 7, 11, 5 or 14 for what is lent, else 0: no sector is looked into.
 fn lent_fault(
     size: usize,
     shape: Shape,
     r: u32,
     table: &[u32],
+    scratch: &mut [u32],
     block: u32,
     home: &[u8],
     spare: &[u8],
 ) -> u32
     requires { ⌜ sectorsMost * (size + imageExtra) < 2 ^ 32 ⌝ }
-    ensures { λ result. ⌜ result ≡ lentFault size shape r (now (table .entry)) block (now (home .entry)) (now (spare .entry)) ⌝ }
+    ensures { λ result. ⌜ result ≡ lentFault size shape r (now (table .entry)) (now (scratch .entry)) block (now (home .entry)) (now (spare .entry)) ⌝ }
+    ensures { λ result. ⌜ Scratched shape r (now (scratch .entry)) (now (scratch .exit)) ⌝ }
 {
-    let fault = table::block_fault(shape, r, table, block);
+    let fault = table::block_fault(shape, r, table, scratch, block);
     if fault != 0 {
         return fault;
     }
@@ -98,20 +101,22 @@ fn lent_fault(
     0
 }
 
-// Where the data of a block begins. Checks 1, 11, 5, 14, 15 to 18.
+// Where the data of a block begins. Checks 1, 7, 11, 5, 14, 15 to 18.
 fn spot_sized<'a>(
     size: usize,
     shape: Shape,
     r: u32,
     table: &[u32],
+    scratch: &mut [u32],
     block: u32,
     home: &'a [u8],
     spare: &'a [u8],
 ) -> Spot
     requires { ⌜ sectorsMost * (size + imageExtra) < 2 ^ 32 ⌝ }
-    ensures { λ result. ⌜ SpotSized size shape r (now (table .entry)) block (now (home .entry)) (now (spare .entry)) result ⌝ }
+    ensures { λ result. ⌜ SpotSized size shape r (now (table .entry)) (now (scratch .entry)) block (now (home .entry)) (now (spare .entry)) result ⌝ }
+    ensures { λ result. ⌜ Scratched shape r (now (scratch .entry)) (now (scratch .exit)) ⌝ }
 {
-    let fault = lent_fault(size, shape, r, table, block, home, spare);
+    let fault = lent_fault(size, shape, r, table, scratch, block, home, spare);
     if fault != 0 {
         return Spot::Refused(fault);
     }
@@ -134,20 +139,22 @@ fn spot_sized<'a>(
     Spot::InHome(offset)
 }
 
-// The verdict on a block. Checks 1, 11, 5, 14, 15 to 18.
+// The verdict on a block. Checks 1, 7, 11, 5, 14, 15 to 18.
 fn judge_sized<'a>(
     size: usize,
     shape: Shape,
     r: u32,
     table: &[u32],
+    scratch: &mut [u32],
     block: u32,
     home: &'a [u8],
     spare: &'a [u8],
 ) -> Verdict
     requires { ⌜ sectorsMost * (size + imageExtra) < 2 ^ 32 ⌝ }
-    ensures { λ result. ⌜ JudgeSized size shape r (now (table .entry)) block (now (home .entry)) (now (spare .entry)) result ⌝ }
+    ensures { λ result. ⌜ JudgeSized size shape r (now (table .entry)) (now (scratch .entry)) block (now (home .entry)) (now (spare .entry)) result ⌝ }
+    ensures { λ result. ⌜ Scratched shape r (now (scratch .entry)) (now (scratch .exit)) ⌝ }
 {
-    match spot_sized(size, shape, r, table, block, home, spare) {
+    match spot_sized(size, shape, r, table, scratch, block, home, spare) {
         Spot::InHome(_) => Verdict::Good,
         Spot::InSpare(_) => Verdict::Good,
         Spot::Refused(fault) => Verdict::Refused(fault),
@@ -160,32 +167,36 @@ fn data_sized<'a>(
     shape: Shape,
     r: u32,
     table: &[u32],
+    scratch: &mut [u32],
     block: u32,
     home: &'a [u8],
     spare: &'a [u8],
 ) -> &'a [u8]
     requires { ⌜ sectorsMost * (size + imageExtra) < 2 ^ 32 ⌝ }
-    ensures { λ result. ⌜ DataSized size shape r (now (table .entry)) block (home .entry) (spare .entry) result ⌝ }
+    ensures { λ result. ⌜ DataSized size shape r (now (table .entry)) (now (scratch .entry)) block (home .entry) (spare .entry) result ⌝ }
+    ensures { λ result. ⌜ Scratched shape r (now (scratch .entry)) (now (scratch .exit)) ⌝ }
 {
-    match spot_sized(size, shape, r, table, block, home, spare) {
+    match spot_sized(size, shape, r, table, scratch, block, home, spare) {
         Spot::InHome(offset) => &home[offset as usize..offset as usize + size],
         Spot::InSpare(offset) => &spare[offset as usize..offset as usize + size],
         Spot::Refused(_) => &home[0..0],
     }
 }
 
-// The verdict on a block from the images of its home track and of its spare's track. Checks 1, 11, 5, 14, 15 to 18.
+// The verdict on a block from the images of its home track and of its spare's track. Checks 1, 7, 11, 5, 14, 15 to 18.
 pub fn judge<'a>(
     shape: Shape,
     r: u32,
     table: &[u32],
+    scratch: &mut [u32],
     block: u32,
     home: &'a [u8],
     spare: &'a [u8],
 ) -> Verdict
-    ensures { λ result. ⌜ Judge shape r (now (table .entry)) block (now (home .entry)) (now (spare .entry)) result ⌝ }
+    ensures { λ result. ⌜ Judge shape r (now (table .entry)) (now (scratch .entry)) block (now (home .entry)) (now (spare .entry)) result ⌝ }
+    ensures { λ result. ⌜ Scratched shape r (now (scratch .entry)) (now (scratch .exit)) ⌝ }
 {
-    judge_sized(DATA_SIZE, shape, r, table, block, home, spare)
+    judge_sized(DATA_SIZE, shape, r, table, scratch, block, home, spare)
 }
 
 // The 512 bytes of a good block where they lie, in whichever image that is; the empty part at the start of home exactly when the verdict refuses.
@@ -193,25 +204,29 @@ pub fn data<'a>(
     shape: Shape,
     r: u32,
     table: &[u32],
+    scratch: &mut [u32],
     block: u32,
     home: &'a [u8],
     spare: &'a [u8],
 ) -> &'a [u8]
-    ensures { λ result. ⌜ Data shape r (now (table .entry)) block (home .entry) (spare .entry) result ⌝ }
+    ensures { λ result. ⌜ Data shape r (now (table .entry)) (now (scratch .entry)) block (home .entry) (spare .entry) result ⌝ }
+    ensures { λ result. ⌜ Scratched shape r (now (scratch .entry)) (now (scratch .exit)) ⌝ }
 {
-    data_sized(DATA_SIZE, shape, r, table, block, home, spare)
+    data_sized(DATA_SIZE, shape, r, table, scratch, block, home, spare)
 }
 
-// In which image, and how far inside it, the 512 bytes of a good block begin. Checks 1, 11, 5, 14, 15 to 18.
+// In which image, and how far inside it, the 512 bytes of a good block begin. Checks 1, 7, 11, 5, 14, 15 to 18.
 pub fn spot<'a>(
     shape: Shape,
     r: u32,
     table: &[u32],
+    scratch: &mut [u32],
     block: u32,
     home: &'a [u8],
     spare: &'a [u8],
 ) -> Spot
-    ensures { λ result. ⌜ Spots shape r (now (table .entry)) block (now (home .entry)) (now (spare .entry)) result ⌝ }
+    ensures { λ result. ⌜ Spots shape r (now (table .entry)) (now (scratch .entry)) block (now (home .entry)) (now (spare .entry)) result ⌝ }
+    ensures { λ result. ⌜ Scratched shape r (now (scratch .entry)) (now (scratch .exit)) ⌝ }
 {
-    spot_sized(DATA_SIZE, shape, r, table, block, home, spare)
+    spot_sized(DATA_SIZE, shape, r, table, scratch, block, home, spare)
 }

@@ -106,3 +106,9 @@ module _ (shape : Shape) (r : ℕ) (t scratch : List ℕ) where
 
       pub block-below : b < driveOf shape r .blocks
       block-below = below-shows (driveOf shape r .blocks) b noSuchBlock (omega arith) (orElse-next (tableFault shape r t scratch) _ none)
+
+-- to the checks one scratch that is long enough is as good as another
+pub table-alike :
+    (shape : Shape) (r : ℕ) (t scratch other : List ℕ) → Enough shape r scratch → Enough shape r other → tableFault shape r t scratch ≡ tableFault shape r t other
+table-alike shape r t scratch other enough enough′ =
+    rw (le-ltb (length scratch) (driveOf shape r .spares) enough, le-ltb (length other) (driveOf shape r .spares) enough′)

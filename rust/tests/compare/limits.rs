@@ -1,17 +1,18 @@
 //! The limits, each at its last accepted number and at the first refused.
 
 use tautberry::{
-    format, page, shape as shapes, skip, skipped, spares, Cursor, Refusal, LIST_MOST, UNITS_MOST,
+    format, page, shape as shapes, skip, skipped, spares, Cursor, Refusal, LIST_MOST, PAGE_MOST,
+    SPARES_MOST, UNITS_MOST,
 };
 
 use crate::drawn_nights::Drawn;
 use crate::drawn_shapes::{grouped, groupings, misgrouped, paper, shape};
 use crate::drawn_tables::descriptor;
-use crate::model::spares::{drive, empty_table, search_order, word, UNUSABLE};
+use crate::model::spares::{drive, empty_table, search_order, word, PRIMARY, UNUSABLE};
 use crate::model::{self, skipping};
 use crate::nights::formatted;
-use crate::shape_calls::{every_call_gives, Rest};
-use crate::skipping::same_addresses;
+use crate::shape_calls::{every_call_gives, every_table_call_gives, is_lent_a_table, Rest};
+use crate::skipping::{numbers, same_addresses};
 
 /// The first numbers, as many as asked for.
 fn first(count: usize) -> Vec<u32> {
@@ -19,31 +20,89 @@ fn first(count: usize) -> Vec<u32> {
 }
 
 #[test]
-fn a_list_of_4096_and_of_4097() {
+fn a_list_of_65536_and_of_65537() {
     let (full, over) = (first(LIST_MOST), first(LIST_MOST + 1));
-    let n = 5_000;
-    assert_eq!(skip::sector_of(n, &full, 0), Ok(4_096));
-    assert_eq!(skipping::sector_of(n, &full, 0), Ok(4_096));
-    assert_eq!(skip::sector_of(n, &over, 0), Err(Refusal::TooLong));
-    assert_eq!(skipping::sector_of(n, &over, 0), Err(2));
-    assert_eq!(skip::block_on(n, &over, 0), Err(Refusal::TooLong));
-    assert_eq!(Cursor::start(n, &full, 0), Ok(Cursor { block: 0, skipped: 0 }));
-    let next = Cursor { block: 1, skipped: 4_096 };
-    assert_eq!(Cursor::default().step(n, &full), Ok((4_096, next)));
-    assert_eq!(Cursor::default().step(n, &over), Err((Refusal::TooLong, Cursor::default())));
-    assert_eq!(Cursor::default().check(n, &over), Err(Refusal::TooLong));
-    assert_eq!(Cursor::start(n, &over, 0), Err(Refusal::TooLong));
-    let drive = shape(10, 10, 50);
-    assert_eq!(skipped::address_of(drive, &over, 0), Err(Refusal::TooLong));
-    assert_eq!(skipped::block_at(drive, &over, 0, 0, 0), Err(Refusal::TooLong));
+    // 70,000 sectors; the first that is not in the full list holds block 0.
+    let drive = shape(35, 40, 50);
+    let (n, good) = (70_000, 65_536);
+    let (at, too_long) = ((32, 30, 36), Err(Refusal::TooLong));
+    let (cylinder, head, sector) = at;
 
-    let mut room = vec![0; 16_402];
-    assert_eq!(page::write(n, 1, &full, &mut room), Ok(16_398));
-    assert_eq!(page::write(n, 1, &over, &mut room), Err(Refusal::TooLong));
+    assert_eq!(skip::sector_of(n, &full, 0), Ok(good));
+    assert_eq!(skipping::sector_of(n, &full, 0), Ok(good));
+    assert_eq!(skip::sector_of(n, &over, 0).map(|_| ()), too_long);
+    assert_eq!(skipping::sector_of(n, &over, 0), Err(2));
+
+    assert_eq!(skip::block_on(n, &full, good), Ok(Some(0)));
+    assert_eq!(skipping::block_on(n, &full, good), Ok(Some(0)));
+    assert_eq!(skip::block_on(n, &over, good).map(|_| ()), too_long);
+    assert_eq!(skipping::block_on(n, &over, good), Err(2));
+
+    let (start, next) = (Cursor::default(), Cursor { block: 1, skipped: good });
+    assert_eq!(Cursor::start(n, &full, 0), Ok(start));
+    assert_eq!(skipping::start(n, &full, 0), Ok((0, 0)));
+    assert_eq!(Cursor::start(n, &over, 0).map(|_| ()), too_long);
+    assert_eq!(skipping::start(n, &over, 0), Err(2));
+    assert_eq!(next.check(n, &full), Ok(next));
+    assert_eq!(skipping::check((1, good), n, &full), Ok((1, good)));
+    assert_eq!(next.check(n, &over).map(|_| ()), too_long);
+    assert_eq!(skipping::check((1, good), n, &over), Err(2));
+    assert_eq!(start.step(n, &full), Ok((good, next)));
+    assert_eq!(skipping::step((0, 0), n, &full), Ok((good, (1, good))));
+    assert_eq!(start.step(n, &over), Err((Refusal::TooLong, start)));
+    assert_eq!(skipping::step((0, 0), n, &over), Err((2, (0, 0))));
+
+    let there = (cylinder, head, sector, sector);
+    assert_eq!(skipped::address_of(drive, &full, 0).map(numbers), Ok(there));
+    assert_eq!(skipping::address_of(paper(drive), &full, 0), Ok(there));
+    assert_eq!(skipped::address_of(drive, &over, 0).map(|_| ()), too_long);
+    assert_eq!(skipping::address_of(paper(drive), &over, 0), Err(2));
+    assert_eq!(skipped::block_at(drive, &full, cylinder, head, sector), Ok(Some(0)));
+    assert_eq!(skipping::block_at(paper(drive), &full, at), Ok(Some(0)));
+    let library = skipped::block_at(drive, &over, cylinder, head, sector);
+    assert_eq!(library.map(|_| ()), too_long);
+    assert_eq!(skipping::block_at(paper(drive), &over, at), Err(2));
+}
+
+/// Every entry of the list is the first home of a track.
+#[test]
+fn a_first_table_of_65536_entries_and_of_65537() {
+    let (drive_shape, r) = (shape(4_096, 16, 64), 1);
+    let full: Vec<u32> = (0..SPARES_MOST).map(|track| 64 * track).collect();
+    let mut over = full.clone();
+    over.push(full[LIST_MOST - 1] + 1);
+    let (mut ours, mut theirs) = (vec![7; LIST_MOST], vec![7; LIST_MOST]);
+    assert_eq!(spares::first_table(drive_shape, r, &over, &mut ours), Err(Refusal::TooLong));
+    let model = model::spares::first_table(paper(drive_shape), r, &over, &mut theirs);
+    assert_eq!(model, Err(2));
+    assert!(ours == vec![7; LIST_MOST] && theirs == ours);
+
+    assert_eq!(spares::first_table(drive_shape, r, &full, &mut ours), Ok(SPARES_MOST));
+    let model = model::spares::first_table(paper(drive_shape), r, &full, &mut theirs);
+    assert_eq!(model, Ok(SPARES_MOST));
+    let expected: Vec<u32> = (0..SPARES_MOST).map(|track| word(PRIMARY, 63 * track)).collect();
+    assert!(ours == expected && theirs == expected);
+}
+
+#[test]
+fn a_page_of_262158_bytes_and_of_one_entry_more() {
+    let (full, over) = (first(LIST_MOST), first(LIST_MOST + 1));
+    let (n, entries) = (70_000, 65_536);
+    let (mut ours, mut theirs) = (vec![0; PAGE_MOST + 4], vec![0; PAGE_MOST + 4]);
+    assert_eq!(page::write(n, 1, &over, &mut ours), Err(Refusal::TooLong));
+    assert_eq!(model::page::write(n, 1, &over, &mut theirs), Err(2));
+    assert!(ours == vec![0; PAGE_MOST + 4]);
+    assert_eq!(page::write(n, 1, &full, &mut ours), Ok(262_158));
+    assert_eq!(model::page::write(n, 1, &full, &mut theirs), Ok(262_158));
+    assert!(ours == theirs);
+
     let mut list = vec![0; LIST_MOST + 1];
-    let read = page::Page { kind: 1, n, entries: 4_096 };
-    assert_eq!(page::read(&room[..16_398], &mut list), Ok(read));
+    let read = page::Page { kind: 1, n, entries };
+    assert_eq!(page::read(&ours[..262_158], &mut list), Ok(read));
+    assert!(list[..LIST_MOST] == full && list[LIST_MOST] == 0);
+    assert_eq!(model::page::read(&ours[..262_158], &mut list), Ok((1, n, entries)));
     let long_page = model::page::bytes(n, 1, &over);
+    assert_eq!(long_page.len(), 262_162);
     assert_eq!(page::read(&long_page, &mut list), Err(Refusal::BadPage));
     assert_eq!(model::page::read(&long_page, &mut list), Err(8));
 }
@@ -128,28 +187,41 @@ fn every_address_of_64_heads() {
     }
 }
 
+/// T × r at its limit, asked of every call: with scratch for each spare, and with one number fewer.
 #[test]
-fn spares_of_1024_and_of_1025() {
-    for (most, r) in [(shape(64, 16, 2), 1), (shape(32, 1, 64), 32)] {
-        let table = vec![0; 1_024];
-        let census = spares::census(most, r, &table).expect("1,024 spares");
-        assert_eq!((census.free, census.null), (1_024, 0));
-    }
-    for (over, r) in [(shape(41, 25, 2), 1), (shape(205, 1, 6), 5), (shape(25, 1, 42), 41)] {
-        let table = model_table_of_1025();
-        assert_eq!(spares::census(over, r, &table), Err(Refusal::OutOfRange));
-        assert_eq!(model::spares::census(paper(over), r, &table), Err(1));
-        assert_eq!(spares::sector_of(over, r, &table, 0), Err(Refusal::OutOfRange));
-        let mut room = vec![0; 2_000];
-        assert_eq!(spares::first_table(over, r, &[], &mut room), Err(Refusal::OutOfRange));
+fn spares_of_65536() {
+    for (most, r) in [(shape(4_096, 16, 64), 1), (shape(4_096, 1, 64), 16)] {
+        let mut rest = Rest::proper(most, r);
+        assert_eq!((rest.table.len(), rest.scratch.len()), (65_536, 65_536));
+        every_call_gives(most, &rest, |_| 0);
+        rest.scratch.pop();
+        every_table_call_gives(most, &rest, |_| 7, &rest.scratch);
     }
 }
 
-/// A table as 1,025 spares would need it.
-fn model_table_of_1025() -> Vec<u32> {
-    let mut table = vec![0; 1_152];
-    table[1_025..].fill(0x8000_0000);
-    table
+/// T × r above its limit, with all that such a drive would need. There is no drive of 65,537 spares, since
+/// that number is prime and above every number of a shape.
+#[test]
+fn spares_of_65538() {
+    for (over, r) in [(shape(1_986, 33, 4), 1), (shape(331, 18, 12), 11)] {
+        let rest = Rest::proper(over, r);
+        assert_eq!(rest.scratch.len(), 65_538);
+        let takes_r = |call: &str| is_lent_a_table(call) || call == "spares::first_table";
+        every_call_gives(over, &rest, |call| u32::from(takes_r(call)));
+    }
+}
+
+/// A number of spares that needs a table block more than 1,024 do.
+#[test]
+fn spares_of_1025() {
+    for (drive, r) in [(shape(41, 25, 4), 1), (shape(205, 1, 8), 5), (shape(25, 1, 42), 41)] {
+        let mut rest = Rest::proper(drive, r);
+        assert_eq!((rest.table.len(), rest.scratch.len()), (1_152, 1_025));
+        every_call_gives(drive, &rest, |_| 0);
+        // The null descriptors begin one place late.
+        rest.table[1_025] = 0;
+        every_table_call_gives(drive, &rest, |_| 11, &[0; 1_025]);
+    }
 }
 
 #[test]
@@ -157,37 +229,47 @@ fn every_spare_used_then_one_more() {
     for (drive_shape, r) in [(shape(64, 16, 3), 1), (shape(2, 2, 5), 2), (shape(16, 4, 64), 16)] {
         let drive = drive(paper(drive_shape), r).expect("a drive in its range");
         let (mut ours, mut theirs) = (empty_table(drive), empty_table(drive));
+        let mut scratch = vec![u32::MAX; drive.spares() as usize];
+        let mut their_scratch = scratch.clone();
         // All blocks of the last track first, so that the search runs far.
         let mut blocks = (0..drive.blocks()).rev();
         for block in blocks.by_ref().take(drive.spares() as usize) {
-            let place = model::spares::replace(paper(drive_shape), r, &mut theirs, block);
-            assert_eq!(spares::replace(drive_shape, r, &mut ours, block).ok(), place.ok());
+            let lent = &mut their_scratch;
+            let place = model::spares::replace(paper(drive_shape), r, &mut theirs, lent, block);
+            let library = spares::replace(drive_shape, r, &mut ours, &mut scratch, block);
+            assert_eq!(library.ok(), place.ok());
             assert!(place.is_ok(), "block {block} finds a spare");
         }
-        assert_eq!(ours, theirs);
+        assert_eq!((&ours, &scratch), (&theirs, &their_scratch));
         let one_more = blocks.next().expect("more blocks than spares");
         let full = ours.clone();
         // The second lies on a spare.
         for block in [one_more, one_more + 1] {
-            let refused = spares::replace(drive_shape, r, &mut ours, block);
+            scratch.fill(u32::MAX);
+            let refused = spares::replace(drive_shape, r, &mut ours, &mut scratch, block);
             assert_eq!(refused, Err(Refusal::NoSpare));
-            assert_eq!(ours, full);
+            assert_eq!((&ours, &scratch), (&full, &their_scratch));
         }
-        assert_eq!(spares::census(drive_shape, r, &ours).map(|count| count.free), Ok(0));
+        let census = spares::census(drive_shape, r, &ours, &mut scratch);
+        assert_eq!(census.map(|count| count.free), Ok(0));
     }
 }
 
 /// The shift at both ends: from the last cylinder to the first and back.
 #[test]
 fn the_longest_shifts() {
-    let drive_shape = shape(1_024, 1, 2);
-    let drive = drive(paper(drive_shape), 1).expect("1,024 spares");
+    let drive_shape = shape(4_096, 1, 2);
+    let drive = drive(paper(drive_shape), 1).expect("4,096 spares");
     let mut table = empty_table(drive);
-    table[0] = descriptor(drive, 0, 1_023);
-    table[1_023] = descriptor(drive, 1_023, 0);
-    assert_eq!(spares::shift(drive_shape, 1, &table, 1_023), Ok(-1_023));
-    assert_eq!(spares::shift(drive_shape, 1, &table, 0), Ok(1_023));
-    assert_eq!(spares::shift(drive_shape, 1, &table, 5), Ok(0));
+    table[0] = descriptor(drive, 0, 4_095);
+    table[4_095] = descriptor(drive, 4_095, 0);
+    for (block, shift) in [(4_095, -4_095), (0, 4_095), (5, 0)] {
+        let (mut ours, mut theirs) = (vec![1; 4_096], vec![1; 4_096]);
+        assert_eq!(spares::shift(drive_shape, 1, &table, &mut ours, block), Ok(shift));
+        let model = model::spares::shift(paper(drive_shape), 1, &table, &mut theirs, block);
+        assert_eq!(model, Ok(shift));
+        assert_eq!(ours, theirs);
+    }
 }
 
 /// The search leaves its table block on one side and goes on at the other, then in the blocks after
@@ -200,7 +282,7 @@ fn the_search_goes_round_the_table() {
         for block in [0, 1, 63, 126, 127, 128, 129, 200, 255, 256, 383] {
             let mut table = vec![word(UNUSABLE, 0); 384];
             table[free as usize] = 0;
-            let place = spares::replace(drive_shape, 1, &mut table, block);
+            let place = spares::replace(drive_shape, 1, &mut table, &mut [0; 384], block);
             assert_eq!(place, Ok(free), "block {block}");
             assert_eq!(table[free as usize], descriptor(drive, free, block));
         }
@@ -213,18 +295,18 @@ fn every_spare_dies_under_one_block() {
     let drive_shape = shape(64, 6, 2);
     let drive = drive(paper(drive_shape), 1).expect("384 spares");
     for block in [0, 127, 128, 200, 383] {
-        let mut table = empty_table(drive);
-        let order = search_order(384, drive.primary(block));
+        let (mut table, mut scratch) = (empty_table(drive), [u32::MAX; 384]);
+        let order: Vec<usize> = search_order(384, drive.primary(block)).collect();
         for place in &order {
-            let answer = spares::replace(drive_shape, 1, &mut table, block);
+            let answer = spares::replace(drive_shape, 1, &mut table, &mut scratch, block);
             assert_eq!(answer, Ok(*place as u32), "block {block}");
         }
         let mut expected = vec![word(UNUSABLE, 0); 384];
         expected[order[383]] = descriptor(drive, order[383] as u32, block);
         assert_eq!(table, expected, "block {block}");
-        let one_more = spares::replace(drive_shape, 1, &mut table, block);
+        let one_more = spares::replace(drive_shape, 1, &mut table, &mut scratch, block);
         assert_eq!(one_more, Err(Refusal::NoSpare), "block {block}");
-        assert_eq!(table, expected, "block {block}");
+        assert_eq!((&table, scratch), (&expected, [0; 384]), "block {block}");
     }
 }
 
@@ -256,17 +338,17 @@ fn a_page_of_14_bytes_and_of_13() {
     assert_eq!(page::write(20, 0, &[], &mut [0; 13]), Err(Refusal::NoRoom));
 }
 
-/// A night that leaves exactly 4,096 entries, and one that would leave 4,097, in each place where a
+/// A night that leaves exactly 65,536 entries, and one that would leave 65,537, in each place where a
 /// length is refused.
 #[test]
-fn nights_of_4096_and_of_4097() {
-    let even: Vec<u32> = (0..2_048).map(|entry| 2 * entry).collect();
-    let odd: Vec<u32> = (0..2_048).map(|entry| 2 * entry + 1).collect();
+fn nights_of_65536_and_of_65537() {
+    let even: Vec<u32> = (0..32_768).map(|entry| 2 * entry).collect();
+    let odd: Vec<u32> = (0..32_768).map(|entry| 2 * entry + 1).collect();
     let mut longer = odd.clone();
-    longer.push(4_097);
-    let night = |g: &Vec<u32>, space, option, d: Vec<u32>| Drawn {
-        n: 10_000,
-        p: even.clone(),
+    longer.push(65_537);
+    let night = |p: &Vec<u32>, g: &Vec<u32>, space, option, d: Vec<u32>| Drawn {
+        n: 140_000,
+        p: p.clone(),
         g: g.clone(),
         space,
         option,
@@ -274,23 +356,28 @@ fn nights_of_4096_and_of_4097() {
     };
     let cases = [
         // The list in use, whatever the option.
-        (night(&odd, 3, 6, vec![]), Ok(0)),
-        (night(&longer, 3, 6, vec![]), Err(2)),
+        (night(&even, &odd, 3, 6, vec![]), Ok(0)),
+        (night(&even, &longer, 3, 6, vec![]), Err(2)),
         // The new list.
-        (night(&odd, 1, 1, vec![]), Ok(4_096)),
-        (night(&odd, 1, 1, vec![2_047]), Ok(4_096)),
-        (night(&odd, 1, 1, vec![2_048]), Err(2)),
-        (night(&odd, 0, 5, longer.clone()), Err(2)),
-        (night(&odd, 0, 7, longer.clone()), Ok(2_049)),
-        // D itself, and G.
-        (night(&odd, 0, 7, first(4_096)), Ok(4_096)),
-        (night(&odd, 0, 7, first(4_097)), Err(2)),
-        (night(&first(4_096), 2, 3, vec![]), Ok(4_096)),
-        (night(&first(4_096), 2, 3, vec![0]), Err(2)),
-        (night(&first(4_097), 0, 6, vec![]), Err(2)),
+        (night(&even, &odd, 1, 1, vec![]), Ok(65_536)),
+        (night(&even, &odd, 1, 1, vec![32_767]), Ok(65_536)),
+        (night(&even, &odd, 1, 1, vec![32_768]), Err(2)),
+        (night(&even, &odd, 0, 5, longer.clone()), Err(2)),
+        (night(&even, &odd, 0, 7, longer.clone()), Ok(32_769)),
+        // D itself.
+        (night(&even, &odd, 0, 7, first(65_536)), Ok(65_536)),
+        (night(&even, &odd, 0, 7, first(65_537)), Err(2)),
+        (night(&even, &odd, 0, 3, first(65_537)), Err(2)),
+        // G, as it is and with one block more.
+        (night(&even, &first(65_536), 2, 3, vec![]), Ok(65_536)),
+        (night(&even, &first(65_536), 2, 3, vec![0]), Err(2)),
+        (night(&even, &first(65_537), 0, 6, vec![]), Err(2)),
+        // P.
+        (night(&first(65_536), &odd, 1, 0, vec![]), Ok(65_536)),
+        (night(&first(65_537), &odd, 1, 0, vec![]), Err(2)),
     ];
     for (case, (night, expected)) in cases.into_iter().enumerate() {
-        let (mut grown, mut list) = (vec![0; 4_096], vec![0; 4_096]);
+        let (mut grown, mut list) = (vec![0; LIST_MOST], vec![0; LIST_MOST]);
         let library = formatted(&night, &mut grown, &mut list);
         assert_eq!(library.map(|done| done.list).map_err(Refusal::number), expected, "case {case}");
         let model = model::format::lists(night.lent());

@@ -31,6 +31,7 @@ mod paper;
 mod plainly;
 mod reads;
 mod rooms;
+mod scratch;
 mod shape_calls;
 mod skipping;
 mod tables;

@@ -6,7 +6,7 @@ use crate::drawn_nights::Drawn;
 use crate::drawn_shapes::{grouped, paper, shape};
 use crate::model::{self, skipping};
 use crate::nights::formatted;
-use crate::shape_calls::{every_call_gives, Rest};
+use crate::shape_calls::{every_call_gives, every_table_call_gives, Rest};
 use crate::skipping::numbers;
 
 const CHART: [u32; 4] = [3, 7, 60, 61];
@@ -95,10 +95,12 @@ fn one_group_leaves_the_angle_at_the_sector() {
 #[test]
 fn the_angle_of_a_replaced_block() {
     let drive = two_groups();
-    let mut table = Rest::proper(drive, 2).table;
+    let Rest { mut table, mut scratch, .. } = Rest::proper(drive, 2);
     for at in [(0, 2, 0, 3), (0, 2, 3, 1)] {
-        assert_eq!(spares::address_of(drive, 2, &table, 6).map(numbers), Ok(at));
-        assert_eq!(model::spares::address_of(paper(drive), 2, &table, 6), Ok(at));
+        let library = spares::address_of(drive, 2, &table, &mut scratch, 6);
+        assert_eq!(library.map(numbers), Ok(at));
+        let model = model::spares::address_of(paper(drive), 2, &table, &mut scratch, 6);
+        assert_eq!(model, Ok(at));
         table[4] = 0x2000_0006;
     }
 }
@@ -127,35 +129,55 @@ fn good_and_bad_groups() {
     }
 }
 
-/// C 2, H 2, S 5, whose table has 8 spares where r is 2.
-fn eight_spares() -> Shape {
-    shape(2, 2, 5)
-}
-
-/// The table of this drive with these first 8 words.
+/// The table of 8 spares with these words for them.
 fn table_of(words: [u32; 8]) -> Vec<u32> {
     let mut table = words.to_vec();
     table.resize(128, 0x8000_0000);
     table
 }
 
-/// Library and model must answer this place or refusal for the block, and leave the same table.
-fn replaces(table: &mut Vec<u32>, block: u32, expected: Result<u32, u32>) {
+/// A drive and its r.
+type Drive = (Shape, u32);
+
+/// C 2, H 2, S 5, whose table has 8 spares where r is 2.
+const EIGHT_SPARES: Drive = (Shape::ungrouped(2, 2, 5), 2);
+
+/// Scratch for a drive, full of ones.
+fn scratch((shape, r): Drive) -> Vec<u32> {
+    vec![u32::MAX; (shape.cylinders * shape.heads * r) as usize]
+}
+
+/// Library and model must answer this place or refusal for the block, and leave the same table and
+/// scratch.
+fn replaces(drive: Drive, table: &mut Vec<u32>, block: u32, expected: Result<u32, u32>) {
+    let (shape, r) = drive;
     let mut theirs = table.clone();
-    let library = spares::replace(eight_spares(), 2, table, block);
-    let model = model::spares::replace(paper(eight_spares()), 2, &mut theirs, block);
+    let (mut ours_lent, mut theirs_lent) = (scratch(drive), scratch(drive));
+    let library = spares::replace(shape, r, table, &mut ours_lent, block);
+    let model = model::spares::replace(paper(shape), r, &mut theirs, &mut theirs_lent, block);
     assert_eq!(library.map_err(Refusal::number), expected, "block {block}");
     assert_eq!(model, expected, "block {block}");
-    assert_eq!(*table, theirs, "block {block}");
+    assert!(*table == theirs && ours_lent == theirs_lent, "block {block}");
 }
 
 /// Library and model must find the block on this sector, so many cylinders from its home.
-fn lies_on(table: &[u32], block: u32, sector: u32, shift: i32) {
-    let drive = eight_spares();
-    assert_eq!(spares::sector_of(drive, 2, table, block), Ok(sector));
-    assert_eq!(spares::shift(drive, 2, table, block), Ok(shift));
-    assert_eq!(model::spares::sector_of(paper(drive), 2, table, block), Ok(sector));
-    assert_eq!(model::spares::shift(paper(drive), 2, table, block), Ok(shift));
+fn lies_on(drive: Drive, table: &[u32], block: u32, sector: u32, shift: i32) {
+    let (shape, r) = drive;
+    let lent = &mut scratch(drive);
+    assert_eq!(spares::sector_of(shape, r, table, lent, block), Ok(sector));
+    assert_eq!(spares::shift(shape, r, table, lent, block), Ok(shift));
+    assert_eq!(model::spares::sector_of(paper(shape), r, table, lent, block), Ok(sector));
+    assert_eq!(model::spares::shift(paper(shape), r, table, lent, block), Ok(shift));
+}
+
+/// Library and model must count so many descriptors of code 0, 2, 3, 4 and 8.
+fn counts(drive: Drive, table: &[u32], expected: [u32; 5]) {
+    let (shape, r) = drive;
+    let lent = &mut scratch(drive);
+    let [free, primary, elsewhere, unusable, null] = expected;
+    let census = spares::Census { free, primary, elsewhere, unusable, null };
+    assert_eq!(spares::census(shape, r, table, lent), Ok(census));
+    assert_eq!(model::spares::census(paper(shape), r, table, lent), Ok(expected));
 }
 
 /// Three blocks are replaced, and then the third of them again.
@@ -163,15 +185,15 @@ fn lies_on(table: &[u32], block: u32, sector: u32, shift: i32) {
 fn three_replacements() {
     let mut table = table_of([0; 8]);
     for (block, place, word) in [(7, 4, 0x2000_0007), (8, 5, 0x3000_0008), (6, 3, 0x3000_0006)] {
-        replaces(&mut table, block, Ok(place));
+        replaces(EIGHT_SPARES, &mut table, block, Ok(place));
         assert_eq!(table[place as usize], word);
     }
-    lies_on(&table, 6, 9, -1);
+    lies_on(EIGHT_SPARES, &table, 6, 9, -1);
 
-    replaces(&mut table, 6, Ok(6));
+    replaces(EIGHT_SPARES, &mut table, 6, Ok(6));
     let words = [0, 0, 0, 0x4000_0000, 0x2000_0007, 0x3000_0008, 0x3000_0006, 0];
     assert_eq!(table, table_of(words));
-    lies_on(&table, 6, 18, 0);
+    lies_on(EIGHT_SPARES, &table, 6, 18, 0);
 }
 
 /// One block is replaced five times, until no spare is left to any block.
@@ -180,19 +202,17 @@ fn spares_that_die() {
     let mut table = table_of([0; 8]);
     let places = [(7, 4), (7, 5), (8, 3), (7, 6), (6, 2), (7, 7), (0, 0), (7, 1)];
     for (block, place) in places {
-        replaces(&mut table, block, Ok(place));
+        replaces(EIGHT_SPARES, &mut table, block, Ok(place));
     }
     let mut words = [0x4000_0000; 8];
     words[..4].copy_from_slice(&[0x2000_0000, 0x3000_0007, 0x3000_0006, 0x3000_0008]);
     assert_eq!(table, table_of(words));
 
-    let census = spares::Census { free: 0, primary: 1, elsewhere: 3, unusable: 4, null: 120 };
-    assert_eq!(spares::census(eight_spares(), 2, &table), Ok(census));
-    assert_eq!(model::spares::census(paper(eight_spares()), 2, &table), Ok([0, 1, 3, 4, 120]));
-    lies_on(&table, 7, 4, -1);
+    counts(EIGHT_SPARES, &table, [0, 1, 3, 4, 120]);
+    lies_on(EIGHT_SPARES, &table, 7, 4, -1);
 
     for block in 0..12 {
-        replaces(&mut table, block, Err(13));
+        replaces(EIGHT_SPARES, &mut table, block, Err(13));
         assert_eq!(table, table_of(words), "block {block}");
     }
 }
@@ -201,7 +221,7 @@ fn spares_that_die() {
 #[test]
 fn back_to_the_primary_place() {
     let mut table = table_of([0, 0, 0, 0, 0, 0x3000_0007, 0, 0]);
-    replaces(&mut table, 7, Ok(4));
+    replaces(EIGHT_SPARES, &mut table, 7, Ok(4));
     assert_eq!(table, table_of([0, 0, 0, 0, 0x2000_0007, 0x4000_0000, 0, 0]));
 }
 
@@ -212,9 +232,88 @@ fn the_last_good_spare() {
         let mut words = [0x4000_0000; 8];
         words[place] = if place == 4 { 0x2000_0007 } else { 0x3000_0007 };
         let mut table = table_of(words);
-        replaces(&mut table, 7, Err(13));
+        replaces(EIGHT_SPARES, &mut table, 7, Err(13));
         assert_eq!(table, table_of(words), "place {place}");
     }
+}
+
+/// C 880, H 16, S 53, r 1: 14,080 spares and 732,160 blocks, 52 of a track.
+const CUSTOMERS: Drive = (Shape::ungrouped(880, 16, 53), 1);
+
+/// Library and model must make this table of the customer's drive, which has no null descriptor.
+fn first_table_of_the_customers_drive(list: &[u32], expected: &[u32]) -> Vec<u32> {
+    let (shape, r) = CUSTOMERS;
+    let (mut ours, mut theirs) = (vec![7; 14_080], vec![7; 14_080]);
+    assert_eq!(spares::first_table(shape, r, list, &mut ours), Ok(14_080));
+    assert_eq!(model::spares::first_table(paper(shape), r, list, &mut theirs), Ok(14_080));
+    assert!(ours == expected && theirs == expected);
+    ours
+}
+
+#[test]
+fn replacements_on_the_customers_drive() {
+    let drive = model::spares::drive(paper(CUSTOMERS.0), CUSTOMERS.1).expect("in its range");
+    assert_eq!((drive.spares(), drive.blocks(), drive.table_length()), (14_080, 732_160, 14_080));
+    let mut table = first_table_of_the_customers_drive(&[], &[0; 14_080]);
+    counts(CUSTOMERS, &table, [14_080, 0, 0, 0, 0]);
+    let rows = [
+        (732_159, 14_079, 0x200B_2BFF),
+        (732_158, 14_078, 0x300B_2BFE),
+        (732_157, 14_077, 0x300B_2BFD),
+        (6_656, 128, 0x2000_1A00),
+        (6_657, 129, 0x3000_1A01),
+        (6_658, 130, 0x3000_1A02),
+        (6_604, 127, 0x2000_19CC),
+        (6_605, 126, 0x3000_19CD),
+    ];
+    for (block, place, word) in rows {
+        replaces(CUSTOMERS, &mut table, block, Ok(place));
+        assert_eq!(table[place as usize], word, "block {block}");
+    }
+    // Place 14,077 is the spare of head 13 of the last cylinder, and 126 that of head 14 of cylinder 7.
+    lies_on(CUSTOMERS, &table, 732_157, 14_077 * 53 + 52, 0);
+    lies_on(CUSTOMERS, &table, 6_605, 126 * 53 + 52, 0);
+    lies_on(CUSTOMERS, &table, 6_658, 130 * 53 + 52, 0);
+    counts(CUSTOMERS, &table, [14_072, 3, 5, 0, 0]);
+}
+
+/// The first home of every track is bad, so every spare is used; block 1 is at home and block 0 on a spare.
+#[test]
+fn every_spare_of_the_customers_drive_used_then_one_more() {
+    let list: Vec<u32> = (0..14_080).map(|track| 53 * track).collect();
+    let full: Vec<u32> = (0..14_080).map(|track| 0x2000_0000 + 52 * track).collect();
+    let mut table = first_table_of_the_customers_drive(&list, &full);
+    counts(CUSTOMERS, &table, [0, 14_080, 0, 0, 0]);
+    for block in [1, 0, 732_159] {
+        replaces(CUSTOMERS, &mut table, block, Err(13));
+        assert!(table == full, "block {block}");
+    }
+}
+
+/// C 4,096, H 16, S 64, r 1: 65,536 spares and 4,128,768 blocks, which is more than 32 blocks a spare. One
+/// bit of the scratch stands for block 5 and for block 2,097,157.
+#[test]
+fn blocks_that_share_a_bit_of_the_scratch() {
+    let drive = (shape(4_096, 16, 64), 1);
+    let mut table = vec![0; 65_536];
+    replaces(drive, &mut table, 5, Ok(0));
+    replaces(drive, &mut table, 2_097_157, Ok(33_288));
+    counts(drive, &table, [65_534, 2, 0, 0, 0]);
+    lies_on(drive, &table, 5, 63, 0);
+    lies_on(drive, &table, 2_097_157, 33_288 * 64 + 63, 0);
+}
+
+/// The last block of the same drive, named by its own spare and by the one before.
+#[test]
+fn the_last_block_named_twice() {
+    let drive = (shape(4_096, 16, 64), 1);
+    let mut table = vec![0; 65_536];
+    table[65_535] = 0x2000_0000 + 4_128_767;
+    counts(drive, &table, [65_535, 1, 0, 0, 0]);
+    table[65_534] = 0x3000_0000 + 4_128_767;
+    replaces(drive, &mut table, 0, Err(11));
+    let rest = Rest { table, ..Rest::proper(drive.0, drive.1) };
+    every_table_call_gives(drive.0, &rest, |_| 11, &[0; 65_536]);
 }
 
 #[test]

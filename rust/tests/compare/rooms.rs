@@ -2,7 +2,7 @@
 //!
 //! The rooms stand between guards, so a write outside them shows too. Nothing here asks the model.
 
-use tautberry::{format, image, page, spares, Refusal};
+use tautberry::{format, image, page, spares, Refusal, LIST_MOST, PAGE_MOST};
 
 use crate::draw::{Draw, Room};
 use crate::drawn_shapes::shape;
@@ -50,11 +50,11 @@ fn rooms_of_a_page_that_is_read() {
 #[test]
 fn rooms_of_a_page_that_is_written() {
     let mut draw = Draw::of(2);
-    let over: Vec<u32> = (0..4_097).collect();
+    let over: Vec<u32> = (0..=LIST_MOST as u32).collect();
     let cases: [(u32, u32, &[u32], usize, Result<(), Refusal>); 7] = [
         (0, 0, &[3, 7], 40, Err(Refusal::OutOfRange)),
         (20, 2, &[3, 7], 40, Err(Refusal::BadPage)),
-        (20, 0, &over, 17_000, Err(Refusal::TooLong)),
+        (20, 0, &over, PAGE_MOST + 4, Err(Refusal::TooLong)),
         (20, 0, &[7, 3], 40, Err(Refusal::NotRising)),
         (20, 0, &[3, 20], 40, Err(Refusal::Outside)),
         (20, 0, &[3, 7], 21, Err(Refusal::NoRoom)),
@@ -73,7 +73,7 @@ fn rooms_of_a_page_that_is_written() {
 #[test]
 fn both_rooms_of_a_night() {
     let mut draw = Draw::of(3);
-    let over: Vec<u32> = (0..4_097).collect();
+    let over: Vec<u32> = (0..=LIST_MOST as u32).collect();
     let cases: [(u32, u32, &[u32], [usize; 2], Result<(), Refusal>); 8] = [
         (0, 1, &[3, 16], [9, 9], Err(Refusal::OutOfRange)),
         (20, 1, &over, [9, 9], Err(Refusal::TooLong)),
@@ -113,21 +113,32 @@ fn the_table_of_a_replacement() {
     full.lent().iter_mut().filter(|word| **word == 0).for_each(|word| *word = 0x4000_0000);
     let mut broken = proper.clone();
     broken.lent()[0] = 1;
+    // The table, r, the length of the scratch, the block, and the refusal.
     let cases = [
-        (&proper, 5, 0, Err(Refusal::OutOfRange)),
-        (&broken, 2, 0, Err(Refusal::BadTable)),
-        (&proper, 2, 12, Err(Refusal::NoSuchBlock)),
-        (&full, 2, 7, Err(Refusal::NoSpare)),
-        (&full, 2, 0, Err(Refusal::NoSpare)),
-        (&proper, 2, 0, Ok(())),
+        (&proper, 5, 11, 0, Err(Refusal::OutOfRange)),
+        (&proper, 2, 7, 0, Err(Refusal::NoRoom)),
+        (&broken, 2, 11, 0, Err(Refusal::BadTable)),
+        (&proper, 2, 11, 12, Err(Refusal::NoSuchBlock)),
+        (&full, 2, 11, 7, Err(Refusal::NoSpare)),
+        (&full, 2, 11, 0, Err(Refusal::NoSpare)),
+        (&proper, 2, 8, 0, Ok(())),
+        (&proper, 2, 11, 0, Ok(())),
     ];
-    for (before, r, block, expected) in cases {
+    for (before, r, length, block, expected) in cases {
         let case = format!("spares::replace, {expected:?}");
         // Block 0 goes to place 0, so one place is written.
         let written = if expected.is_ok() { 1 } else { 0 };
+        let scratch_before = draw.word_room(length);
+        let mut scratch = scratch_before.clone();
         lend(&case, before, written, expected, |table| {
-            spares::replace(drive, r, table, block).map(|_| ())
+            spares::replace(drive, r, table, scratch.lent(), block).map(|_| ())
         });
+        let cleared = match expected {
+            Err(Refusal::OutOfRange | Refusal::NoRoom) => 0,
+            _ => 8,
+        };
+        assert!(scratch.kept(&scratch_before, cleared), "{case}: numbers past the spares changed");
+        assert_eq!(scratch.held()[..cleared], [0; 8][..cleared], "{case}: the scratch");
     }
 }
 
@@ -138,7 +149,7 @@ fn the_two_places_of_a_second_replacement() {
     let mut room = table(&mut Draw::of(7));
     let mut expected = room.clone();
     (expected.lent()[4], expected.lent()[6]) = (0x4000_0000, 0x3000_0007);
-    assert_eq!(spares::replace(drive, 2, room.lent(), 7), Ok(6));
+    assert_eq!(spares::replace(drive, 2, room.lent(), &mut [0; 8], 7), Ok(6));
     assert_eq!(room, expected);
 }
 
@@ -146,7 +157,7 @@ fn the_two_places_of_a_second_replacement() {
 fn the_room_of_a_first_table() {
     let mut draw = Draw::of(5);
     let drive = shape(2, 2, 5);
-    let over: Vec<u32> = (0..4_097).collect();
+    let over: Vec<u32> = (0..=LIST_MOST as u32).collect();
     let cases: [(u32, &[u32], usize, Result<(), Refusal>); 7] = [
         (0, &[0], 140, Err(Refusal::OutOfRange)),
         (2, &over, 140, Err(Refusal::TooLong)),

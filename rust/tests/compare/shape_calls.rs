@@ -2,41 +2,45 @@
 
 use std::fs;
 
-use tautberry::{reading, shape as shapes, skipped, spares, Shape};
+use tautberry::{reading, shape as shapes, skipped, spares, table_length, Shape, LIST_MOST};
 
 use crate::drawn_shapes::{paper, shape};
 use crate::model::image::Read;
-use crate::model::spares::{drive, empty_table};
+use crate::model::spares::{word, FREE, NULL};
 use crate::model::{self, skipping};
 use crate::order::{number, paper_number};
 
 /// What the calls are given beside the shape.
+#[derive(Clone)]
 pub struct Rest {
-    r: u32,
+    pub r: u32,
     list: Vec<u32>,
     pub table: Vec<u32>,
+    pub scratch: Vec<u32>,
     /// The length of the room for a first table.
     room: usize,
     /// The block, the sector, or each number of the place that is asked for.
-    asked: u32,
-    home: Vec<u8>,
-    spare: Vec<u8>,
+    pub asked: u32,
+    pub home: Vec<u8>,
+    pub spare: Vec<u8>,
 }
 
 impl Rest {
     /// What every call accepts on a drive of these cylinders, heads and sectors, whatever its groups: no
-    /// sector is bad, and block 0 is asked for.
+    /// sector is bad, the scratch is full of ones, and block 0 is asked for.
     pub fn proper(Shape { cylinders, heads, sectors, .. }: Shape, r: u32) -> Rest {
-        let drive =
-            drive(paper(shape(cylinders, heads, sectors)), r).expect("a drive in its range");
+        let spares = (cylinders * heads * r) as usize;
+        let mut table = vec![word(FREE, 0); table_length(spares)];
+        table[spares..].fill(word(NULL, 0));
         let track = sectors as usize * 530;
         let mut home = model::image::bytes(0, &[0; 512], false);
         home.resize(track, 0);
         Rest {
             r,
             list: vec![],
-            table: empty_table(drive),
-            room: drive.table_length(),
+            room: table.len(),
+            table,
+            scratch: vec![u32::MAX; spares],
             asked: 0,
             home,
             spare: vec![0; track],
@@ -47,8 +51,9 @@ impl Rest {
     pub fn faulty(r: u32) -> Rest {
         Rest {
             r,
-            list: vec![0; 4_097],
+            list: vec![0; LIST_MOST + 1],
             table: vec![1; 5],
+            scratch: vec![],
             room: 0,
             asked: u32::MAX,
             home: vec![],
@@ -57,108 +62,161 @@ impl Rest {
     }
 }
 
-/// The number that each call gives, 0 for accepted: its name, the library's and the model's.
-fn ask(drive: Shape, rest: &Rest) -> [(&'static str, u32, u32); 15] {
-    let Rest { r, list, table, room, asked, home, spare } = rest;
+/// What a call gives, 0 for accepted, where it is lent this scratch if it takes any.
+type Ask<'a> = &'a dyn Fn(&mut [u32]) -> u32;
+
+/// What a call gave, library and model, and what both left of the scratch.
+struct Given {
+    call: &'static str,
+    library: u32,
+    model: u32,
+    scratch: Vec<u32>,
+}
+
+/// Asks every call. Library and model must leave the same scratch.
+fn ask(drive: Shape, rest: &Rest) -> Vec<Given> {
+    let Rest { r, list, table, scratch, room, asked, home, spare } = rest;
     let (r, asked) = (*r, *asked);
-    let model = paper(drive);
-    let read = Read { shape: model, r, table, block: asked, home, spare };
-    [
+    let paper = paper(drive);
+    let read = Read { shape: paper, r, table, block: asked, home, spare };
+    let calls: [(&'static str, Ask, Ask); 15] = [
         (
             "shape::sector_of",
-            number(shapes::sector_of(drive, asked, asked, asked)),
-            paper_number(model::shape::sector_of(model, (asked, asked, asked))),
+            &|_| number(shapes::sector_of(drive, asked, asked, asked)),
+            &|_| paper_number(model::shape::sector_of(paper, (asked, asked, asked))),
         ),
         (
             "shape::address_of",
-            number(shapes::address_of(drive, asked)),
-            paper_number(model::shape::address_of(model, asked)),
+            &|_| number(shapes::address_of(drive, asked)),
+            &|_| paper_number(model::shape::address_of(paper, asked)),
         ),
         (
             "skipped::address_of",
-            number(skipped::address_of(drive, list, asked)),
-            paper_number(skipping::address_of(model, list, asked)),
+            &|_| number(skipped::address_of(drive, list, asked)),
+            &|_| paper_number(skipping::address_of(paper, list, asked)),
         ),
         (
             "skipped::block_at",
-            number(skipped::block_at(drive, list, asked, asked, asked)),
-            paper_number(skipping::block_at(model, list, (asked, asked, asked))),
+            &|_| number(skipped::block_at(drive, list, asked, asked, asked)),
+            &|_| paper_number(skipping::block_at(paper, list, (asked, asked, asked))),
         ),
         (
             "spares::sector_of",
-            number(spares::sector_of(drive, r, table, asked)),
-            paper_number(model::spares::sector_of(model, r, table, asked)),
+            &|lent| number(spares::sector_of(drive, r, table, lent, asked)),
+            &|lent| paper_number(model::spares::sector_of(paper, r, table, lent, asked)),
         ),
         (
             "spares::address_of",
-            number(spares::address_of(drive, r, table, asked)),
-            paper_number(model::spares::address_of(model, r, table, asked)),
+            &|lent| number(spares::address_of(drive, r, table, lent, asked)),
+            &|lent| paper_number(model::spares::address_of(paper, r, table, lent, asked)),
         ),
         (
             "spares::shift",
-            number(spares::shift(drive, r, table, asked)),
-            paper_number(model::spares::shift(model, r, table, asked)),
+            &|lent| number(spares::shift(drive, r, table, lent, asked)),
+            &|lent| paper_number(model::spares::shift(paper, r, table, lent, asked)),
         ),
         (
             "spares::block_on",
-            number(spares::block_on(drive, r, table, asked)),
-            paper_number(model::spares::block_on(model, r, table, asked)),
+            &|lent| number(spares::block_on(drive, r, table, lent, asked)),
+            &|lent| paper_number(model::spares::block_on(paper, r, table, lent, asked)),
         ),
         (
             "spares::block_at",
-            number(spares::block_at(drive, r, table, asked, asked, asked)),
-            paper_number(model::spares::block_at(model, r, table, (asked, asked, asked))),
+            &|lent| number(spares::block_at(drive, r, table, lent, asked, asked, asked)),
+            &|lent| {
+                let address = (asked, asked, asked);
+                paper_number(model::spares::block_at(paper, r, table, lent, address))
+            },
         ),
         (
             "spares::replace",
-            number(spares::replace(drive, r, &mut table.clone(), asked)),
-            paper_number(model::spares::replace(model, r, &mut table.clone(), asked)),
+            &|lent| number(spares::replace(drive, r, &mut table.clone(), lent, asked)),
+            &|lent| {
+                paper_number(model::spares::replace(paper, r, &mut table.clone(), lent, asked))
+            },
         ),
         (
             "spares::census",
-            number(spares::census(drive, r, table)),
-            paper_number(model::spares::census(model, r, table)),
+            &|lent| number(spares::census(drive, r, table, lent)),
+            &|lent| paper_number(model::spares::census(paper, r, table, lent)),
         ),
         (
             "spares::first_table",
-            number(spares::first_table(drive, r, list, &mut vec![0; *room])),
-            paper_number(model::spares::first_table(model, r, list, &mut vec![0; *room])),
+            &|_| number(spares::first_table(drive, r, list, &mut vec![0; *room])),
+            &|_| paper_number(model::spares::first_table(paper, r, list, &mut vec![0; *room])),
         ),
         (
             "reading::judge",
-            number(reading::judge(drive, r, table, asked, home, spare)),
-            paper_number(model::image::judge_read(read)),
+            &|lent| number(reading::judge(drive, r, table, lent, asked, home, spare)),
+            &|lent| paper_number(model::image::judge_read(read, lent)),
         ),
         (
             "reading::spot",
-            number(reading::spot(drive, r, table, asked, home, spare)),
-            paper_number(model::image::spot(read)),
+            &|lent| number(reading::spot(drive, r, table, lent, asked, home, spare)),
+            &|lent| paper_number(model::image::spot(read, lent)),
         ),
         (
             "reading::data",
-            number(reading::data(drive, r, table, asked, home, spare)),
-            paper_number(model::image::read_data(read)),
+            &|lent| number(reading::data(drive, r, table, lent, asked, home, spare)),
+            &|lent| paper_number(model::image::read_data(read, lent)),
         ),
-    ]
+    ];
+    let given = calls.map(|(call, library, model)| {
+        let (mut ours, mut theirs) = (scratch.clone(), scratch.clone());
+        let (library, model) = (library(&mut ours), model(&mut theirs));
+        assert!(ours == theirs, "{call} leaves other scratch than the model on {drive:?}");
+        Given { call, library, model, scratch: ours }
+    });
+    given.into()
 }
 
 /// Every call must give the number that is expected of it, and so must the model.
 pub fn every_call_gives(drive: Shape, rest: &Rest, expected: impl Fn(&str) -> u32) {
-    for (call, library, model) in ask(drive, rest) {
+    for Given { call, library, model, .. } in ask(drive, rest) {
         let expected = expected(call);
         assert_eq!((library, model), (expected, expected), "{call} on {drive:?}");
     }
 }
 
-/// No call of the crate that takes a shape is left out.
-#[test]
-fn every_call_with_a_shape_is_asked() {
+/// Whether a call is lent a table, and so takes scratch.
+pub fn is_lent_a_table(call: &str) -> bool {
+    call.starts_with("reading::") || call.starts_with("spares::") && call != "spares::first_table"
+}
+
+/// Every call that is lent a table must give the number that is expected of it, and leave this of the
+/// scratch.
+pub fn every_table_call_gives(
+    drive: Shape,
+    rest: &Rest,
+    expected: impl Fn(&str) -> u32,
+    left: &[u32],
+) {
+    for Given { call, library, model, scratch } in ask(drive, rest) {
+        if is_lent_a_table(call) {
+            let expected = expected(call);
+            assert_eq!((library, model), (expected, expected), "{call} on {drive:?}");
+            assert!(scratch == left, "{call} leaves other scratch on {drive:?}, {expected}");
+        }
+    }
+}
+
+/// How often the crate's files have a text, `src/ffi.rs` left out.
+fn count_in_wrappers(text: &str) -> usize {
     let files = fs::read_dir("src").expect("the crate's folder").map(|file| file.expect("a file"));
     let wrappers = files.map(|file| file.path()).filter(|path| !path.ends_with("ffi.rs"));
-    let taken = wrappers.map(|path| {
-        let text = fs::read_to_string(path).expect("a source file");
-        text.matches("shape: Shape").count()
+    let counts = wrappers.map(|path| {
+        let file = fs::read_to_string(path).expect("a source file");
+        file.matches(text).count()
     });
+    counts.sum()
+}
+
+/// No call of the crate that takes a shape is left out, and none that takes scratch.
+#[test]
+fn every_call_with_a_shape_is_asked() {
     let drive = shape(2, 2, 5);
-    assert_eq!(taken.sum::<usize>(), ask(drive, &Rest::proper(drive, 2)).len());
+    let given = ask(drive, &Rest::proper(drive, 2));
+    assert_eq!(count_in_wrappers("shape: Shape"), given.len());
+    let tables = given.iter().filter(|given| is_lent_a_table(given.call)).count();
+    assert_eq!(count_in_wrappers("scratch: &mut [u32]"), tables);
 }

@@ -31,8 +31,8 @@ part-result-start c = search needs
 
 part-result-end : tie.Need-part-result-end
 part-result-end c =
-    let told = home-told _ _ _ _ _ _ _ (sym (c .before .before .before .spot-sized .ensures .answers) ∙ c .before .offset .given .1) in
-    omega (arith, data-ends _ _ _ _ _ _ _ (told .0), read-shows _ _ _ _ _ _ _ (told .0) .home-long, told .1 .1)
+    let told = home-told _ _ _ _ _ _ _ _ (sym (c .before .before .before .before .before .spot-sized .ensures .0 .answers) ∙ c .before .offset .given .1) in
+    omega (arith, data-ends _ _ _ _ _ _ _ _ (told .0), read-shows _ _ _ _ _ _ _ _ (told .0) .home-long, told .1 .1)
 
 enum-known-offset-2 : tie.Need-enum-known-offset-2
 enum-known-offset-2 c = search needs
@@ -54,8 +54,8 @@ part-result-start-2 c = search needs
 
 part-result-end-2 : tie.Need-part-result-end-2
 part-result-end-2 c =
-    let told = spare-told _ _ _ _ _ _ _ (sym (c .before .before .before .spot-sized .ensures .answers) ∙ c .before .offset2 .given .1) in
-    omega (arith, data-ends _ _ _ _ _ _ _ (told .0), read-shows _ _ _ _ _ _ _ (told .0) .spare-long, told .1 .1)
+    let told = spare-told _ _ _ _ _ _ _ _ (sym (c .before .before .before .before .before .spot-sized .ensures .0 .answers) ∙ c .before .offset2 .given .1) in
+    omega (arith, data-ends _ _ _ _ _ _ _ _ (told .0), read-shows _ _ _ _ _ _ _ _ (told .0) .spare-long, told .1 .1)
 
 enum-told : tie.Need-enum-told
 enum-told c = search needs
@@ -69,20 +69,29 @@ part-result-start-3 c = search needs
 part-result-end-3 : tie.Need-part-result-end-3
 part-result-end-3 c = search needs
 
+same-length : tie.Need-same-length
+same-length c = search needs
+
 returns : tie.Need-returns
-returns c =
-    let a = c .before .before .before .before .before .before .before .before .args in
-    lends-home (a .size) (a .shape) (a .r) (a .table .now) (a .block) (a .home) (a .spare) _ (sym (c .before .before .before .before .spot-sized .ensures .answers) ∙ c .before .before .offset .given .1) (record { holds = refl; lies = refl })
+returns c = (
+    let a = c .before .before .before .before .before .before .before .before .before .before .before .before .args in
+    lends-home (a .size) (a .shape) (a .r) (a .table .now) (a .scratch .now) (a .block) (a .home) (a .spare) _ (sym (c .before .before .before .before .before .before .spot-sized .ensures .0 .answers) ∙ c .before .before .offset .given .1) (record { holds = refl; lies = refl }), c .before .before .before .before .before .before .spot-sized .ensures .1)
+
+same-length-2 : tie.Need-same-length-2
+same-length-2 c = search needs
 
 returns-2 : tie.Need-returns-2
-returns-2 c =
-    let a = c .before .before .before .before .before .before .before .before .args in
-    lends-spare (a .size) (a .shape) (a .r) (a .table .now) (a .block) (a .home) (a .spare) _ (sym (c .before .before .before .before .spot-sized .ensures .answers) ∙ c .before .before .offset2 .given .1) (record { holds = refl; lies = refl })
+returns-2 c = (
+    let a = c .before .before .before .before .before .before .before .before .before .before .before .before .args in
+    lends-spare (a .size) (a .shape) (a .r) (a .table .now) (a .scratch .now) (a .block) (a .home) (a .spare) _ (sym (c .before .before .before .before .before .before .spot-sized .ensures .0 .answers) ∙ c .before .before .offset2 .given .1) (record { holds = refl; lies = refl }), c .before .before .before .before .before .before .spot-sized .ensures .1)
+
+same-length-3 : tie.Need-same-length-3
+same-length-3 c = search needs
 
 returns-3 : tie.Need-returns-3
-returns-3 c =
-    let a = c .before .before .before .before .before .before .before .args in
-    lends-empty (a .size) (a .shape) (a .r) (a .table .now) (a .block) (a .home) (a .spare) _ (sym (c .before .before .before .spot-sized .ensures .answers) ∙ c .before .enum-told .given .1) (record { holds = refl; lies = refl })
+returns-3 c = (
+    let a = c .before .before .before .before .before .before .before .before .before .before .before .args in
+    lends-empty (a .size) (a .shape) (a .r) (a .table .now) (a .scratch .now) (a .block) (a .home) (a .spare) _ (sym (c .before .before .before .before .before .spot-sized .ensures .0 .answers) ∙ c .before .enum-told .given .1) (record { holds = refl; lies = refl }), c .before .before .before .before .before .spot-sized .ensures .1)
 
 pub data-sized-spec : {M : Type 1} → statement M
 data-sized-spec =
@@ -107,6 +116,9 @@ data-sized-spec =
     sub-result-3
     part-result-start-3
     part-result-end-3
+    same-length
     returns
+    same-length-2
     returns-2
+    same-length-3
     returns-3)

@@ -20,18 +20,27 @@ enum-told-2 c = search needs
 enum-known-fault : tie.Need-enum-known-fault
 enum-known-fault c = search needs
 
+same-length : tie.Need-same-length
+same-length c = search needs
+
 returns : tie.Need-returns
-returns c =
-    gives (λ k. refl) (rw (home-told _ _ _ _ _ _ _ (sym (c .before .before .spot-sized .ensures .answers) ∙ c .enum-told .given .1) .0))
+returns c = (
+    gives (λ k. refl) (rw (home-told _ _ _ _ _ _ _ _ (sym (c .before .before .before .before .spot-sized .ensures .0 .answers) ∙ c .enum-told .given .1) .0)), c .before .before .before .before .spot-sized .ensures .1)
+
+same-length-2 : tie.Need-same-length-2
+same-length-2 c = search needs
 
 returns-2 : tie.Need-returns-2
-returns-2 c =
-    gives (λ k. refl) (rw (spare-told _ _ _ _ _ _ _ (sym (c .before .before .spot-sized .ensures .answers) ∙ c .enum-told2 .given .1) .0))
+returns-2 c = (
+    gives (λ k. refl) (rw (spare-told _ _ _ _ _ _ _ _ (sym (c .before .before .before .before .spot-sized .ensures .0 .answers) ∙ c .enum-told2 .given .1) .0)), c .before .before .before .before .spot-sized .ensures .1)
+
+same-length-3 : tie.Need-same-length-3
+same-length-3 c = search needs
 
 returns-3 : tie.Need-returns-3
-returns-3 c =
-    let told = refused-told _ _ _ _ _ _ _ (sym (c .before .before .before .spot-sized .ensures .answers) ∙ c .before .fault .given .1) in
-    gives (λ k. refl) (rw (told .0) (sym (answer-refused _ _ _ (told .1))))
+returns-3 c = (
+    let told = refused-told _ _ _ _ _ _ _ _ (sym (c .before .before .before .before .before .spot-sized .ensures .0 .answers) ∙ c .before .fault .given .1) in
+    gives (λ k. refl) (rw (told .0) (sym (answer-refused _ _ _ (told .1)))), c .before .before .before .before .before .spot-sized .ensures .1)
 
 pub judge-sized-spec : {M : Type 1} → statement M
 judge-sized-spec =
@@ -41,6 +50,9 @@ judge-sized-spec =
     enum-told
     enum-told-2
     enum-known-fault
+    same-length
     returns
+    same-length-2
     returns-2
+    same-length-3
     returns-3)

@@ -1,0 +1,121 @@
+//! The scratch that is lent with a table, asked of every call that takes it: when it is too short, and what
+//! is left in it.
+
+use tautberry::Shape;
+
+use crate::drawn_shapes::{paper, shape};
+use crate::drawn_tables::descriptor;
+use crate::model::spares::{drive, word, UNUSABLE};
+use crate::shape_calls::{every_table_call_gives, Rest};
+
+/// Drives with one table block, with a part of a second one, and the customer's.
+fn drives() -> [(Shape, u32); 3] {
+    [(shape(2, 2, 5), 2), (shape(4, 9, 64), 4), (shape(880, 16, 53), 1)]
+}
+
+/// What every call accepts on a drive, with so many numbers more of scratch than spares.
+fn proper((shape, r): (Shape, u32), more: usize) -> Rest {
+    let mut rest = Rest::proper(shape, r);
+    rest.scratch.extend(vec![u32::MAX; more]);
+    rest
+}
+
+/// The number of spares, as the scratch must have it.
+fn spares((shape, r): (Shape, u32)) -> usize {
+    (shape.cylinders * shape.heads * r) as usize
+}
+
+/// Tables of a drive that are refused 11: one too short, one too long, one with a word that may not stand
+/// there in its first place and one in its last, and tables that name a block twice, the first and the last
+/// of the drive, in neighbouring places and as far apart as may be.
+fn broken_tables((shape, r): (Shape, u32)) -> Vec<Vec<u32>> {
+    let drive = drive(paper(shape), r).expect("a drive in its range");
+    let last_place = drive.spares() - 1;
+    let last = drive.blocks() - 1;
+    let good = Rest::proper(shape, r).table;
+    let with = |words: &[(u32, u32)]| {
+        let mut table = good.clone();
+        for (place, word) in words {
+            table[*place as usize] = *word;
+        }
+        table
+    };
+    let naming = |block: u32, one: u32, other: u32| {
+        with(&[(one, descriptor(drive, one, block)), (other, descriptor(drive, other, block))])
+    };
+    vec![
+        good[1..].to_vec(),
+        [&good[..], &[0; 128]].concat(),
+        with(&[(0, 1)]),
+        with(&[(good.len() as u32 - 1, word(15, 0))]),
+        naming(0, 0, 1),
+        naming(0, 0, last_place),
+        naming(last, last_place - 1, last_place),
+        naming(last, 0, last_place),
+    ]
+}
+
+/// Too short by one, and with none at all, whatever else is at fault: 7, and the scratch is kept.
+#[test]
+fn scratch_that_is_too_short() {
+    for drive in drives() {
+        for length in [0, spares(drive) - 1] {
+            let mut good = proper(drive, 0);
+            good.scratch.truncate(length);
+            let mut rests = vec![Rest { asked: u32::MAX, ..good.clone() }, good.clone()];
+            for table in broken_tables(drive) {
+                rests.push(Rest { table, ..good.clone() });
+            }
+            for rest in rests {
+                every_table_call_gives(drive.0, &rest, |_| 7, &good.scratch);
+            }
+        }
+    }
+}
+
+/// Where the drive is out of range no scratch is looked at: 1, and what there is of it is kept.
+#[test]
+fn scratch_of_a_drive_out_of_range() {
+    let wrong = [(shape(1_986, 33, 4), 1), (shape(2, 2, 5), 5), (shape(2, 0, 5), 2)];
+    for (drive, r) in wrong {
+        for scratch in [vec![], vec![u32::MAX; 9]] {
+            let rest = Rest { scratch: scratch.clone(), ..Rest::faulty(r) };
+            every_table_call_gives(drive, &rest, |_| 1, &scratch);
+        }
+    }
+}
+
+/// Scratch full of ones, as long as it must be or three numbers longer: after every answer it has a zero for
+/// each spare, and the three numbers stand.
+#[test]
+fn scratch_full_of_ones() {
+    for drive in drives() {
+        for more in [0, 3] {
+            let good = proper(drive, more);
+            let mut left = vec![0; spares(drive)];
+            left.resize(spares(drive) + more, u32::MAX);
+            let gives = |rest: &Rest, expected: &dyn Fn(&str) -> u32| {
+                every_table_call_gives(drive.0, rest, expected, &left);
+            };
+            gives(&good, &|_| 0);
+            for table in broken_tables(drive) {
+                gives(&Rest { table, ..good.clone() }, &|_| 11);
+            }
+            let too_high = Rest { asked: u32::MAX, ..good.clone() };
+            gives(&too_high, &|call| match call {
+                "spares::block_on" | "spares::block_at" => 6,
+                "spares::census" => 0,
+                _ => 5,
+            });
+            let mut no_spare = good.clone();
+            no_spare.table[..spares(drive)].fill(word(UNUSABLE, 0));
+            gives(&no_spare, &|call| if call == "spares::replace" { 13 } else { 0 });
+            let mut short_image = good.clone();
+            short_image.spare.pop();
+            gives(&short_image, &|call| if call.starts_with("reading::") { 14 } else { 0 });
+            let mut no_address = good.clone();
+            (no_address.home[0], no_address.home[4]) = (1, 2);
+            gives(&no_address, &|call| if call.starts_with("reading::") { 15 } else { 0 });
+        }
+    }
+}
