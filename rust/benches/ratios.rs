@@ -11,13 +11,17 @@ use std::hint::black_box;
 use std::process::exit;
 use std::time::{Duration, Instant};
 
-use tautberry::{format, image, page, spares, Cursor, Shape, LIST_MOST, UNITS_MOST};
+use tautberry::{
+    format, image, page, page_length, spares, table_length, Cursor, Shape, UNITS_MOST,
+};
 
 #[path = "../plain/mod.rs"]
 mod plain;
 
 /// Rounds of each side.
 const ROUNDS: usize = 7;
+/// Entries of a long list.
+const ENTRIES: usize = 4_096;
 
 fn main() {
     if cfg!(not(target_arch = "x86_64")) {
@@ -37,8 +41,8 @@ fn main() {
     pages_written();
     night();
     println!(
-        "Best of {ROUNDS} rounds a side; the spread is what the slowest round took longer. Rooms are \
-         allocated and cleared once, then lent as the last round left them."
+        "Best of {ROUNDS} rounds a side; the spread is what the slowest round took longer. Rooms and \
+         scratch are allocated and cleared once, then lent as the last call left them."
     );
 }
 
@@ -82,14 +86,14 @@ fn nanoseconds(time: Duration, units: u64) -> f64 {
     time.as_secs_f64() * 1e9 / units as f64
 }
 
-/// A full list of single entries and runs, spread over the space.
-fn full_list() -> Vec<u32> {
-    (0..LIST_MOST as u32).map(|entry| entry / 4 * 1_000 + entry % 4).collect()
+/// A list of 4,096 entries in runs of four, spread over the space.
+fn long_list() -> Vec<u32> {
+    (0..ENTRIES as u32).map(|entry| entry / 4 * 1_000 + entry % 4).collect()
 }
 
-/// A job of 4,096 steps along a full list; each step checks the whole list and the cursor.
+/// A job of 4,096 steps along a long list; each step checks the whole list and the cursor.
 fn steps() {
-    let list = full_list();
+    let list = long_list();
     let steps = 4_096;
     let first = 500_000;
     let start = Cursor::start(UNITS_MOST, &list, first).expect("a block of the space");
@@ -118,44 +122,54 @@ fn steps() {
     compare("step by cursor, list of 4,096", "step", steps, library, plain);
 }
 
-/// A drive of 1,024 spares, all but eight of them used, by blocks of their own track and of others.
-fn nearly_full() -> (Shape, u32, Vec<u32>) {
-    let shape = Shape::ungrouped(64, 4, 32);
-    let r = 4;
-    let blocks = 64 * 4 * 28;
-    let mut table = vec![0; 1_024];
-    for replaced in 0..1_016u32 {
-        let block = replaced.wrapping_mul(1_237) % blocks;
-        spares::replace(shape, r, &mut table, block).expect("a spare is free");
-    }
-    (shape, r, table)
+/// The table of a drive with all but eight of its spares used, by blocks of their own track and of others.
+fn nearly_full(shape: Shape, r: u32) -> Vec<u32> {
+    let tracks = shape.cylinders * shape.heads;
+    let homes = shape.sectors - r;
+    // The step has no divisor in common with the number of blocks, so no block comes twice.
+    let step = 1_237;
+    let bad = (0..u64::from(tracks * r - 8)).map(|nth| nth * step % u64::from(tracks * homes));
+    let mut list: Vec<u32> =
+        bad.map(|block| block as u32 / homes * shape.sectors + block as u32 % homes).collect();
+    list.sort();
+    let mut table = vec![0; table_length((tracks * r) as usize)];
+    spares::first_table(shape, r, &list, &mut table).expect("a spare for each bad home");
+    table
 }
 
-/// Look-ups of blocks at home and on spares; each checks the whole table. The library holds every
-/// descriptor against all before it; plain Rust does so too, or keeps a mark for each block.
+/// Look-ups of blocks at home and on spares; each checks the whole table. Plain Rust keeps a bit for each
+/// block in the scratch, as the library does.
 fn look_ups() {
-    let (shape, r, table) = nearly_full();
-    let look_ups = 512;
-    let blocks: Vec<u32> = (0..look_ups as u32).map(|ask| ask * 13 % 7_168).collect();
-    let library = || {
-        let look_up = |block: &u32| spares::sector_of(shape, r, black_box(&table), *block);
-        sum(blocks.iter().map(|block| look_up(block).ok()))
-    };
-    let plain_shape = plain::Shape::from(shape);
-    let by_pairs = || {
-        let look_up = |block: &u32| {
-            plain::spare_sector_by_pairs(plain_shape, r, black_box(&table), *block).ok()
+    let drives = [
+        ("look-up, 1,016 of 1,024 spares used", Shape::ungrouped(64, 4, 32), 4),
+        ("look-up, 14,072 of 14,080 spares used", Shape::ungrouped(880, 16, 53), 1),
+        ("look-up, 65,528 of 65,536 spares used", Shape::ungrouped(4_096, 16, 64), 1),
+    ];
+    for (job, shape, r) in drives {
+        let table = nearly_full(shape, r);
+        let tracks = shape.cylinders * shape.heads;
+        let scratch = || vec![0; (tracks * r) as usize];
+        let (mut our_scratch, mut plain_scratch) = (scratch(), scratch());
+        let look_ups = 512;
+        let blocks = tracks * (shape.sectors - r);
+        let asked: Vec<u32> = (0..look_ups as u32).map(|ask| ask * 8_009 % blocks).collect();
+        let library = || {
+            let mut look_up = |block: &u32| {
+                let scratch = black_box(&mut our_scratch);
+                spares::sector_of(shape, r, black_box(&table), scratch, *block).ok()
+            };
+            sum(asked.iter().map(&mut look_up))
         };
-        sum(blocks.iter().map(look_up))
-    };
-    let by_marks = || {
-        let look_up =
-            |block: &u32| plain::spare_sector(plain_shape, r, black_box(&table), *block).ok();
-        sum(blocks.iter().map(look_up))
-    };
-    let job = "look-up, 1,016 of 1,024 spares used";
-    compare(&format!("{job}, by pairs"), "look-up", look_ups, library, by_pairs);
-    compare(&format!("{job}, by marks"), "look-up", look_ups, library, by_marks);
+        let plain_shape = plain::Shape::from(shape);
+        let plain = || {
+            let mut look_up = |block: &u32| {
+                let scratch = black_box(&mut plain_scratch);
+                plain::spare_sector(plain_shape, r, black_box(&table), scratch, *block).ok()
+            };
+            sum(asked.iter().map(&mut look_up))
+        };
+        compare(job, "look-up", look_ups, library, plain);
+    }
 }
 
 /// The sum of what was answered; every call must have been accepted.
@@ -188,17 +202,17 @@ fn verdicts() {
 const PAGES: u64 = 1_000;
 
 fn pages_read() {
-    let list = full_list();
-    let mut page = vec![0; 14 + 4 * LIST_MOST];
+    let list = long_list();
+    let mut page = vec![0; page_length(ENTRIES)];
     page::write(UNITS_MOST, 1, &list, &mut page).expect("a proper list");
-    let (mut our_room, mut plain_room) = (vec![0; LIST_MOST], vec![0; LIST_MOST]);
+    let (mut our_room, mut plain_room) = (vec![0; ENTRIES], vec![0; ENTRIES]);
     let library = || {
         let mut entries = 0;
         for _ in 0..PAGES {
             let read = page::read(black_box(&page), black_box(&mut our_room));
             entries += read.expect("a proper page").entries;
         }
-        (entries, our_room[LIST_MOST - 1])
+        (entries, our_room[ENTRIES - 1])
     };
     let plain = || {
         let mut entries = 0;
@@ -206,14 +220,14 @@ fn pages_read() {
             let read = plain::read_page(black_box(&page), black_box(&mut plain_room));
             entries += read.expect("a proper page").2;
         }
-        (entries, plain_room[LIST_MOST - 1])
+        (entries, plain_room[ENTRIES - 1])
     };
     compare("page of 4,096 entries read", "page", PAGES, library, plain);
 }
 
 fn pages_written() {
-    let list = full_list();
-    let length = 14 + 4 * LIST_MOST;
+    let list = long_list();
+    let length = page_length(ENTRIES);
     let (mut our_room, mut plain_room) = (vec![0; length], vec![0; length]);
     let library = || {
         let mut bytes = 0;
@@ -235,14 +249,15 @@ fn pages_written() {
     compare("page of 4,096 entries written", "page", PAGES, library, plain);
 }
 
-/// Option 1 in space 3: 1,024 entries in P, 1,024 in G, 2,048 blocks found; the new list is full.
+/// Option 1 in space 3: 1,024 entries in P, 1,024 in G, 2,048 blocks found; the new list has 4,096.
 fn night() {
     let p: Vec<u32> = (0..1_024).map(|entry| entry * 8_000).collect();
     let g: Vec<u32> = (0..1_024).map(|entry| entry * 8_000 + 1 + entry % 3).collect();
     let d: Vec<u32> = (0..2_048).map(|entry| entry * 4_000 + 2_000).collect();
     let nights = 200;
-    let rooms = || (vec![0; LIST_MOST], vec![0; LIST_MOST]);
+    let rooms = || (vec![0; ENTRIES], vec![0; ENTRIES]);
     let ((mut our_grown, mut our_list), (mut plain_grown, mut plain_list)) = (rooms(), rooms());
+    let mut on_the_way = plain::Rooms::new();
     let library = || {
         let mut entries = 0;
         for _ in 0..nights {
@@ -256,10 +271,10 @@ fn night() {
                 black_box(&mut our_grown),
                 black_box(&mut our_list),
             );
-            let night = night.expect("a full night");
+            let night = night.expect("a long night");
             entries += night.grown + night.list;
         }
-        (entries, our_grown[3_071], our_list[LIST_MOST - 1])
+        (entries, our_grown[3_071], our_list[ENTRIES - 1])
     };
     let plain = || {
         let mut entries = 0;
@@ -273,11 +288,12 @@ fn night() {
                 black_box(&d),
                 black_box(&mut plain_grown),
                 black_box(&mut plain_list),
+                black_box(&mut on_the_way),
             );
-            let (grown, list, _) = night.expect("a full night");
+            let (grown, list, _) = night.expect("a long night");
             entries += grown + list;
         }
-        (entries, plain_grown[3_071], plain_list[LIST_MOST - 1])
+        (entries, plain_grown[3_071], plain_list[ENTRIES - 1])
     };
-    compare("Format of a full night, 4,096 entries", "night", nights, library, plain);
+    compare("Format of a long night, 4,096 entries", "night", nights, library, plain);
 }

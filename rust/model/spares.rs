@@ -23,7 +23,7 @@ fn parts(word: u32) -> (u32, u32) {
 }
 
 /// The block that a descriptor names, if it is allocated.
-fn allocated(word: u32) -> Option<u32> {
+pub fn allocated(word: u32) -> Option<u32> {
     match parts(word) {
         (PRIMARY | ELSEWHERE, block) => Some(block),
         _ => None,

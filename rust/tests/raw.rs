@@ -2,7 +2,7 @@
 
 use std::ptr::{null, null_mut};
 
-use tautberry::{Address, Cursor, Shape};
+use tautberry::{Address, Cursor, Shape, LIST_MOST, PAGE_MOST};
 
 // The answers are read as one row of numbers, not by their fields.
 #[allow(dead_code)]
@@ -16,6 +16,10 @@ const SHAPE: Shape = Shape { groups: 2, tracks: 1, offset: 3, ..Shape::ungrouped
 const R: u32 = 2;
 /// No list has it.
 const STRAY: Cursor = Cursor { block: 5, skipped: 4_000 };
+/// Scratch for the drive, and two numbers more.
+const SCRATCH: [u32; 10] = [u32::MAX; 10];
+/// The same after a call that has checked the table.
+const CLEARED: [u32; 10] = [0, 0, 0, 0, 0, 0, 0, 0, u32::MAX, u32::MAX];
 
 /// An answer's numbers in their order; every field of every answer is 32 bits wide.
 fn numbers<T>(answer: T) -> Vec<u32> {
@@ -39,7 +43,8 @@ fn refused_numbers(call: &str, number: u32, answer: &[u32]) {
 
 /// An N and a list for each of the refusals 1 to 4.
 fn bad_spaces() -> [(u32, u32, Vec<u32>); 4] {
-    [(1, 0, vec![3]), (2, 20, (0..4_097).collect()), (3, 20, vec![3, 3]), (4, 20, vec![3, 20])]
+    let too_long = (0..=LIST_MOST as u32).collect();
+    [(1, 0, vec![3]), (2, 20, too_long), (3, 20, vec![3, 3]), (4, 20, vec![3, 20])]
 }
 
 /// The drive of 20 sectors, or one out of range where N is 0.
@@ -110,7 +115,8 @@ fn no_sector_beside_a_cursor_that_does_not_step() {
 /// "No block" is accepted, and its block is 0.
 #[test]
 fn no_block_answers_zeros() {
-    let (list, table) = ([3], table());
+    let (list, table, mut scratch) = ([3], table(), SCRATCH);
+    let (at, len) = (table.as_ptr(), table.len());
     // SAFETY: the pointers and lengths are those of live slices.
     unsafe {
         let on = tb_skip_block(20, list.as_ptr(), list.len(), 3);
@@ -118,10 +124,13 @@ fn no_block_answers_zeros() {
         let on = tb_skipped_block(SHAPE, list.as_ptr(), list.len(), 0, 0, 3);
         assert_eq!(numbers(on), [0, 0, 0], "tb_skipped_block");
         // The home of block 7.
-        let on = tb_spare_block(SHAPE, R, table.as_ptr(), table.len(), 11);
+        let on = tb_spare_block(SHAPE, R, at, len, scratch.as_mut_ptr(), scratch.len(), 11);
         assert_eq!(numbers(on), [0, 0, 0], "tb_spare_block");
-        let on = tb_spare_block_at(SHAPE, R, table.as_ptr(), table.len(), 1, 0, 1);
+        assert_eq!(scratch, CLEARED, "tb_spare_block");
+        scratch = SCRATCH;
+        let on = tb_spare_block_at(SHAPE, R, at, len, scratch.as_mut_ptr(), scratch.len(), 1, 0, 1);
         assert_eq!(numbers(on), [0, 0, 0], "tb_spare_block_at");
+        assert_eq!(scratch, CLEARED, "tb_spare_block_at");
     }
 }
 
@@ -150,9 +159,9 @@ fn refused_pages_answer_zeros() {
         refused("tb_page_write", number, answer);
     };
     for (number, n, list) in bad_spaces() {
-        write(number, n, 1, &list, 20_000);
+        write(number, n, 1, &list, PAGE_MOST + 4);
     }
-    write(8, 20, 256, &[3], 20_000);
+    write(8, 20, 256, &[3], 20);
     write(7, 20, 1, &[3], 17);
 }
 
@@ -207,36 +216,63 @@ fn full_table() -> Vec<u32> {
     table
 }
 
+/// What a call leaves of the scratch where it gives this number.
+fn left(number: u32) -> [u32; 10] {
+    match number {
+        1 | 7 => SCRATCH,
+        _ => CLEARED,
+    }
+}
+
 #[test]
 fn refused_spares_answer_zeros() {
     let mut bad = table();
     bad[0] = 0x1000_0000;
-    // The number by block, the number by sector, r, the table, and what is asked for.
-    let cases = [(1, 1, 5, table(), 3), (11, 11, R, bad, 3), (5, 6, R, table(), 900)];
-    for (by_block, by_sector, r, mut table, asked) in cases {
-        let (at, len) = (table.as_ptr(), table.len());
-        // SAFETY: the pointer and length are those of a live slice.
+    // The number by block, the number by sector, r, the table, how much of the scratch is lent, and what
+    // is asked for.
+    let cases = [
+        (1, 1, 5, table(), 10, 3),
+        (1, 1, 5, table(), 0, 3),
+        (7, 7, R, bad.clone(), 7, 900),
+        (11, 11, R, bad, 10, 900),
+        (5, 6, R, table(), 10, 900),
+    ];
+    for (by_block, by_sector, r, mut table, lent, asked) in cases {
+        let (before, at, len) = (table.clone(), table.as_mut_ptr(), table.len());
+        // Scratch for each of the seven calls.
+        let mut scratch = [SCRATCH; 7];
+        let to = scratch.each_mut().map(|numbers| numbers.as_mut_ptr());
+        // SAFETY: the pointers and lengths are those of live slices, and no scratch overlaps the table.
         unsafe {
-            refused("tb_spare_sector", by_block, tb_spare_sector(SHAPE, r, at, len, asked));
-            refused("tb_spare_address", by_block, tb_spare_address(SHAPE, r, at, len, asked));
-            refused("tb_spare_shift", by_block, tb_spare_shift(SHAPE, r, at, len, asked));
-            refused("tb_spare_block", by_sector, tb_spare_block(SHAPE, r, at, len, asked));
-            let on = tb_spare_block_at(SHAPE, r, at, len, 1, 1, asked);
-            refused("tb_spare_block_at", by_sector, on);
-            if by_block != 5 {
-                refused("tb_spare_census", by_block, tb_spare_census(SHAPE, r, at, len));
-            }
-            let replaced = tb_spare_replace(SHAPE, r, table.as_mut_ptr(), len, asked);
+            let on = tb_spare_sector(SHAPE, r, at, len, to[0], lent, asked);
+            refused("tb_spare_sector", by_block, on);
+            let on = tb_spare_address(SHAPE, r, at, len, to[1], lent, asked);
+            refused("tb_spare_address", by_block, on);
+            let shift = tb_spare_shift(SHAPE, r, at, len, to[2], lent, asked);
+            refused("tb_spare_shift", by_block, shift);
+            let block = tb_spare_block(SHAPE, r, at, len, to[3], lent, asked);
+            refused("tb_spare_block", by_sector, block);
+            let block = tb_spare_block_at(SHAPE, r, at, len, to[4], lent, 1, 1, asked);
+            refused("tb_spare_block_at", by_sector, block);
+            let replaced = tb_spare_replace(SHAPE, r, at, len, to[5], lent, asked);
             refused("tb_spare_replace", by_block, replaced);
+            let count = tb_spare_census(SHAPE, r, at, len, to[6], lent);
+            if by_block != 5 {
+                refused("tb_spare_census", by_block, count);
+            }
         }
+        assert_eq!((table, scratch), (before, [left(by_block); 7]), "{by_block}");
     }
     // Block 7 lies on a spare, block 0 at home.
     for block in [7, 0] {
-        let mut table = full_table();
-        // SAFETY: the pointer and length are those of a live slice.
-        let answer = unsafe { tb_spare_replace(SHAPE, R, table.as_mut_ptr(), table.len(), block) };
+        let (mut table, mut scratch) = (full_table(), SCRATCH);
+        let (at, len) = (table.as_mut_ptr(), table.len());
+        // SAFETY: the pointers and lengths are those of live slices that do not overlap.
+        let answer = unsafe {
+            tb_spare_replace(SHAPE, R, at, len, scratch.as_mut_ptr(), scratch.len(), block)
+        };
         refused("tb_spare_replace", 13, answer);
-        assert_eq!(table, full_table(), "tb_spare_replace");
+        assert_eq!((table, scratch), (full_table(), CLEARED), "tb_spare_replace");
     }
 
     let first = |number: u32, r: u32, list: &[u32], length: usize| {
@@ -260,10 +296,14 @@ fn a_replacement_answers_its_place() {
     let (mut table, mut expected) = (table(), table());
     expected[5] = 0x3000_0008;
     let mut replace = |block: u32, place: u32, expected: &[u32]| {
-        // SAFETY: the pointer and length are those of a live slice.
-        let answer = unsafe { tb_spare_replace(SHAPE, R, table.as_mut_ptr(), table.len(), block) };
+        let mut scratch = SCRATCH;
+        let (at, len) = (table.as_mut_ptr(), table.len());
+        // SAFETY: the pointers and lengths are those of live slices that do not overlap.
+        let answer = unsafe {
+            tb_spare_replace(SHAPE, R, at, len, scratch.as_mut_ptr(), scratch.len(), block)
+        };
         assert_eq!(numbers(answer), [0, place], "tb_spare_replace");
-        assert_eq!(table, expected, "tb_spare_replace");
+        assert_eq!((&table[..], scratch), (expected, CLEARED), "tb_spare_replace");
     };
     replace(8, 5, &expected);
     (expected[4], expected[3]) = (0x4000_0000, 0x3000_0007);
@@ -284,11 +324,12 @@ fn bad_groups_answer_zeros() {
         (2_147_483_649, 2, 3),
     ];
     let takes_shape = include_str!("../src/ffi.rs").matches("shape: Shape").count();
-    let (mut table, mut room) = (table(), vec![7; 128]);
+    let (mut table, mut room, mut scratch) = (table(), vec![7; 128], SCRATCH);
     let track = vec![0; 5 * 530];
     for (groups, tracks, offset) in bad {
         let shape = Shape { groups, tracks, offset, ..SHAPE };
         let (list, at, len) = (null(), table.as_ptr(), table.len());
+        let (to, lent) = (scratch.as_mut_ptr(), scratch.len());
         let (image, bytes) = (track.as_ptr(), track.len());
         // SAFETY: the C face takes null where the length is 0; other pointers are of live slices.
         let answers = unsafe {
@@ -297,15 +338,18 @@ fn bad_groups_answer_zeros() {
                 ("tb_shape_address", numbers(tb_shape_address(shape, 18))),
                 ("tb_skipped_address", numbers(tb_skipped_address(shape, list, 0, 18))),
                 ("tb_skipped_block", numbers(tb_skipped_block(shape, list, 0, 1, 1, 1))),
-                ("tb_spare_sector", numbers(tb_spare_sector(shape, R, at, len, 9))),
-                ("tb_spare_address", numbers(tb_spare_address(shape, R, at, len, 9))),
-                ("tb_spare_shift", numbers(tb_spare_shift(shape, R, at, len, 9))),
-                ("tb_spare_block", numbers(tb_spare_block(shape, R, at, len, 9))),
-                ("tb_spare_block_at", numbers(tb_spare_block_at(shape, R, at, len, 1, 1, 1))),
-                ("tb_spare_census", numbers(tb_spare_census(shape, R, at, len))),
+                ("tb_spare_sector", numbers(tb_spare_sector(shape, R, at, len, to, lent, 9))),
+                ("tb_spare_address", numbers(tb_spare_address(shape, R, at, len, to, lent, 9))),
+                ("tb_spare_shift", numbers(tb_spare_shift(shape, R, at, len, to, lent, 9))),
+                ("tb_spare_block", numbers(tb_spare_block(shape, R, at, len, to, lent, 9))),
+                (
+                    "tb_spare_block_at",
+                    numbers(tb_spare_block_at(shape, R, at, len, to, lent, 1, 1, 1)),
+                ),
+                ("tb_spare_census", numbers(tb_spare_census(shape, R, at, len, to, lent))),
                 (
                     "tb_spare_replace",
-                    numbers(tb_spare_replace(shape, R, table.as_mut_ptr(), len, 9)),
+                    numbers(tb_spare_replace(shape, R, table.as_mut_ptr(), len, to, lent, 9)),
                 ),
                 (
                     "tb_spare_first",
@@ -313,11 +357,15 @@ fn bad_groups_answer_zeros() {
                 ),
                 (
                     "tb_read_judge",
-                    numbers(tb_read_judge(shape, R, at, len, 9, image, bytes, image, bytes)),
+                    numbers(tb_read_judge(
+                        shape, R, at, len, to, lent, 9, image, bytes, image, bytes,
+                    )),
                 ),
                 (
                     "tb_read_data",
-                    numbers(tb_read_data(shape, R, at, len, 9, image, bytes, image, bytes)),
+                    numbers(tb_read_data(
+                        shape, R, at, len, to, lent, 9, image, bytes, image, bytes,
+                    )),
                 ),
             ]
         };
@@ -326,7 +374,7 @@ fn bad_groups_answer_zeros() {
             refused_numbers(call, 1, &answer);
         }
     }
-    assert_eq!((table, room), (self::table(), vec![7; 128]));
+    assert_eq!((table, room, scratch), (self::table(), vec![7; 128], SCRATCH));
 }
 
 /// The image of block 7 with zeros for data, good or forced.
@@ -378,34 +426,47 @@ fn refused_images_answer_zeros() {
 
 #[test]
 fn refused_reads_answer_zeros() {
-    let read = |number: u32, r: u32, table: &[u32], block: u32, spare: &[u8]| {
+    let read = |number: u32, r: u32, table: &[u32], lent: usize, block: u32, spare: &[u8]| {
         let home = vec![0; 5 * 530];
-        let (table_at, table_len) = (table.as_ptr(), table.len());
-        let (home_at, home_len) = (home.as_ptr(), home.len());
-        let (spare_at, spare_len) = (spare.as_ptr(), spare.len());
+        let (at, len) = (table.as_ptr(), table.len());
+        let (home, bytes) = (home.as_ptr(), home.len());
+        let (spare, spare_bytes) = (spare.as_ptr(), spare.len());
+        let (mut scratch, mut again) = (SCRATCH, SCRATCH);
+        let (to, to_again) = (scratch.as_mut_ptr(), again.as_mut_ptr());
         // SAFETY: pointers and lengths are those of live slices.
         unsafe {
-            let judged = tb_read_judge(
-                SHAPE, r, table_at, table_len, block, home_at, home_len, spare_at, spare_len,
-            );
+            let judged =
+                tb_read_judge(SHAPE, r, at, len, to, lent, block, home, bytes, spare, spare_bytes);
             refused("tb_read_judge", number, judged);
             let part = tb_read_data(
-                SHAPE, r, table_at, table_len, block, home_at, home_len, spare_at, spare_len,
+                SHAPE,
+                r,
+                at,
+                len,
+                to_again,
+                lent,
+                block,
+                home,
+                bytes,
+                spare,
+                spare_bytes,
             );
             refused("tb_read_data", number, part);
         }
+        assert_eq!((scratch, again), (left(number), left(number)), "{number}");
     };
     let table = table();
     // Block 7 is on place 4, sector 3 of its track.
     let mut spare = vec![0; 5 * 530];
     spare[3 * 530..4 * 530].copy_from_slice(&image(false));
-    read(1, 5, &table, 7, &spare);
-    read(11, R, &table[1..], 7, &spare);
-    read(5, R, &table, 12, &spare);
-    read(14, R, &table, 7, &spare[1..]);
+    read(1, 5, &table, 0, 7, &spare);
+    read(7, R, &table[1..], 7, 12, &spare[1..]);
+    read(11, R, &table[1..], 10, 12, &spare[1..]);
+    read(5, R, &table, 10, 12, &spare[1..]);
+    read(14, R, &table, 10, 7, &spare[1..]);
     for (number, image) in bad_images().into_iter().skip(1) {
         spare[3 * 530..4 * 530].copy_from_slice(&image);
-        read(number, R, &table, 7, &spare);
+        read(number, R, &table, 10, 7, &spare);
     }
 }
 
@@ -466,28 +527,59 @@ fn null_pages_and_nights() {
 
 #[test]
 fn null_tables_and_lists() {
-    let mut room = [7; 128];
+    let (mut room, mut scratch) = ([7; 128], SCRATCH);
+    let (to, lent) = (scratch.as_mut_ptr(), scratch.len());
     // SAFETY: the C face takes null where the length is 0; other pointers are of live slices.
     unsafe {
-        refused("tb_spare_sector", 11, tb_spare_sector(SHAPE, R, null(), 0, 3));
-        refused("tb_spare_address", 11, tb_spare_address(SHAPE, R, null(), 0, 3));
-        refused("tb_spare_shift", 11, tb_spare_shift(SHAPE, R, null(), 0, 3));
-        refused("tb_spare_block", 11, tb_spare_block(SHAPE, R, null(), 0, 3));
-        refused("tb_spare_block_at", 11, tb_spare_block_at(SHAPE, R, null(), 0, 1, 0, 3));
-        refused("tb_spare_replace", 11, tb_spare_replace(SHAPE, R, null_mut(), 0, 3));
-        refused("tb_spare_census", 11, tb_spare_census(SHAPE, R, null(), 0));
+        refused("tb_spare_sector", 11, tb_spare_sector(SHAPE, R, null(), 0, to, lent, 3));
+        refused("tb_spare_address", 11, tb_spare_address(SHAPE, R, null(), 0, to, lent, 3));
+        refused("tb_spare_shift", 11, tb_spare_shift(SHAPE, R, null(), 0, to, lent, 3));
+        refused("tb_spare_block", 11, tb_spare_block(SHAPE, R, null(), 0, to, lent, 3));
+        let on = tb_spare_block_at(SHAPE, R, null(), 0, to, lent, 1, 0, 3);
+        refused("tb_spare_block_at", 11, on);
+        refused("tb_spare_replace", 11, tb_spare_replace(SHAPE, R, null_mut(), 0, to, lent, 3));
+        refused("tb_spare_census", 11, tb_spare_census(SHAPE, R, null(), 0, to, lent));
         refused("tb_spare_first", 7, tb_spare_first(SHAPE, R, null(), 0, null_mut(), 0));
         let made = tb_spare_first(SHAPE, R, null(), 0, room.as_mut_ptr(), room.len());
         assert_eq!(numbers(made), [0, 128]);
     }
+    assert_eq!(scratch, CLEARED);
     assert_eq!(room[..8], [0; 8]);
     assert_eq!(room[8..], [0x8000_0000; 120]);
 }
 
+/// No scratch at all is too little for any drive, and none is looked for where the shape is out of range.
+#[test]
+fn null_scratch() {
+    let (mut table, track) = (table(), vec![0; 5 * 530]);
+    let (len, no) = (table.len(), null_mut());
+    let (image, bytes) = (track.as_ptr(), track.len());
+    for (number, shape) in [(7, SHAPE), (1, shape_of(0))] {
+        let at = table.as_mut_ptr();
+        // SAFETY: the C face takes null where the length is 0; other pointers are of live slices.
+        unsafe {
+            refused("tb_spare_sector", number, tb_spare_sector(shape, R, at, len, no, 0, 3));
+            refused("tb_spare_address", number, tb_spare_address(shape, R, at, len, no, 0, 3));
+            refused("tb_spare_shift", number, tb_spare_shift(shape, R, at, len, no, 0, 3));
+            refused("tb_spare_block", number, tb_spare_block(shape, R, at, len, no, 0, 3));
+            let on = tb_spare_block_at(shape, R, at, len, no, 0, 1, 0, 3);
+            refused("tb_spare_block_at", number, on);
+            refused("tb_spare_replace", number, tb_spare_replace(shape, R, at, len, no, 0, 3));
+            refused("tb_spare_census", number, tb_spare_census(shape, R, at, len, no, 0));
+            let judged = tb_read_judge(shape, R, at, len, no, 0, 3, image, bytes, image, bytes);
+            refused("tb_read_judge", number, judged);
+            let part = tb_read_data(shape, R, at, len, no, 0, 3, image, bytes, image, bytes);
+            refused("tb_read_data", number, part);
+        }
+    }
+    assert_eq!(table, self::table());
+}
+
 #[test]
 fn null_images() {
-    let (data, table) = ([0; 512], table());
+    let (data, table, mut scratch) = ([0; 512], table(), SCRATCH);
     let (at, len) = (table.as_ptr(), table.len());
+    let (to, lent) = (scratch.as_mut_ptr(), scratch.len());
     // SAFETY: the C face takes null where the length is 0; other pointers are of live slices.
     unsafe {
         refused("tb_image_write", 14, tb_image_write(7, null(), 0, false, null_mut(), 0));
@@ -495,13 +587,14 @@ fn null_images() {
         refused("tb_image_write", 7, written);
         refused("tb_image_header", 14, tb_image_header(null(), 0));
         refused("tb_image_judge", 14, tb_image_judge(null(), 0, 7));
-        let judged = tb_read_judge(SHAPE, R, null(), 0, 7, null(), 0, null(), 0);
+        let judged = tb_read_judge(SHAPE, R, null(), 0, to, lent, 7, null(), 0, null(), 0);
         refused("tb_read_judge", 11, judged);
-        let judged = tb_read_judge(SHAPE, R, at, len, 7, null(), 0, null(), 0);
+        let judged = tb_read_judge(SHAPE, R, at, len, to, lent, 7, null(), 0, null(), 0);
         refused("tb_read_judge", 14, judged);
-        let part = tb_read_data(SHAPE, R, null(), 0, 7, null(), 0, null(), 0);
+        let part = tb_read_data(SHAPE, R, null(), 0, to, lent, 7, null(), 0, null(), 0);
         refused("tb_read_data", 11, part);
-        let part = tb_read_data(SHAPE, R, at, len, 7, null(), 0, null(), 0);
+        let part = tb_read_data(SHAPE, R, at, len, to, lent, 7, null(), 0, null(), 0);
         refused("tb_read_data", 14, part);
     }
+    assert_eq!(scratch, CLEARED);
 }

@@ -23,6 +23,7 @@ use Rattle.shape.proofs.Answered.{located-passes, located-is}
 use Rattle.skipped.specs.Faults.{skippedFault}
 use Rattle.layout.specs.Layouts.{driveFault}
 use Rattle.table.specs.Rules.{tableFault}
+use Rattle.table.specs.Scratch.{scratchFault}
 use Rattle.spares.specs.declared.Replaced.the-variants.{Refused as NotReplaced}
 use Rattle.reading.specs.Faults.{lentFault, blockReadFault}
 use Rattle.demands.specs.Angles.{Answered, for-sector, by-list, by-table, Angled, BothAngled, Alike, InAnyGroups, butAngle, EachCall, Angles}
@@ -39,10 +40,10 @@ found shape address (for-sector x given) =
     record { number = x; shaped = shape-shows shape (orElse-first _ _ (located-passes given)); is = located-is given }
 found shape address (by-list a b given) =
     record { number = _; shaped = shape-shows shape (orElse-first _ _ (orElse-first (skippedFault shape a) _ (located-passes given))); is = located-is given }
-found shape address (by-table r t b given) =
+found shape address (by-table r t scratch b given) =
     record {
       number = _;
-      shaped = shape-shows shape (orElse-first _ _ (orElse-first (driveFault shape r) _ (orElse-first (tableFault shape r t) _ (located-passes given))));
+      shaped = shape-shows shape (orElse-first _ _ (orElse-first (driveFault shape r) _ (orElse-first (scratchFault shape r scratch) _ (orElse-first (tableFault shape r t scratch) _ (located-passes given)))));
       is = located-is given;
     }
 
@@ -138,26 +139,26 @@ each-call =
       shape-address = λ x. in-any-groups _ (λ shape bad located given. rw bad at (given .answers)) (λ shape g tracks offset one other first second here there. same-but-angle _ _ _ refl (rw one at here) (rw other at there));
       skipped-address = λ a b. in-any-groups _ (λ shape bad located given. rw bad at (given .answers)) (λ shape g tracks offset one other first second here there. same-but-angle _ _ _ refl (rw one at here) (rw other at there));
       skipped-block = λ a cylinder head sector. in-any-groups _ (λ shape bad answer given. rw bad at (given .answers)) (λ shape g tracks offset one other first second here there. gives-one (rw one at here) (rw other at there));
-      spare-sector = λ r t b. in-any-groups _ (λ shape bad answer given. rw bad at (given .answers)) (λ shape g tracks offset one other first second here there. gives-one (rw one at here) (rw other at there));
-      spare-address = λ r t b. in-any-groups _ (λ shape bad located given. rw bad at (given .answers)) (λ shape g tracks offset one other first second here there. same-but-angle _ _ _ refl (rw one at here) (rw other at there));
-      spare-shift = λ r t b. in-any-groups _ (λ shape bad answer given. rw bad at (given .answers)) (λ shape g tracks offset one other first second here there. gives-one (rw one at here) (rw other at there));
-      spare-block = λ r t s. in-any-groups _ (λ shape bad answer given. rw bad at (given .answers)) (λ shape g tracks offset one other first second here there. gives-one (rw one at here) (rw other at there));
-      spare-block-at = λ r t cylinder head sector. in-any-groups _ (λ shape bad answer given. rw bad at (given .answers)) (λ shape g tracks offset one other first second here there. gives-one (rw one at here) (rw other at there));
-      spare-census = λ r t. in-any-groups _ (λ shape bad answer given. rw bad at (given .answers)) (λ shape g tracks offset one other first second here there. gives-one (rw one at here) (rw other at there));
-      spare-replace = λ r t b.
+      spare-sector = λ r t scratch b. in-any-groups _ (λ shape bad answer given. rw bad at (given .answers)) (λ shape g tracks offset one other first second here there. gives-one (rw one at here) (rw other at there));
+      spare-address = λ r t scratch b. in-any-groups _ (λ shape bad located given. rw bad at (given .answers)) (λ shape g tracks offset one other first second here there. same-but-angle _ _ _ refl (rw one at here) (rw other at there));
+      spare-shift = λ r t scratch b. in-any-groups _ (λ shape bad answer given. rw bad at (given .answers)) (λ shape g tracks offset one other first second here there. gives-one (rw one at here) (rw other at there));
+      spare-block = λ r t scratch s. in-any-groups _ (λ shape bad answer given. rw bad at (given .answers)) (λ shape g tracks offset one other first second here there. gives-one (rw one at here) (rw other at there));
+      spare-block-at = λ r t scratch cylinder head sector. in-any-groups _ (λ shape bad answer given. rw bad at (given .answers)) (λ shape g tracks offset one other first second here there. gives-one (rw one at here) (rw other at there));
+      spare-census = λ r t scratch. in-any-groups _ (λ shape bad answer given. rw bad at (given .answers)) (λ shape g tracks offset one other first second here there. gives-one (rw one at here) (rw other at there));
+      spare-replace = λ r t scratch b.
           in-any-groups _
-          (λ shape bad outcome given. spares-replace shape r t b outcome (NotReplaced outOfRange, t) given (fills-refuses (λ k. refl) outOfRange (rw bad) (omega arith)))
-          (λ shape g tracks offset one other first second here there. spares-replace shape r t b first second here (rw one (rw other at there)));
+          (λ shape bad outcome given. spares-replace shape r t scratch b outcome (NotReplaced outOfRange, t) given (fills-refuses (λ k. refl) outOfRange (rw bad) (omega arith)))
+          (λ shape g tracks offset one other first second here there. spares-replace shape r t scratch b first second here (rw one (rw other at there)));
       spare-first = λ r list room.
           in-any-groups _
           (λ shape bad outcome given. spares-first-table shape r list room outcome (NotWritten outOfRange, room) given (fills-refuses (λ k. refl) outOfRange (rw bad) (omega arith)))
           (λ shape g tracks offset one other first second here there. spares-first-table shape r list room first second here (rw one (rw other at there)));
-      read-judge = λ r t b home spare. in-any-groups _ (λ shape bad answer given. rw bad at (given .answers)) (λ shape g tracks offset one other first second here there. gives-one (rw one at here) (rw other at there));
-      read-spot = λ r t b home spare. in-any-groups _ (λ shape bad answer given. rw bad at (given .answers)) (λ shape g tracks offset one other first second here there. gives-one (rw one at here) (rw other at there));
-      read-data = λ r t b home spare.
+      read-judge = λ r t scratch b home spare. in-any-groups _ (λ shape bad answer given. rw bad at (given .answers)) (λ shape g tracks offset one other first second here there. gives-one (rw one at here) (rw other at there));
+      read-spot = λ r t scratch b home spare. in-any-groups _ (λ shape bad answer given. rw bad at (given .answers)) (λ shape g tracks offset one other first second here there. gives-one (rw one at here) (rw other at there));
+      read-data = λ r t scratch b home spare.
           in-any-groups _
           (λ shape bad part given. rw bad at given)
-          (λ shape g tracks offset one other first second here there. reading-data shape r t b home spare first second here (rw one (rw other at there)));
+          (λ shape g tracks offset one other first second here there. reading-data shape r t scratch b home spare first second here (rw one (rw other at there)));
     }
 
 pub angles : Angles

@@ -5,12 +5,12 @@ use mathlib.Core.Bool.{Bool, false, not}
 use mathlib.Core.List.{List, [], _∷_, _++_, map}
 use lib.Dec.{eqb, ltb, leb}
 use lib.IntN.{pos, _+ℤ_}
-use lib.ListN.{length, set, replicate}
+use lib.ListN.{length, getD, set, replicate}
 use lib.Seq.{sets}
 use denote.Ref.{RefT}
 use Rattle.paper.specs.Checks.{pick, refuse, _orElse_, answer}
 use Rattle.paper.specs.Limits.{tableBlock, dataSize, headerSize, imageExtra}
-use Rattle.paper.specs.Refusals.{noSpare, otherBlock, forcedError}
+use Rattle.paper.specs.Refusals.{noRoom, badTable, noSpare, otherBlock, forcedError}
 use Rattle.paper.specs.declared.Placed.{Placed}
 use Rattle.paper.specs.declared.Placed.the-variants.{At, Refused as NotPlaced}
 use Rattle.seek.specs.Search.{firstOr, rising}
@@ -38,9 +38,11 @@ use Rattle.format.specs.Spaces.{listOf, newGrown, newList, newSpace, formatFaul
 use Rattle.format.specs.declared.Formatted.{Formatted}
 use Rattle.format.specs.declared.Formatted.the-variants.{Done, Refused as NotFormatted}
 use Rattle.layout.specs.declared.Drive.{Drive}
-use Rattle.layout.specs.Layouts.{driveOf, homeCylinder, spareCylinder}
-use Rattle.layout.specs.Descriptors.{free, wordOf, primary}
+use Rattle.layout.specs.Layouts.{driveOf, driveFault, homeCylinder, spareCylinder}
+use Rattle.layout.specs.Descriptors.{free, wordOf, numberOf, primary}
 use Rattle.table.specs.Rules.{tableFault, blockFault as spareBlockFault}
+use Rattle.table.specs.Scratch.{scratchFault}
+use Rattle.table.specs.Steps.{obeys, withMark}
 use Rattle.table.specs.Lookup.{placeOf, isReplaced}
 use Rattle.order.specs.Order.{inBlock, outward, blockStart, freeAt}
 use Rattle.table.specs.declared.Census.{Census}
@@ -198,20 +200,20 @@ neverRound = angledBy (λ shape head sector. sector + shape .offset * groupOf sh
 -- Boards for a revectored drive.
 
 -- spares::sector_of: one sector for all blocks
-abbrev pub sameSpare : ℕ → Shape → ℕ → List ℕ → ℕ → Placed
-sameSpare s shape r t b = answer (spareBlockFault shape r t b) NotPlaced (At s)
+abbrev pub sameSpare : ℕ → Shape → ℕ → List ℕ → List ℕ → ℕ → Placed
+sameSpare s shape r t scratch b = answer (spareBlockFault shape r t scratch b) NotPlaced (At s)
 
 -- spares::replace: says that no spare is free
-abbrev pub sparesNone : Shape → ℕ → List ℕ → ℕ → Replaced × List ℕ
-sparesNone shape r t b = (NotReplaced noSpare, t)
+abbrev pub sparesNone : Shape → ℕ → List ℕ → List ℕ → ℕ → Replaced × List ℕ
+sparesNone shape r t scratch b = (NotReplaced noSpare, t)
 
 -- what spares::replace promises to answer
-abbrev pub placePromised : Shape → ℕ → List ℕ → ℕ → Replaced
-placePromised shape r t b = answer (replaceFault shape r t b) NotReplaced (Place (spareFor (driveOf shape r) t b))
+abbrev pub placePromised : Shape → ℕ → List ℕ → List ℕ → ℕ → Replaced
+placePromised shape r t scratch b = answer (replaceFault shape r t scratch b) NotReplaced (Place (spareFor (driveOf shape r) t b))
 
 -- spares::replace: answers it and leaves the table
-abbrev pub leavesTable : Shape → ℕ → List ℕ → ℕ → Replaced × List ℕ
-leavesTable shape r t b = (placePromised shape r t b, t)
+abbrev pub leavesTable : Shape → ℕ → List ℕ → List ℕ → ℕ → Replaced × List ℕ
+leavesTable shape r t scratch b = (placePromised shape r t scratch b, t)
 
 -- how far the nearer end of the table block lies from an offset
 abbrev pub nearerEnd : ℕ → ℕ
@@ -228,39 +230,39 @@ stoppedOrder places p =
 abbrev pub stoppedSpare : Drive → List ℕ → ℕ → ℕ
 stoppedSpare g t b = firstOr (length t) (freeAt t) (stoppedOrder (length t) (primary g b))
 
--- checks 1, 11, 5, 13 with it
-abbrev pub stoppedFault : Shape → ℕ → List ℕ → ℕ → ℕ
-stoppedFault shape r t b = spareBlockFault shape r t b orElse refuse (leb (length t) (stoppedSpare (driveOf shape r) t b)) noSpare
+-- checks 1, 7, 11, 5, 13 with it
+abbrev pub stoppedFault : Shape → ℕ → List ℕ → List ℕ → ℕ → ℕ
+stoppedFault shape r t scratch b = spareBlockFault shape r t scratch b orElse refuse (leb (length t) (stoppedSpare (driveOf shape r) t b)) noSpare
 
 -- spares::replace: searches in that order
-abbrev pub stopsSearch : Shape → ℕ → List ℕ → ℕ → Replaced × List ℕ
-stopsSearch shape r t b = (
-  answer (stoppedFault shape r t b) NotReplaced (Place (stoppedSpare (driveOf shape r) t b)),
-  answer (stoppedFault shape r t b) (λ fault. t)
+abbrev pub stopsSearch : Shape → ℕ → List ℕ → List ℕ → ℕ → Replaced × List ℕ
+stopsSearch shape r t scratch b = (
+  answer (stoppedFault shape r t scratch b) NotReplaced (Place (stoppedSpare (driveOf shape r) t b)),
+  answer (stoppedFault shape r t scratch b) (λ fault. t)
       (set (killedIn t b) (stoppedSpare (driveOf shape r) t b) (descriptorAt (driveOf shape r) (stoppedSpare (driveOf shape r) t b) b)),
 )
 
 -- spares::replace: leaves the descriptor that the block had
-abbrev pub leavesOld : Shape → ℕ → List ℕ → ℕ → Replaced × List ℕ
-leavesOld shape r t b = (placePromised shape r t b, answer (replaceFault shape r t b) (λ fault. t) (replacedIn (driveOf shape r) t b))
+abbrev pub leavesOld : Shape → ℕ → List ℕ → List ℕ → ℕ → Replaced × List ℕ
+leavesOld shape r t scratch b = (placePromised shape r t scratch b, answer (replaceFault shape r t scratch b) (λ fault. t) (replacedIn (driveOf shape r) t b))
 
 -- spares::replace: sets it free
-abbrev pub freesOld : Shape → ℕ → List ℕ → ℕ → Replaced × List ℕ
-freesOld shape r t b = (
-  placePromised shape r t b,
-  answer (replaceFault shape r t b) (λ fault. t) (set (replacedIn (driveOf shape r) t b) (placeOf t b) (wordOf free 0)),
+abbrev pub freesOld : Shape → ℕ → List ℕ → List ℕ → ℕ → Replaced × List ℕ
+freesOld shape r t scratch b = (
+  placePromised shape r t scratch b,
+  answer (replaceFault shape r t scratch b) (λ fault. t) (set (replacedIn (driveOf shape r) t b) (placeOf t b) (wordOf free 0)),
 )
 
--- spares::replace: marks it unusable as soon as 1, 11 and 5 pass, before it looks for a spare
-abbrev pub killsEarly : Shape → ℕ → List ℕ → ℕ → Replaced × List ℕ
-killsEarly shape r t b = (
-  placePromised shape r t b,
-  answer (spareBlockFault shape r t b) (λ fault. t) (answer (replaceFault shape r t b) (λ fault. killedIn t b) (movedIn (driveOf shape r) t b)),
+-- spares::replace: marks it unusable as soon as 1, 7, 11 and 5 pass, before it looks for a spare
+abbrev pub killsEarly : Shape → ℕ → List ℕ → List ℕ → ℕ → Replaced × List ℕ
+killsEarly shape r t scratch b = (
+  placePromised shape r t scratch b,
+  answer (spareBlockFault shape r t scratch b) (λ fault. t) (answer (replaceFault shape r t scratch b) (λ fault. killedIn t b) (movedIn (driveOf shape r) t b)),
 )
 
 -- spares::census: any census
-abbrev pub madeUpCensus : Census → Shape → ℕ → List ℕ → Counted
-madeUpCensus census shape r t = answer (tableFault shape r t) NotCounted (Counts census)
+abbrev pub madeUpCensus : Census → Shape → ℕ → List ℕ → List ℕ → Counted
+madeUpCensus census shape r t scratch = answer (tableFault shape r t scratch) NotCounted (Counts census)
 
 -- free, primary, elsewhere, unusable, null
 abbrev pub censusWith : ℕ → ℕ → ℕ → ℕ → ℕ → Census
@@ -268,16 +270,43 @@ censusWith free primary elsewhere unusable null =
     record { free = free; primary = primary; elsewhere = elsewhere; unusable = unusable; null = null }
 
 -- spares::shift: a difference that stops at 0
-abbrev pub truncatedShift : Shape → ℕ → List ℕ → ℕ → Shifted
-truncatedShift shape r t b =
-    answer (spareBlockFault shape r t b) NotShifted
+abbrev pub truncatedShift : Shape → ℕ → List ℕ → List ℕ → ℕ → Shifted
+truncatedShift shape r t scratch b =
+    answer (spareBlockFault shape r t scratch b) NotShifted
     (By (pick (isReplaced t b) (pos (spareCylinder (driveOf shape r) (placeOf t b) - homeCylinder (driveOf shape r) b)) (pos 0)))
 
 -- spares::shift: a difference of 32 bits without a sign
-abbrev pub wrappedShift : Shape → ℕ → List ℕ → ℕ → Shifted
-wrappedShift shape r t b =
-    answer (spareBlockFault shape r t b) NotShifted
+abbrev pub wrappedShift : Shape → ℕ → List ℕ → List ℕ → ℕ → Shifted
+wrappedShift shape r t scratch b =
+    answer (spareBlockFault shape r t scratch b) NotShifted
     (By (pick (isReplaced t b) (pos ((2 ^ 32 + spareCylinder (driveOf shape r) (placeOf t b) - homeCylinder (driveOf shape r) b) % 2 ^ 32)) (pos 0)))
+
+-- Boards for scratch: what each leaves of it.
+
+-- the numbers that are promised: zeros for the spares, and the rest as it was
+abbrev pub zeroed : Shape → ℕ → List ℕ → List ℕ
+zeroed shape r scratch = written (replicate (driveOf shape r .spares) 0) scratch
+
+-- any call that is lent a table: where the table breaks a rule, the mark of the block that place 0 names is left on
+abbrev pub leavesMark : Shape → ℕ → List ℕ → List ℕ → List ℕ
+leavesMark shape r t scratch =
+    answer (scratchFault shape r scratch) (λ fault. scratch)
+    (pick (obeys (driveOf shape r) t) (zeroed shape r scratch) (withMark (zeroed shape r scratch) 0 (numberOf (getD t 0 0))))
+
+-- clears only where the table passes
+abbrev pub clearsAccepted : Shape → ℕ → List ℕ → List ℕ → List ℕ
+clearsAccepted shape r t scratch = answer (tableFault shape r t scratch) (λ fault. scratch) (zeroed shape r scratch)
+
+-- clears all that is lent
+abbrev pub clearsAll : Shape → ℕ → List ℕ → List ℕ → List ℕ
+clearsAll shape r t scratch = answer (scratchFault shape r scratch) (λ fault. scratch) (replicate (length scratch) 0)
+
+-- checks 1, 11, 7: looks at the table before the scratch
+abbrev pub rulesFirst : Shape → ℕ → List ℕ → List ℕ → ℕ
+rulesFirst shape r t scratch =
+    driveFault shape r
+    orElse (refuse (not (obeys (driveOf shape r) t)) badTable
+    orElse refuse (ltb (length scratch) (driveOf shape r .spares)) noRoom)
 
 -- Boards for images.
 
@@ -300,9 +329,9 @@ abbrev pub homeImage : Shape → ℕ → ℕ → List ℕ → List ℕ
 homeImage shape r b home = imageAt dataSize (bytesIn dataSize (b % driveOf shape r .l)) home
 
 -- reading::data: looks at home for every block
-abbrev pub readsHome : Shape → ℕ → List ℕ → ℕ → RefT (List ℕ) → RefT (List ℕ) → RefT (List ℕ)
-readsHome shape r t b home spare =
+abbrev pub readsHome : Shape → ℕ → List ℕ → List ℕ → ℕ → RefT (List ℕ) → RefT (List ℕ) → RefT (List ℕ)
+readsHome shape r t scratch b home spare =
     answer
-    (lentFault dataSize shape r t b (home .now) (spare .now) orElse contentsFault dataSize (homeImage shape r b (home .now)) b)
+    (lentFault dataSize shape r t scratch b (home .now) (spare .now) orElse contentsFault dataSize (homeImage shape r b (home .now)) b)
     (λ fault. partAt home 0 [])
     (partAt home (bytesIn dataSize (b % driveOf shape r .l) + headerSize) (dataOf dataSize (homeImage shape r b (home .now))))

@@ -145,31 +145,31 @@ module _
     format-keeps = keeps (λ said. said .0) (λ k. refl) refl promise
 
 -- a revectored drive: shape, spares of a track and table
-module _ (shape : Shape) (r : ℕ) (t : List ℕ) where
-  pub spares-sector-of : (b : ℕ) (result : Placed) → SpareSectorOf shape r t b result → PlacedBy (BlockJudged shape r t b) result
-  spares-sector-of b result promise = placed-by (block-exactly shape r t b) promise
+module _ (shape : Shape) (r : ℕ) (t scratch : List ℕ) where
+  pub spares-sector-of : (b : ℕ) (result : Placed) → SpareSectorOf shape r t scratch b result → PlacedBy (BlockJudged shape r t scratch b) result
+  spares-sector-of b result promise = placed-by (block-exactly shape r t scratch b) promise
 
-  pub spares-address-of : (b : ℕ) (result : Located) → SpareAddressOf shape r t b result → LocatedBy (BlockJudged shape r t b) result
-  spares-address-of b result promise = located-by (block-exactly shape r t b) promise
+  pub spares-address-of : (b : ℕ) (result : Located) → SpareAddressOf shape r t scratch b result → LocatedBy (BlockJudged shape r t scratch b) result
+  spares-address-of b result promise = located-by (block-exactly shape r t scratch b) promise
 
-  pub spares-shift : (b : ℕ) (result : Shifted) → ShiftOf shape r t b result → ShiftedBy (BlockJudged shape r t b) result
-  spares-shift b result promise = shifted-by (block-exactly shape r t b) promise
+  pub spares-shift : (b : ℕ) (result : Shifted) → ShiftOf shape r t scratch b result → ShiftedBy (BlockJudged shape r t scratch b) result
+  spares-shift b result promise = shifted-by (block-exactly shape r t scratch b) promise
 
-  pub spares-block-on : (s : ℕ) (result : Named) → SpareBlockOn shape r t s result → NamedBy (SpareBlockOnJudged shape r t s) result
-  spares-block-on s result promise = named-by (spare-block-on-exactly shape r t s) (lying-naming (driveOf shape r) t s) promise
+  pub spares-block-on : (s : ℕ) (result : Named) → SpareBlockOn shape r t scratch s result → NamedBy (SpareBlockOnJudged shape r t scratch s) result
+  spares-block-on s result promise = named-by (spare-block-on-exactly shape r t scratch s) (lying-naming (driveOf shape r) t s) promise
 
   pub spares-block-at :
-      (cylinder head sector : ℕ) (result : Named) → SpareBlockAt shape r t cylinder head sector result →
-      NamedBy (SpareBlockAtJudged shape r t cylinder head sector) result
+      (cylinder head sector : ℕ) (result : Named) → SpareBlockAt shape r t scratch cylinder head sector result →
+      NamedBy (SpareBlockAtJudged shape r t scratch cylinder head sector) result
   spares-block-at cylinder head sector result promise =
-      named-by (spare-block-at-exactly shape r t cylinder head sector) (lying-naming (driveOf shape r) t (sectorAt shape cylinder head sector)) promise
+      named-by (spare-block-at-exactly shape r t scratch cylinder head sector) (lying-naming (driveOf shape r) t (sectorAt shape cylinder head sector)) promise
 
-  pub spares-census : (result : Counted) → CensusOf shape r t result → CountedBy (TableJudged shape r t) result
-  spares-census result promise = counted-by (table-exactly shape r t) promise
+  pub spares-census : (result : Counted) → CensusOf shape r t scratch result → CountedBy (TableJudged shape r t scratch) result
+  spares-census result promise = counted-by (table-exactly shape r t scratch) promise
 
-module _ (shape : Shape) (r : ℕ) (t : List ℕ) (b : ℕ) (result : Replaced) (after : List ℕ) (promise : Replacement shape r t b result after) where
-  pub spares-replace : ReplacedBy (ReplaceJudged shape r t b) result
-  spares-replace = replaced-by (replace-exactly shape r t b) (fills-gives promise)
+module _ (shape : Shape) (r : ℕ) (t scratch : List ℕ) (b : ℕ) (result : Replaced) (after : List ℕ) (promise : Replacement shape r t scratch b result after) where
+  pub spares-replace : ReplacedBy (ReplaceJudged shape r t scratch b) result
+  spares-replace = replaced-by (replace-exactly shape r t scratch b) (fills-gives promise)
 
   pub spares-replace-keeps : Keeps (saidReplaced result .0) t after
   spares-replace-keeps = keeps (λ said. said .0) (λ k. refl) refl promise
@@ -209,29 +209,29 @@ image-data image number part promise =
     }
 
 -- a read of a revectored block
-module _ (shape : Shape) (r : ℕ) (t : List ℕ) (b : ℕ) where
+module _ (shape : Shape) (r : ℕ) (t scratch : List ℕ) (b : ℕ) where
   pub reading-judge :
-      (home spare : List ℕ) (result : Verdict) → ReadJudge shape r t b home spare result →
-      VerdictBy (BlockReadJudged dataSize shape r t b home spare) result
-  reading-judge home spare result promise = verdict-by (read-exactly dataSize shape r t b home spare) promise
+      (home spare : List ℕ) (result : Verdict) → ReadJudge shape r t scratch b home spare result →
+      VerdictBy (BlockReadJudged dataSize shape r t scratch b home spare) result
+  reading-judge home spare result promise = verdict-by (read-exactly dataSize shape r t scratch b home spare) promise
 
   pub reading-spot :
-      (home spare : List ℕ) (result : Spot) → Spots shape r t b home spare result →
-      SpotBy (BlockReadJudged dataSize shape r t b home spare) result
-  reading-spot home spare result promise = spot-by (read-exactly dataSize shape r t b home spare) (isReplaced t b) (dataStart dataSize (driveOf shape r) t b) promise
+      (home spare : List ℕ) (result : Spot) → Spots shape r t scratch b home spare result →
+      SpotBy (BlockReadJudged dataSize shape r t scratch b home spare) result
+  reading-spot home spare result promise = spot-by (read-exactly dataSize shape r t scratch b home spare) (isReplaced t b) (dataStart dataSize (driveOf shape r) t b) promise
 
   pub reading-data :
-      (home spare part : RefT (List ℕ)) → ReadData shape r t b home spare part →
-      PartBy (BlockReadJudged dataSize shape r t b (home .now) (spare .now)) dataSize (part .now)
+      (home spare part : RefT (List ℕ)) → ReadData shape r t scratch b home spare part →
+      PartBy (BlockReadJudged dataSize shape r t scratch b (home .now) (spare .now)) dataSize (part .now)
   reading-data home spare part promise =
       record {
-        number = blockReadFault dataSize shape r t b (home .now) (spare .now);
-        exactly = read-exactly dataSize shape r t b (home .now) (spare .now);
-        refused-empty = read-refused-empty dataSize shape r t b home spare part promise;
+        number = blockReadFault dataSize shape r t scratch b (home .now) (spare .now);
+        exactly = read-exactly dataSize shape r t scratch b (home .now) (spare .now);
+        refused-empty = read-refused-empty dataSize shape r t scratch b home spare part promise;
         accepted-whole =
             λ passes.
-            ap length (read-accepted-data dataSize shape r t b home spare part promise passes)
-            ∙ read-length dataSize shape r t b (home .now) (spare .now) passes;
+            ap length (read-accepted-data dataSize shape r t scratch b home spare part promise passes)
+            ∙ read-length dataSize shape r t scratch b (home .now) (spare .now) passes;
       }
 
 -- each sentence, call by call

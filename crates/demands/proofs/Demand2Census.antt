@@ -18,12 +18,16 @@ use Rattle.shape.specs.declared.Shape.{Shape}
 use Rattle.layout.specs.Layouts.{driveOf, driveFault}
 use Rattle.layout.specs.Descriptors.{free, unusable}
 use Rattle.layout.specs.declared.Drive.{Drive}
-use Rattle.table.specs.Rules.{tableFault}
+use Rattle.table.specs.Rules.{Sound, tableFault}
+use Rattle.table.specs.Scratch.{Enough}
 use Rattle.table.specs.Places.{tableLength}
 use Rattle.table.specs.Lookup.{placeOf}
 use Rattle.table.specs.Counting.{codeCount}
 use Rattle.table.specs.declared.Census.{Census}
-use Rattle.table.proofs.Exact.{table-passes}
+use Rattle.table.proofs.Exact.{table-sound, table-passes}
+use Rattle.table.proofs.Obeying.{obeys-unbroken}
+use Rattle.layout.proofs.Exact.{drive-shows}
+use borrow.Author.Tests.{le-ltb}
 use Rattle.first_table.specs.Marks.{isBadSpare, badSpares, badHomes}
 use Rattle.first_table.specs.Tables.{firstTable, firstTableFault}
 use Rattle.first_table.specs.Promises.{FirstTable}
@@ -40,10 +44,10 @@ use Rattle.demands.specs.Relations.{Counts}
 use Rattle.demands.specs.Inputs.{small, noneReplaced}
 use Rattle.demands.specs.Histories.{killedBy, History, made, replaced, refused, CensusLaw}
 use Rattle.demands.proofs.Rooms.{first-table-hands}
-use Rattle.demands.proofs.Demand2Revectored.{taken-passes, taken-table}
+use Rattle.demands.proofs.Demand2Revectored.{taken-passes, taken-after}
 
-module _ (shape : Shape) (r : ℕ) (t : List ℕ) (census : Census) (promise : CensusOf shape r t (Counted-as census)) where
-  passes : tableFault shape r t ≡ 0
+module _ (shape : Shape) (r : ℕ) (t scratch : List ℕ) (census : Census) (promise : CensusOf shape r t scratch (Counted-as census)) where
+  passes : tableFault shape r t scratch ≡ 0
   passes = sym (gives-number promise (λ said. said .0) (λ k. refl) refl)
 
   -- a census that is answered counts each code of the table
@@ -61,7 +65,7 @@ module _ (shape : Shape) (r : ℕ) (t : List ℕ) (census : Census) (promise : C
   pub census-leaves-none-out : census .free + (census .primary + (census .elsewhere + (census .unusable + census .null))) ≡ tableLength (driveOf shape r)
   census-leaves-none-out =
       let counts = census-counts in
-      rw (counts .are-free, counts .are-primary, counts .are-elsewhere, counts .are-unusable, counts .are-null) (census-whole shape r t passes)
+      rw (counts .are-free, counts .are-primary, counts .are-elsewhere, counts .are-unusable, counts .are-null) (census-whole (table-sound shape r t scratch passes))
 
 spares-hold : (g : Drive) (list : List ℕ) → badSpares g list ≤ g .spares
 unfolding badSpares
@@ -75,10 +79,10 @@ module _ (shape : Shape) (r : ℕ) (list room : List ℕ) (long : ℕ) (after : 
   first-is : take long after ≡ firstTable (driveOf shape r) list
   first-is = first-table-hands shape r list room long after first .0 .first
 
-  first-passes : tableFault shape r (take long after) ≡ 0
-  first-passes =
-      rw first-is
-      (table-passes shape r (firstTable (driveOf shape r) list) (orElse-first (driveFault shape r) _ first-fault) (first-obeys shape r list room first-fault))
+  first-sound : Sound shape r (take long after)
+  first-sound =
+      let drive = drive-shows shape r (orElse-first (driveFault shape r) _ first-fault) in
+      rw first-is (record { shaped = drive .0; spared = drive .1; unbroken = obeys-unbroken (first-obeys shape r list room first-fault) })
 
   first-frees : codeCount (take long after) free + (length (badHomes (driveOf shape r) list) + badSpares (driveOf shape r) list) ≡ driveOf shape r .spares
   first-frees =
@@ -89,21 +93,21 @@ module _ (shape : Shape) (r : ℕ) (list room : List ℕ) (long : ℕ) (after : 
   first-unusable = rw first-is (first-made shape r list room first-fault .unusable-count)
 
 -- what a replacement shows: an accepted one leaves a table that passes, with one free place less, and one unusable place more where it killed a spare
-module _ (shape : Shape) (r : ℕ) (t : List ℕ) (b : ℕ) (after : List ℕ) where
-  module _ (q : ℕ) (step : Replacement shape r t b (Place q) after) where
-    accepted : replaceFault shape r t b ≡ 0
-    accepted = taken-passes shape r t b q after step
+module _ (shape : Shape) (r : ℕ) (t scratch : List ℕ) (b : ℕ) (after : List ℕ) where
+  module _ (q : ℕ) (step : Replacement shape r t scratch b (Place q) after) where
+    accepted : replaceFault shape r t scratch b ≡ 0
+    accepted = taken-passes shape r t scratch b q after step
 
     step-frees : codeCount after free + 1 ≡ codeCount t free
-    step-frees = rw (step .holds) (replace-free-less shape r t b accepted)
+    step-frees = rw (step .holds) (replace-free-less shape r t scratch b accepted)
 
     step-kills : codeCount after unusable ≡ codeCount t unusable + killedBy t b
-    step-kills = rw (step .holds) (replace-unusable-more shape r t b accepted)
+    step-kills = rw (step .holds) (replace-unusable-more shape r t scratch b accepted)
 
   -- and a refused one leaves the table as it was
-  step-leaves : (fault : ℕ) → Replacement shape r t b (NotReplaced fault) after → after ≡ t
+  step-leaves : (fault : ℕ) → Replacement shape r t scratch b (NotReplaced fault) after → after ≡ t
   step-leaves fault step =
-      byFault (replaceFault shape r t b)
+      byFault (replaceFault shape r t scratch b)
       (λ none.
       let clash : NotReplaced fault ≡ Place (spareFor (driveOf shape r) t b) = rw none at (step .answers) in
       let z : _≡_ {A = ℕ} 0 1 = cc in
@@ -111,38 +115,38 @@ module _ (shape : Shape) (r : ℕ) (t : List ℕ) (b : ℕ) (after : List ℕ) w
       (λ some. fills-refused step some)
 
 module _ {shape : Shape} {r : ℕ} {list : List ℕ} where
-  history-passes : {k killed : ℕ} {last : Shape} {last-r : ℕ} {t : List ℕ} → History shape r list k killed last last-r t → tableFault last last-r t ≡ 0
-  history-passes (made room after long first) = first-passes shape r list room long after first
-  history-passes (replaced {t} history asked asked-r b q after step) = taken-table asked asked-r t b q after step
-  history-passes (refused {t} history asked asked-r b fault after step) = rw (step-leaves asked asked-r t b after fault step) (history-passes history)
+  history-sound : {k killed : ℕ} {last : Shape} {last-r : ℕ} {t : List ℕ} → History shape r list k killed last last-r t → Sound last last-r t
+  history-sound (made room after long first) = first-sound shape r list room long after first
+  history-sound (replaced {t} history asked asked-r scratch b q after step) = taken-after asked asked-r t scratch b q after step
+  history-sound (refused {t} history asked asked-r scratch b fault after step) = rw (step-leaves asked asked-r t scratch b after fault step) (history-sound history)
 
   history-frees :
       {k killed : ℕ} {last : Shape} {last-r : ℕ} {t : List ℕ} → History shape r list k killed last last-r t →
       codeCount t free + (k + (length (badHomes (driveOf shape r) list) + badSpares (driveOf shape r) list)) ≡ driveOf shape r .spares
   history-frees (made room after long first) = omega (arith, first-frees shape r list room long after first)
-  history-frees (replaced {t} history asked asked-r b q after step) = omega (arith, history-frees history, step-frees asked asked-r t b after q step)
-  history-frees (refused {t} history asked asked-r b fault after step) = rw (step-leaves asked asked-r t b after fault step) (history-frees history)
+  history-frees (replaced {t} history asked asked-r scratch b q after step) = omega (arith, history-frees history, step-frees asked asked-r t scratch b after q step)
+  history-frees (refused {t} history asked asked-r scratch b fault after step) = rw (step-leaves asked asked-r t scratch b after fault step) (history-frees history)
 
   history-kills :
       {k killed : ℕ} {last : Shape} {last-r : ℕ} {t : List ℕ} → History shape r list k killed last last-r t →
       codeCount t unusable ≡ badSpares (driveOf shape r) list + killed
   history-kills (made room after long first) = omega (arith, first-unusable shape r list room long after first)
-  history-kills (replaced {t} history asked asked-r b q after step) = omega (arith, history-kills history, step-kills asked asked-r t b after q step)
-  history-kills (refused {t} history asked asked-r b fault after step) = rw (step-leaves asked asked-r t b after fault step) (history-kills history)
+  history-kills (replaced {t} history asked asked-r scratch b q after step) = omega (arith, history-kills history, step-kills asked asked-r t scratch b after q step)
+  history-kills (refused {t} history asked asked-r scratch b fault after step) = rw (step-leaves asked asked-r t scratch b after fault step) (history-kills history)
 
 pub census-law : CensusLaw
 census-law =
     record {
       counts-codes = census-counts;
       leaves-none-out = census-leaves-none-out;
-      answered = λ shape last r last-r k killed list t history result promise.
-          gives-number promise (λ said. said .0) (λ k. refl) refl ∙ history-passes history;
-      free-left = λ shape last r last-r k killed list t history asked asked-r census promise.
-          omega (arith, census-counts asked asked-r t census promise .are-free, history-frees history);
-      unusable-made = λ shape last r last-r k killed list t history asked asked-r census promise.
-          census-counts asked asked-r t census promise .are-unusable ∙ history-kills history;
-      make-up-spares = λ shape last r last-r k killed list t history asked asked-r census promise.
-          rw (census-counts asked asked-r t census promise .are-free) (history-frees history);
+      answered = λ shape last r last-r k killed list t history scratch enough result promise.
+          gives-number promise (λ said. said .0) (λ k. refl) refl ∙ table-passes last last-r t scratch (history-sound history) enough;
+      free-left = λ shape last r last-r k killed list t history asked asked-r scratch census promise.
+          omega (arith, census-counts asked asked-r t scratch census promise .are-free, history-frees history);
+      unusable-made = λ shape last r last-r k killed list t history asked asked-r scratch census promise.
+          census-counts asked asked-r t scratch census promise .are-unusable ∙ history-kills history;
+      make-up-spares = λ shape last r last-r k killed list t history asked asked-r scratch census promise.
+          rw (census-counts asked asked-r t scratch census promise .are-free) (history-frees history);
     }
 
 -- why the shape and r of the last write: C 4, H 1, S 3 has eight spares at r 2 as C 2, H 2, S 5 has, and takes its tables; but place 6 is the primary of block 3 on the one drive alone, so after that replacement the other refuses the table
@@ -150,9 +154,9 @@ abbrev other : Shape
 other = record { cylinders = 4; heads = 1; sectors = 3; groups = 1; tracks = 1; offset = 0 }
 
 pub other-shape-refused :
-    (q : ℕ) (after : List ℕ) → Replacement other 2 noneReplaced 3 (Place q) after →
-    (result : Counted) → CensusOf small 2 after result → saidCounted result .0 ≡ badTable
+    (scratch : List ℕ) (q : ℕ) (after : List ℕ) → Replacement other 2 noneReplaced scratch 3 (Place q) after →
+    (again : List ℕ) → Enough small 2 again → (result : Counted) → CensusOf small 2 after again result → saidCounted result .0 ≡ badTable
 unfolding allBelow placeOf firstBelow firstOr outward rising
-other-shape-refused q after step result promise =
-    let is : after ≡ 0 ∷ 0 ∷ 0 ∷ 0 ∷ 0 ∷ 0 ∷ 0x20000003 ∷ 0 ∷ replicate 120 0x80000000 = step .holds in
-    gives-number promise (λ said. said .0) (λ k. refl) refl ∙ rw is
+other-shape-refused scratch q after step again enough result promise =
+    let is : after ≡ 0 ∷ 0 ∷ 0 ∷ 0 ∷ 0 ∷ 0 ∷ 0x20000003 ∷ 0 ∷ replicate 120 0x80000000 = rw (taken-passes other 2 noneReplaced scratch 3 q after step) at (step .holds) in
+    gives-number promise (λ said. said .0) (λ k. refl) refl ∙ rw (is, le-ltb (length again) 8 enough)

@@ -16,6 +16,7 @@ use Rattle.skipped.specs.Promises as Skipped
 use Rattle.page.specs.Promises as Page
 use Rattle.format.proofs.Held.{grown-holds, list-holds}
 use Rattle.format.specs.Promises.{Formats}
+use Rattle.table.specs.Scratch.{Scratched}
 use Rattle.first_table.specs.Promises.{FirstTable}
 use Rattle.spares.specs.Promises as Spares
 use Rattle.image.specs.Judged.{ContentsJudged}
@@ -81,26 +82,26 @@ pub format-format :
     (n : ℕ) (p g : List ℕ) (space option : ℕ) (d grown list : List ℕ) → OneFilledTwice (Formats n p g space option d grown list)
 format-format = formats-determines
 
-module _ (shape : Shape) (r : ℕ) (t : List ℕ) where
-  pub spares-sector-of : (b : ℕ) → OneResult (Spares.SectorOf shape r t b)
+module _ (shape : Shape) (r : ℕ) (t scratch : List ℕ) where
+  pub spares-sector-of : (b : ℕ) → OneResult (Spares.SectorOf shape r t scratch b)
   spares-sector-of b = gives-determines _ _ _ _ _
 
-  pub spares-address-of : (b : ℕ) → OneResult (Spares.AddressOf shape r t b)
+  pub spares-address-of : (b : ℕ) → OneResult (Spares.AddressOf shape r t scratch b)
   spares-address-of b = gives-determines _ _ _ _ _
 
-  pub spares-shift : (b : ℕ) → OneResult (Spares.ShiftOf shape r t b)
+  pub spares-shift : (b : ℕ) → OneResult (Spares.ShiftOf shape r t scratch b)
   spares-shift b = gives-determines _ _ _ _ _
 
-  pub spares-block-on : (s : ℕ) → OneResult (Spares.BlockOn shape r t s)
+  pub spares-block-on : (s : ℕ) → OneResult (Spares.BlockOn shape r t scratch s)
   spares-block-on s = gives-determines _ _ _ _ _
 
-  pub spares-block-at : (cylinder head sector : ℕ) → OneResult (Spares.BlockAt shape r t cylinder head sector)
+  pub spares-block-at : (cylinder head sector : ℕ) → OneResult (Spares.BlockAt shape r t scratch cylinder head sector)
   spares-block-at cylinder head sector = gives-determines _ _ _ _ _
 
-  pub spares-replace : (b : ℕ) → OneFilled (Spares.Replacement shape r t b)
+  pub spares-replace : (b : ℕ) → OneFilled (Spares.Replacement shape r t scratch b)
   spares-replace b = fills-determines _ _ _ _ _ _ _
 
-  pub spares-census : OneResult (Spares.CensusOf shape r t)
+  pub spares-census : OneResult (Spares.CensusOf shape r t scratch)
   spares-census = gives-determines _ _ _ _ _
 
 pub spares-first-table : (shape : Shape) (r : ℕ) (list room : List ℕ) → OneFilled (FirstTable shape r list room)
@@ -118,16 +119,20 @@ image-judge image number = gives-determines _ _ _ _ _
 pub image-data : (image : RefT (List ℕ)) (number : ℕ) → OneLent (Image.Data image number)
 image-data image number first second one other = let same = data-one dataSize image number first second one other in λ i. (same .0 i, same .1 i)
 
-module _ (shape : Shape) (r : ℕ) (t : List ℕ) (b : ℕ) where
-  pub reading-judge : (home spare : List ℕ) → OneResult (Reading.Judge shape r t b home spare)
+module _ (shape : Shape) (r : ℕ) (t scratch : List ℕ) (b : ℕ) where
+  pub reading-judge : (home spare : List ℕ) → OneResult (Reading.Judge shape r t scratch b home spare)
   reading-judge home spare = gives-determines _ _ _ _ _
 
-  pub reading-data : (home spare : RefT (List ℕ)) → OneLent (Reading.Data shape r t b home spare)
+  pub reading-data : (home spare : RefT (List ℕ)) → OneLent (Reading.Data shape r t scratch b home spare)
   reading-data home spare first second one other =
-      let same = read-one dataSize shape r t b home spare first second one other in λ i. (same .0 i, same .1 i)
+      let same = read-one dataSize shape r t scratch b home spare first second one other in λ i. (same .0 i, same .1 i)
 
-  pub reading-spot : (home spare : List ℕ) → OneResult (Reading.Spots shape r t b home spare)
+  pub reading-spot : (home spare : List ℕ) → OneResult (Reading.Spots shape r t scratch b home spare)
   reading-spot home spare = gives-determines _ _ _ _ _
+
+-- what is left of scratch
+pub scratch : (shape : Shape) (r : ℕ) (before : List ℕ) → OneResult (Scratched shape r before)
+scratch shape r before first second one other = one ∙ sym other
 
 -- what an image holds has one verdict
 pub one-verdict : (image : List ℕ) (number j k : ℕ) → ContentsJudged dataSize image number j → ContentsJudged dataSize image number k → j ≡ k
@@ -164,5 +169,6 @@ each-determined =
       reading-judge = reading-judge;
       reading-spot = reading-spot;
       reading-data = reading-data;
+      scratch = scratch;
       one-verdict = one-verdict;
     }

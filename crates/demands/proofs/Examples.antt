@@ -1,16 +1,19 @@
 -- The paper's "Numbers to try" and ours beside them: every row of the table holds. Where a block lies is told by the walk, which is the definition; the rest is computed.
 -- Assumes nothing.
 use Prim.Native.Nat.{ℕ, suc, _+_, _≤_}
-use mathlib.Core.Path.{_≡_, refl, sym, _∙_}
+use mathlib.Core.Path.{_≡_, refl, sym, _∙_, ap}
 use mathlib.Core.Bool.{Bool, true, false, not, true≢false}
 use mathlib.Core.List.{List, [], _∷_}
-use lib.Dec.{eqb}
-use lib.ListN.{length, getD}
-use borrow.Author.Tests.{le-ltb, lt-leb}
+use native.Mathlib.Omega.{arith}
+use lib.Dec.{eqb, leb}
+use lib.IntN.{ℤ, pos}
+use lib.ListN.{length, getD, replicate, length-replicate}
+use borrow.Author.Tests.{lt-ltb, le-ltb}
+use Rattle.paper.specs.Answers.{saidNamed}
 use Rattle.paper.specs.Limits.{dataSize, imageExtra}
-use Rattle.paper.specs.Refusals.{noSpare}
+use Rattle.paper.specs.Refusals.{noSuchBlock, noSpare}
 use Rattle.paper.specs.Promise.{Gives, Fills}
-use Rattle.paper.specs.Checks.{answer}
+use Rattle.paper.specs.Checks.{refuse, _orElse_, answer}
 use Rattle.paper.proofs.Kept.{gives, fills}
 use Rattle.words.specs.Words.{bytes16, bytes32, bytesOf, word16At}
 use Rattle.seek.specs.Count.{countBelow}
@@ -22,7 +25,10 @@ use Rattle.lists.specs.Proper.{listFault}
 use Rattle.lists.specs.Union.{isIn}
 use Rattle.paper.specs.Promise.{written}
 use Rattle.shape.specs.declared.Shape.{Shape}
+use Rattle.shape.specs.declared.Located.the-variants.{At as LocatedAt}
 use Rattle.shape.specs.Shapes.{sizeOf}
+use Rattle.shape.specs.Addresses.{addressAt}
+use Rattle.shape.specs.Promises.{saidLocated}
 use Rattle.skip.specs.Walk.{passes, walked}
 use Rattle.skip.specs.Translation.{sectorOfFault, blockOnFault}
 use Rattle.skip.proofs.Shown.{block-walk}
@@ -33,22 +39,27 @@ use Rattle.format.proofs.Held.{grown-holds, list-holds}
 use Rattle.format.proofs.Named.{scan-grown, scan-list, scan-accepted, next-grown, next-list, next-accepted, both-grown, both-list, both-accepted}
 use Rattle.layout.specs.Layouts.{driveOf, driveFault}
 use Rattle.layout.specs.Descriptors.{free, codeOf}
-use Rattle.table.specs.Rules.{tableFault}
+use Rattle.table.specs.Rules.{tableFault, blockFault}
+use Rattle.table.specs.Scratch.{Enough}
+use Rattle.table.proofs.Exact.{table-sound, table-alike, block-passes}
 use Rattle.table.specs.Places.{tableLength}
-use Rattle.table.specs.Lookup.{placeOf}
+use Rattle.table.specs.Lookup.{placeOf, liesOn, lyingOn}
+use Rattle.table.specs.Counting.{censusOf}
 use Rattle.order.specs.Order.{outward}
-use Rattle.replacing.specs.Replacing.{spareFor, NoneFree}
+use Rattle.replacing.specs.Replacing.{spareFor, NoneFree, movedIn}
 use Rattle.first_table.specs.Marks.{passing, badSpares, badHomes, marked}
 use Rattle.first_table.specs.Tables.{replacedAll, firstTable, spareFault, firstTableFault as startFault}
 use Rattle.first_table.proofs.Exact.{spares-judge}
+use Rattle.spares.specs.declared.Counted.the-variants.{Counts}
 use Rattle.spares.specs.Spares as Spares
-use Rattle.spares.proofs.Accepted.{tableAfter, no-spare-told}
+use Rattle.spares.specs.Promises.{saidCounted}
+use Rattle.spares.proofs.Accepted.{no-spare-told}
 use Rattle.image.specs.Code.{wordsOf, rotated, codeAfter, codeFrom, dataCode, carried}
 use Rattle.image.specs.Image.{storedIn, imageOf, writeFault}
 use Rattle.image.proofs.Exact.{length-passes}
 use Rattle.demands.specs.Relations.{AllowsOnly}
-use Rattle.demands.specs.Inputs.{chart, small, noneReplaced, afterSeven, afterEight, afterSix, sevenOnFive, eightOnThree, sevenOnSix, sixOnTwo, sevenOnSeven, zeroOnZero, sevenOnOne}
-use Rattle.demands.specs.Rows.{skip-sector, skip-block, format, spare-first, spare-replace, spare-full, image-write, Holds, AllHold, done, _also_, zeros, firstOne, lastOne, paperRows}
+use Rattle.demands.specs.Inputs.{chart, small, eight, holding, noneReplaced, afterSeven, afterEight, afterSix, sevenOnFive, eightOnThree, sevenOnSix, sixOnTwo, sevenOnSeven, zeroOnZero, sevenOnOne}
+use Rattle.demands.specs.Rows.{skip-sector, skip-block, format, spare-first, spare-replace, spare-full, spare-shift, spare-address, spare-sector, spare-block, spare-census, spare-short, image-write, Holds, AllHold, done, _also_, zeros, firstOne, lastOne, paperRows}
 
 module _ {Answer Said : Type 0} {said : Answer → Said} {nothing : ℕ → Said} {refused : ℕ → Answer} {fault : ℕ} {accepted : Answer} (alone : (k : ℕ) → said (refused k) ≡ nothing k) where
   -- a promise allows the answer that its chain makes, and what holds of every answer that it allows
@@ -102,6 +113,15 @@ plan-formatted n p g space option d {grown} {list} passes grows lists first seco
       every = λ answer given. (given .says ∙ rw (none, lists, grows), grown-holds given ∙ rw (none, grows), list-holds given ∙ rw (none, lists));
     }
 
+-- a number for each spare
+abbrev numbers : Shape → ℕ → List ℕ
+numbers shape r = replicate (driveOf shape r .spares) 0
+
+-- any scratch that is long enough is judged as these
+as-numbers : (shape : Shape) (r : ℕ) (table scratch : List ℕ) → Enough shape r scratch → tableFault shape r table scratch ≡ tableFault shape r table (numbers shape r)
+as-numbers shape r table scratch enough =
+    table-alike shape r table scratch (numbers shape r) enough (rw (length-replicate {A = ℕ} (driveOf shape r .spares) 0) (omega arith))
+
 module _ (shape : Shape) (r : ℕ) where
   -- a first table whose drive and list pass and that has spares enough, in a room that is long enough
   table-built :
@@ -113,20 +133,57 @@ module _ (shape : Shape) (r : ℕ) where
       (λ held. held ≡ written table room)
       (rw (none, built))
 
-  -- a replacement that passes its checks
+  -- a replacement that passes its checks with one scratch passes them with any that is long enough
   spare-taken :
-      (table : List ℕ) (block : ℕ) {spare : ℕ} {after : List ℕ} → Spares.replaceFault shape r table block ≡ 0 →
-      spareFor (driveOf shape r) table block ≡ spare → tableAfter shape r table block ≡ after → Holds (spare-replace shape r table block spare after)
-  spare-taken table block {spare} {after} none found stored =
-      allows-room (λ k. refl) (rw (none, found)) (λ held. held ≡ after) stored
+      (table : List ℕ) (block : ℕ) {spare : ℕ} {after : List ℕ} → Spares.replaceFault shape r table (numbers shape r) block ≡ 0 →
+      spareFor (driveOf shape r) table block ≡ spare → movedIn (driveOf shape r) table block ≡ after → Holds (spare-replace shape r table block spare after)
+  spare-taken table block {spare} {after} passes found stored scratch enough =
+      let none : Spares.replaceFault shape r table scratch block ≡ 0 =
+      ap (λ (fault : ℕ). (fault orElse refuse (leb (driveOf shape r .blocks) block) noSuchBlock) orElse refuse (leb (length table) (spareFor (driveOf shape r) table block)) noSpare)
+      (as-numbers shape r table scratch enough) ∙ passes in
+      allows-room (λ k. refl) (rw (none, found)) (λ held. held ≡ after) (rw none stored)
 
   -- a table that passes and has no free place
   spare-wanting :
-      (table : List ℕ) → tableFault shape r table ≡ 0 → allBelow (λ q. not (eqb (codeOf (getD table q 0)) free)) (length table) ≡ true → Holds (spare-full shape r table)
-  spare-wanting table passes taken block below =
+      (table : List ℕ) → tableFault shape r table (numbers shape r) ≡ 0 → allBelow (λ q. not (eqb (codeOf (getD table q 0)) free)) (length table) ≡ true → Holds (spare-full shape r table)
+  spare-wanting table passes taken scratch enough block below =
       let none-free : NoneFree table = λ q h e. true≢false (sym (every-here (λ q. not (eqb (codeOf (getD table q 0)) free)) (length table) taken q h) ∙ rw e) in
-      let none : Spares.replaceFault shape r table block ≡ noSpare = no-spare-told shape r table block (rw (passes, lt-leb (driveOf shape r .blocks) block below)) none-free in
+      let sound = table-sound shape r table (numbers shape r) passes in
+      let none : Spares.replaceFault shape r table scratch block ≡ noSpare = no-spare-told shape r table scratch block (block-passes shape r table scratch sound enough block below) none-free in
       allows-room (λ k. refl) (rw none) (λ held. held ≡ table) (rw none)
+
+  -- what the look-ups and the census answer with one scratch they answer with any that is long enough
+  lies-told :
+      (table : List ℕ) (block : ℕ) {figures : ℕ × ℕ} →
+      answer (blockFault shape r table (numbers shape r) block) (λ k. (k, 0)) (0, liesOn (driveOf shape r) table block) ≡ figures → Holds (spare-sector shape r table block figures)
+  lies-told table block same scratch enough = allows (λ k. refl) (rw (as-numbers shape r table scratch enough) same)
+
+  address-told :
+      (table : List ℕ) (block : ℕ) {figures : ℕ × ℕ × ℕ × ℕ × ℕ} →
+      answer (blockFault shape r table (numbers shape r) block) (λ k. (k, 0, 0, 0, 0)) (saidLocated (LocatedAt (addressAt shape (liesOn (driveOf shape r) table block)))) ≡ figures →
+      Holds (spare-address shape r table block figures)
+  address-told table block same scratch enough = allows (λ k. refl) (rw (as-numbers shape r table scratch enough) same)
+
+  shift-told :
+      (table : List ℕ) (block : ℕ) {figures : ℕ × ℤ} →
+      answer (blockFault shape r table (numbers shape r) block) (λ k. (k, pos 0)) (0, Spares.shiftOf (driveOf shape r) table block) ≡ figures →
+      Holds (spare-shift shape r table block figures)
+  shift-told table block same scratch enough = allows (λ k. refl) (rw (as-numbers shape r table scratch enough) same)
+
+  lying-told :
+      (table : List ℕ) (sector : ℕ) {figures : ℕ × ℕ × ℕ} →
+      answer (Spares.blockOnFault shape r table (numbers shape r) sector) (λ k. (k, 0, 0)) (saidNamed (lyingOn (driveOf shape r) table sector)) ≡ figures →
+      Holds (spare-block shape r table sector figures)
+  lying-told table sector same scratch enough = allows (λ k. refl) (rw (as-numbers shape r table scratch enough) same)
+
+  census-told :
+      (table : List ℕ) {figures : ℕ × ℕ × ℕ × ℕ × ℕ × ℕ} →
+      answer (tableFault shape r table (numbers shape r)) (λ k. (k, 0, 0, 0, 0, 0)) (saidCounted (Counts (censusOf table))) ≡ figures → Holds (spare-census shape r table figures)
+  census-told table same scratch enough = allows (λ k. refl) (rw (as-numbers shape r table scratch enough) same)
+
+  -- scratch that is too short
+  scratch-short : (table : List ℕ) → driveFault shape r ≡ 0 → Holds (spare-short shape r table)
+  scratch-short table passes scratch short block = allows (λ k. refl) (rw (passes, lt-ltb (length scratch) (driveOf shape r .spares) short))
 
 -- an image of data of the right length, in a room that is long enough
 code-carried :
@@ -159,11 +216,11 @@ numbers-to-try =
     also spare-taken small 2 noneReplaced 7 refl refl refl
     also spare-taken small 2 afterSeven 8 refl refl refl
     also spare-taken small 2 afterEight 6 refl refl refl
-    also allows (λ k. refl) refl
-    also allows (λ k. refl) refl
-    also allows (λ k. refl) refl
-    also allows (λ k. refl) refl
-    also allows (λ k. refl) refl
+    also shift-told small 2 afterSix 6 refl
+    also lies-told small 2 afterSix 6 refl
+    also lying-told small 2 afterSix 9 refl
+    also lying-told small 2 afterSix 10 refl
+    also census-told small 2 afterSix refl
     also code-carried false zeros refl (λ number room. refl)
     also code-carried false firstOne refl (λ number room. refl)
     also code-carried false lastOne refl (λ number room. refl)
@@ -176,8 +233,8 @@ numbers-to-try =
     also allows (λ k. refl) refl
     also allows (λ k. refl) refl
     also allows (λ k. refl) refl
-    also allows (λ k. refl) refl
-    also allows (λ k. refl) refl
+    also address-told small 2 noneReplaced 6 refl
+    also address-told small 2 afterSix 6 refl
     also allows (λ k. refl) refl
     also allows (λ k. refl) refl
     also allows (λ k. refl) refl
@@ -195,11 +252,13 @@ numbers-to-try =
     also spare-taken small 2 sevenOnSeven 0 refl refl refl
     also spare-taken small 2 zeroOnZero 7 refl refl refl
     also spare-wanting small 2 sevenOnOne refl refl
-    also allows (λ k. refl) refl
-    also allows (λ k. refl) refl
-    also allows (λ k. refl) refl
+    also census-told small 2 sevenOnOne refl
+    also lies-told small 2 sevenOnOne 7 refl
+    also shift-told small 2 sevenOnOne 7 refl
     also spare-taken small 2 afterSix 6 refl refl refl
-    also allows (λ k. refl) refl
+    also shift-told small 2 (eight 0 0 0 0x40000000 0x20000007 0x30000008 0x30000006 0) 6 refl
     also spare-taken small 2 _ 7 refl refl refl
     also spare-wanting small 2 _ refl refl
+    also scratch-short small 2 afterSix refl
+    also scratch-short small 2 (holding 0x30000007 0x20000007 0) refl
     also done

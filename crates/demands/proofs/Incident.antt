@@ -9,7 +9,7 @@ use native.Mathlib.Omega.{arith}
 use lib.IntN.{ℤ, pos, negsuc, _+ℤ_, _-ℤ_}
 use lib.ListN.{length, getD, take, drop}
 use denote.Ref.{RefT}
-use borrow.Author.Tests.{eq-eqb}
+use borrow.Author.Tests.{eq-eqb, le-ltb}
 use Rattle.paper.specs.Answers.{saidWritten}
 use Rattle.paper.specs.Checks.{answer}
 use Rattle.paper.specs.Limits.{dataSize, imageExtra}
@@ -22,7 +22,8 @@ use Rattle.seek.specs.Search.{firstOr, rising}
 use Rattle.shape.specs.declared.Shape.{Shape}
 use Rattle.layout.specs.Layouts.{driveOf, homeCylinder, spareCylinder}
 use Rattle.layout.specs.Descriptors.{Names}
-use Rattle.table.specs.Rules.{blockFault}
+use Rattle.table.specs.Rules.{Sound}
+use Rattle.table.specs.Scratch.{Enough}
 use Rattle.table.specs.Lookup.{placeOf, Replaced, isReplaced}
 use Rattle.table.proofs.Lookups.{tells-replaced, replaced-place}
 use Rattle.order.specs.Order.{outward}
@@ -32,7 +33,7 @@ use Rattle.spares.specs.declared.Replaced as Answers
 use Rattle.spares.specs.declared.Replaced.the-variants.{Place, Refused as NotReplaced}
 use Rattle.spares.specs.Spares.{shiftOf, replaceFault}
 use Rattle.spares.specs.Promises.{Replacement}
-use Rattle.table.proofs.Exact.{block-ready}
+use Rattle.table.proofs.Exact.{sound-obeys, block-passes}
 use Rattle.spares.proofs.Shifts.{shift-replaced, shift-leads}
 use Rattle.image.specs.declared.Verdict.{Verdict}
 use Rattle.image.specs.Image.{dataOf, imageOf, writeFault}
@@ -51,15 +52,15 @@ use Rattle.demands.proofs.ByKind.{spot-says}
 use Rattle.demands.specs.Relations.{AllowsOnly}
 use Rattle.demands.specs.Inputs.{small, afterEight}
 use Rattle.demands.specs.Incident.{spareStart, spareData, imageFrom, WholeTrack, SamePart, HandsBack, Safe}
-use Rattle.demands.proofs.Demand2Revectored.{taken-block, taken-same, replacement-moves}
+use Rattle.demands.proofs.Demand2Revectored.{taken-below, taken-after, replacement-moves}
 use Rattle.demands.proofs.Examples.{allows, allows-where}
 
 -- a read allows what holds of every part that it hands back, and nothing else
 allows-part :
-    (shape : Shape) (r : ℕ) (t : List ℕ) (b : ℕ) (home spare : RefT (List ℕ)) {Figures : RefT (List ℕ) → Type 0} →
-    ((part : RefT (List ℕ)) → Data shape r t b home spare part → Figures part) → AllowsOnly (Data shape r t b home spare) Figures
-allows-part shape r t b home spare every =
-    let fault = blockReadFault dataSize shape r t b (home .now) (spare .now) in
+    (shape : Shape) (r : ℕ) (t scratch : List ℕ) (b : ℕ) (home spare : RefT (List ℕ)) {Figures : RefT (List ℕ) → Type 0} →
+    ((part : RefT (List ℕ)) → Data shape r t scratch b home spare part → Figures part) → AllowsOnly (Data shape r t scratch b home spare) Figures
+allows-part shape r t scratch b home spare every =
+    let fault = blockReadFault dataSize shape r t scratch b (home .now) (spare .now) in
     let track = trackOf t b home spare in
     let start = dataStart dataSize (driveOf shape r) t b in
     let bytes = dataOf dataSize (imageFor dataSize (driveOf shape r) t b (home .now) (spare .now)) in
@@ -69,118 +70,132 @@ allows-part shape r t b home spare every =
       every = every;
     }
 
--- a block that passes its checks, and a place that names it
-module _ (shape : Shape) (r : ℕ) (t : List ℕ) (b q : ℕ) (passed : blockFault shape r t b ≡ 0) (in-table : q < length t) (named : Names (getD t q 0) b) where
-  abbrev is-named : Replaced t b
-  is-named = record { place = q; in-table = in-table; named = named }
+-- a drive and a table that pass, a block of theirs, and a place that names it
+module _
+    (shape : Shape)
+    (r : ℕ)
+    (t : List ℕ)
+    (b q : ℕ)
+    (sound : Sound shape r t)
+    (below : b < driveOf shape r .blocks)
+    (in-table : q < length t)
+    (named : Names (getD t q 0) b)
+  where
+    abbrev is-named : Replaced t b
+    is-named = record { place = q; in-table = in-table; named = named }
 
-  is-replaced : isReplaced t b ≡ true
-  is-replaced = tells-replaced t b .told is-named
+    is-replaced : isReplaced t b ≡ true
+    is-replaced = tells-replaced t b .told is-named
 
-  its-place : placeOf t b ≡ q
-  its-place = replaced-place (block-ready shape r t b passed .obeys) is-named
+    its-place : placeOf t b ≡ q
+    its-place = replaced-place (sound-obeys sound) is-named
 
-  its-sector : sectorIn (driveOf shape r) t b ≡ driveOf shape r .l + q % r
-  its-sector = seated-only (driveOf shape r) t b {Track = ℕ} 0 1 (block-ready shape r t b passed .obeys) (on-spare q in-table named) .1
+    its-sector : sectorIn (driveOf shape r) t b ≡ driveOf shape r .l + q % r
+    its-sector = seated-only (driveOf shape r) t b {Track = ℕ} 0 1 (sound-obeys sound) (on-spare q in-table named) .1
 
-  its-shift : shiftOf (driveOf shape r) t b ≡ pos (spareCylinder (driveOf shape r) q) -ℤ pos (homeCylinder (driveOf shape r) b)
-  its-shift = shift-replaced (driveOf shape r) t b (rw its-place in-table) ∙ rw its-place
+    its-shift : shiftOf (driveOf shape r) t b ≡ pos (spareCylinder (driveOf shape r) q) -ℤ pos (homeCylinder (driveOf shape r) b)
+    its-shift = shift-replaced (driveOf shape r) t b (rw its-place in-table) ∙ rw its-place
 
-  shift-goes : pos (homeCylinder (driveOf shape r) b) +ℤ shiftOf (driveOf shape r) t b ≡ pos (spareCylinder (driveOf shape r) q)
-  shift-goes = shift-leads (driveOf shape r) t b (rw its-place in-table) ∙ rw its-place
+    shift-goes : pos (homeCylinder (driveOf shape r) b) +ℤ shiftOf (driveOf shape r) t b ≡ pos (spareCylinder (driveOf shape r) q)
+    shift-goes = shift-leads (driveOf shape r) t b (rw its-place in-table) ∙ rw its-place
 
-  -- a part that is handed back without fault: the spare's bytes, where they lie
-  part-lent :
-      (home spare part : RefT (List ℕ)) → Data shape r t b home spare part → blockReadFault dataSize shape r t b (home .now) (spare .now) ≡ 0 →
-      Lends spare (spareData shape r q) (take dataSize (drop (spareData shape r q) (spare .now))) part
-  part-lent home spare part given-part none =
-      record {
-        holds =
-            accepted-data dataSize shape r t b home spare part given-part none
-            ∙ rw (is-replaced, its-sector) (data-inside dataSize (spareStart shape r q) (spare .now));
-        lies = rw (is-replaced, its-sector) at (accepted-part dataSize shape r t b home spare part given-part none .lies);
-      }
+    -- a part that is handed back without fault: the spare's bytes, where they lie
+    part-lent :
+        (scratch : List ℕ) (home spare part : RefT (List ℕ)) → Data shape r t scratch b home spare part →
+        blockReadFault dataSize shape r t scratch b (home .now) (spare .now) ≡ 0 →
+        Lends spare (spareData shape r q) (take dataSize (drop (spareData shape r q) (spare .now))) part
+    part-lent scratch home spare part given-part none =
+        record {
+          holds =
+              accepted-data dataSize shape r t scratch b home spare part given-part none
+              ∙ rw (is-replaced, its-sector) (data-inside dataSize (spareStart shape r q) (spare .now));
+          lies = rw (is-replaced, its-sector) at (accepted-part dataSize shape r t scratch b home spare part given-part none .lies);
+        }
 
-  part-filled :
-      (home spare part : RefT (List ℕ)) → Data shape r t b home spare part → (part .now ≡ [] → ⊥) →
-      Lends spare (spareData shape r q) (take dataSize (drop (spareData shape r q) (spare .now))) part
-  part-filled home spare part given-part filled =
-      byFault (blockReadFault dataSize shape r t b (home .now) (spare .now))
-      (λ none. part-lent home spare part given-part none)
-      (λ some. absurd (filled (refused-empty dataSize shape r t b home spare part given-part some)))
+    part-filled :
+        (scratch : List ℕ) (home spare part : RefT (List ℕ)) → Data shape r t scratch b home spare part → (part .now ≡ [] → ⊥) →
+        Lends spare (spareData shape r q) (take dataSize (drop (spareData shape r q) (spare .now))) part
+    part-filled scratch home spare part given-part filled =
+        byFault (blockReadFault dataSize shape r t scratch b (home .now) (spare .now))
+        (λ none. part-lent scratch home spare part given-part none)
+        (λ some. absurd (filled (refused-empty dataSize shape r t scratch b home spare part given-part some)))
 
-  part-unread :
-      (home other spare part again : RefT (List ℕ)) → length (home .now) ≡ length (other .now) →
-      Data shape r t b home spare part → Data shape r t b other spare again → SamePart part again
-  part-unread home other spare part again long first second =
-      let agree = home-unread dataSize shape r t b (home .now) (spare .now) (other .now) is-named long in
-      let same : part .now ≡ again .now = part-alike dataSize shape r t b home spare other spare part again agree first second in
-      record {
-        same-bytes = same;
-        same-place = λ filled.
-            part-filled home spare part first filled .lies
-            ∙ sym (part-filled other spare again second (λ empty. filled (same ∙ empty)) .lies);
-      }
-
-  verdict-unread :
-      (home other spare : List ℕ) (verdict again : Verdict) → length home ≡ length other →
-      Judge shape r t b home spare verdict → Judge shape r t b other spare again → verdict ≡ again
-  verdict-unread home other spare verdict again long first second =
-      first .answers ∙ verdict-alike dataSize shape r t b (home-unread dataSize shape r t b home spare other is-named long) ∙ sym (second .answers)
-
-  lent-passes : (home spare : List ℕ) → WholeTrack shape home → WholeTrack shape spare → lentFault dataSize shape r t b home spare ≡ 0
-  unfolding lentFault
-  lent-passes home spare whole whole′ =
-      rw (
-        passed,
-        eq-eqb (length home) (bytesIn dataSize (shape .sectors)) whole,
-        eq-eqb (length spare) (bytesIn dataSize (shape .sectors)) whole′,
-      )
-
-  module _
-      (home spare : RefT (List ℕ))
-      (bytes : List ℕ)
-      (whole : WholeTrack shape (home .now))
-      (whole′ : WholeTrack shape (spare .now))
-      (long : length bytes ≡ dataSize)
-      (h : Bytes bytes)
-      (stands : imageFrom (spareStart shape r q) (spare .now) ≡ imageOf b bytes false)
-    where
-      held : imageAt dataSize (spareStart shape r q) (spare .now) ≡ imageOf (headerFor (driveOf shape r) t b) bytes false
-      unfolding imageAt headerFor
-      held = stands
-
-      read-passes : blockReadFault dataSize shape r t b (home .now) (spare .now) ≡ 0
-      read-passes =
-          good-read dataSize shape r t b bytes long h (lent-passes (home .now) (spare .now) whole whole′) (on-spare q in-table named) held
-
-      data-lent : (part : RefT (List ℕ)) → Data shape r t b home spare part → Lends spare (spareData shape r q) bytes part
-      data-lent part given-part =
+    module _ (scratch again-scratch : List ℕ) (enough : Enough shape r scratch) (enough′ : Enough shape r again-scratch) where
+      part-unread :
+          (home other spare part again : RefT (List ℕ)) → length (home .now) ≡ length (other .now) →
+          Data shape r t scratch b home spare part → Data shape r t again-scratch b other spare again → SamePart part again
+      part-unread home other spare part again long first second =
+          let agree = home-unread dataSize shape r t b (home .now) (spare .now) (other .now) is-named long in
+          let same : part .now ≡ again .now = part-alike dataSize shape r t scratch again-scratch enough enough′ b home spare other spare part again agree first second in
           record {
-            holds = good-part dataSize shape r t b bytes long h home spare part given-part (lent-passes (home .now) (spare .now) whole whole′) (on-spare q in-table named) held;
-            lies = part-lent home spare part given-part read-passes .lies;
+            same-bytes = same;
+            same-place = λ filled.
+                part-filled scratch home spare part first filled .lies
+                ∙ sym (part-filled again-scratch other spare again second (λ empty. filled (same ∙ empty)) .lies);
           }
 
-  -- where a place names the block, reads are safe, and the shift is the difference of the cylinders
-  pub named-safe : Safe shape r t b q (pos (spareCylinder (driveOf shape r) q) -ℤ pos (homeCylinder (driveOf shape r) b))
-  named-safe =
-      record {
-        answers = allows (λ k. refl) (rw (passed, its-shift));
-        leads = rw its-shift at shift-goes;
-        spots = λ home spare.
-            allows-where (λ k. refl)
-            (λ answer given-spot none.
-            let passes : blockReadFault dataSize shape r t b home spare ≡ 0 = sym (gives-number given-spot (λ said. said .0) (λ k. refl) (spot-says (isReplaced t b) (dataStart dataSize (driveOf shape r) t b))) ∙ none in
-            given-spot .says ∙ rw (passes, is-replaced, its-sector));
-        lends = λ home spare. allows-part shape r t b home spare (part-filled home spare);
-        same-part = part-unread;
-        same-verdict = verdict-unread;
-        gives-back = λ home spare bytes whole whole′ long h stands.
+      verdict-unread :
+          (home other spare : List ℕ) (verdict again : Verdict) → length home ≡ length other →
+          Judge shape r t scratch b home spare verdict → Judge shape r t again-scratch b other spare again → verdict ≡ again
+      verdict-unread home other spare verdict again long first second =
+          first .answers
+          ∙ verdict-alike dataSize shape r t scratch again-scratch enough enough′ b (home-unread dataSize shape r t b home spare other is-named long)
+          ∙ sym (second .answers)
+
+    module _
+        (home spare : RefT (List ℕ))
+        (bytes : List ℕ)
+        (whole : WholeTrack shape (home .now))
+        (whole′ : WholeTrack shape (spare .now))
+        (long : length bytes ≡ dataSize)
+        (h : Bytes bytes)
+        (stands : imageFrom (spareStart shape r q) (spare .now) ≡ imageOf b bytes false)
+        (scratch : List ℕ)
+        (enough : Enough shape r scratch)
+      where
+        lent-passes : lentFault dataSize shape r t scratch b (home .now) (spare .now) ≡ 0
+        unfolding lentFault
+        lent-passes =
+            rw (
+              block-passes shape r t scratch sound enough b below,
+              eq-eqb (length (home .now)) (bytesIn dataSize (shape .sectors)) whole,
+              eq-eqb (length (spare .now)) (bytesIn dataSize (shape .sectors)) whole′,
+            )
+
+        held : imageAt dataSize (spareStart shape r q) (spare .now) ≡ imageOf (headerFor (driveOf shape r) t b) bytes false
+        unfolding imageAt headerFor
+        held = stands
+
+        read-passes : blockReadFault dataSize shape r t scratch b (home .now) (spare .now) ≡ 0
+        read-passes = good-read dataSize shape r t scratch b bytes long h lent-passes (on-spare q in-table named) held
+
+        data-lent : (part : RefT (List ℕ)) → Data shape r t scratch b home spare part → Lends spare (spareData shape r q) bytes part
+        data-lent part given-part =
             record {
-              accepted = allows (λ k. refl) (rw (read-passes home spare bytes whole whole′ long h stands));
-              bytes-lent = allows-part shape r t b home spare (data-lent home spare bytes whole whole′ long h stands);
-            };
-      }
+              holds = good-part dataSize shape r t scratch b bytes long h home spare part given-part lent-passes (on-spare q in-table named) held;
+              lies = part-lent scratch home spare part given-part read-passes .lies;
+            }
+
+    -- where a place names the block, reads are safe, and the shift is the difference of the cylinders
+    pub named-safe : Safe shape r t b q (pos (spareCylinder (driveOf shape r) q) -ℤ pos (homeCylinder (driveOf shape r) b))
+    named-safe =
+        record {
+          answers = λ scratch enough. allows (λ k. refl) (rw (block-passes shape r t scratch sound enough b below, its-shift));
+          leads = rw its-shift at shift-goes;
+          spots = λ scratch home spare.
+              allows-where (λ k. refl)
+              (λ answer given-spot none.
+              let passes : blockReadFault dataSize shape r t scratch b home spare ≡ 0 = sym (gives-number given-spot (λ said. said .0) (λ k. refl) (spot-says (isReplaced t b) (dataStart dataSize (driveOf shape r) t b))) ∙ none in
+              given-spot .says ∙ rw (passes, is-replaced, its-sector));
+          lends = λ scratch home spare. allows-part shape r t scratch b home spare (part-filled scratch home spare);
+          same-part = part-unread;
+          same-verdict = verdict-unread;
+          gives-back = λ home spare bytes whole whole′ long h stands.
+              record {
+                accepted = λ scratch enough. allows (λ k. refl) (rw (read-passes home spare bytes whole whole′ long h stands scratch enough));
+                bytes-lent = λ scratch enough. allows-part shape r t scratch b home spare (data-lent home spare bytes whole whole′ long h stands scratch enough);
+              };
+        }
 
 -- numbers one apart differ by −1
 one-less : (a c : ℕ) → a + 1 ≡ c → pos a -ℤ pos c ≡ negsuc 0
@@ -188,16 +203,18 @@ one-less a zero one = absurd (omega arith)
 one-less a (suc c) one = let none : suc c - suc a ≡ 0 = omega arith in minus-below a (suc c) (omega arith) ∙ ap negsuc none
 
 -- an accepted replacement, and the table that it leaves
-module _ (shape : Shape) (r : ℕ) (t : List ℕ) (b q : ℕ) (after : List ℕ) (replacement : Replacement shape r t b (Place q) after) where
+module _ (shape : Shape) (r : ℕ) (t scratch : List ℕ) (b q : ℕ) (after : List ℕ) (replacement : Replacement shape r t scratch b (Place q) after) where
   moved : Moved (driveOf shape r) t b q after
-  moved = replacement-moves shape r t b q after replacement
-
-  block-passes : blockFault shape r after b ≡ 0
-  block-passes = taken-same shape r t b q after replacement b ∙ taken-block shape r t b q after replacement
+  moved = replacement-moves shape r t scratch b q after replacement
 
   -- reads of a replaced block are safe, and the shift leads from its home's cylinder to its spare's
   pub replaced-safe : Safe shape r after b q (pos (spareCylinder (driveOf shape r) q) -ℤ pos (homeCylinder (driveOf shape r) b))
-  replaced-safe = named-safe shape r after b q block-passes (rw (moved .same-length) (moved .in-table)) (moved .names-block)
+  replaced-safe =
+      named-safe shape r after b q
+      (taken-after shape r t scratch b q after replacement)
+      (taken-below shape r t scratch b q after replacement)
+      (rw (moved .same-length) (moved .in-table))
+      (moved .names-block)
 
   -- the incident: the spare lies one cylinder nearer to cylinder 0 than the block's home
   pub outward-safe : spareCylinder (driveOf shape r) q + 1 ≡ homeCylinder (driveOf shape r) b → Safe shape r after b q (negsuc 0)
@@ -228,16 +245,16 @@ module _
         (stands ∙ rw (writes .holds) (room-image dataSize b bytes false room fits))
 
 -- the paper's own numbers: C 2, H 2, S 5, r 2, and block 6 goes to place 3, from cylinder 1 to cylinder 0
-module _ (given : Answers.Replaced) (after : List ℕ) (replacement : Replacement small 2 afterEight 6 given after) where
-  goes-to-3 : answer (replaceFault small 2 afterEight 6) NotReplaced (Place (spareFor (driveOf small 2) afterEight 6)) ≡ Place 3
+module _ (scratch : List ℕ) (enough : Enough small 2 scratch) (given : Answers.Replaced) (after : List ℕ) (replacement : Replacement small 2 afterEight scratch 6 given after) where
+  goes-to-3 : answer (replaceFault small 2 afterEight scratch 6) NotReplaced (Place (spareFor (driveOf small 2) afterEight 6)) ≡ Place 3
   unfolding allBelow placeOf firstBelow firstOr outward rising
-  goes-to-3 = refl
+  goes-to-3 = rw (le-ltb (length scratch) 8 enough)
 
   pub six-safe : Safe small 2 after 6 3 (negsuc 0)
-  six-safe = outward-safe small 2 afterEight 6 3 after (rw (replacement .answers ∙ goes-to-3) at replacement) refl
+  six-safe = outward-safe small 2 afterEight scratch 6 3 after (rw (replacement .answers ∙ goes-to-3) at replacement) refl
 
   -- its data begins at (3 + 3 mod 2) × 530 + 16 of the second image
   pub six-part :
-      (home spare part : RefT (List ℕ)) → Data small 2 after 6 home spare part → (part .now ≡ [] → ⊥) →
+      (read : List ℕ) (home spare part : RefT (List ℕ)) → Data small 2 after read 6 home spare part → (part .now ≡ [] → ⊥) →
       Lends spare 2136 (take 512 (drop 2136 (spare .now))) part
-  six-part home spare = six-safe .lends home spare .every
+  six-part read home spare = six-safe .lends read home spare .every

@@ -3,6 +3,7 @@ pub mod Chains
 pub mod ByKind
 pub mod Demand1
 pub mod Rooms
+pub mod Scratches
 pub mod Jobs
 pub mod Demand2Skipped
 pub mod Demand2Revectored

@@ -14,9 +14,10 @@ use Rattle.shape.specs.declared.Shape.{Shape}
 use Rattle.layout.specs.Layouts.{driveOf}
 use Rattle.layout.proofs.Layings.{track-whole}
 use Rattle.table.specs.Rules.{blockFault}
+use Rattle.table.specs.Scratch.{Enough}
 use Rattle.table.specs.Lookup.{isReplaced, liesOn}
 use Rattle.table.proofs.Lookups.{tells-replaced}
-use Rattle.table.proofs.Exact.{block-ready}
+use Rattle.table.proofs.Exact.{sound-laid, block-sound}
 use Rattle.spares.specs.Promises.{SectorOf}
 use Rattle.image.specs.declared.Verdict.{Verdict}
 use Rattle.image.specs.declared.Verdict.the-variants.{Good}
@@ -25,7 +26,7 @@ use Rattle.reading.specs.Tracks.{trackOf, sectorIn, imageAt, imageFor}
 use Rattle.reading.specs.Faults.{blockReadFault}
 use Rattle.reading.specs.Promises.{Judge, Data, Spots, saidSpot}
 use Rattle.reading.specs.declared.answers.Spot.{Spot}
-use Rattle.reading.proofs.Alike.{Agree, verdict-alike, part-alike}
+use Rattle.reading.proofs.Alike.{Agree, agree-same, passes-either, verdict-alike, spot-alike, part-alike}
 use Rattle.reading.proofs.Parts.{refused-empty, empty-refused, accepted-data, accepted-part, read-length, data-at-spot}
 use Rattle.reading.proofs.Tracks.{sector-lies, data-inside}
 use Rattle.demands.specs.Incident.{imageFrom}
@@ -37,36 +38,43 @@ module _ (shape : Shape) (r : ℕ) (t : List ℕ) (b : ℕ) where
   lies-in home spare (at-home none) = byBool (isReplaced t b) (λ e. absurd (none (tells-replaced t b .holds e))) (λ e. rw e)
   lies-in home spare (on-spare moved) = rw (tells-replaced t b .told moved)
 
-  module _ (s : ℕ) (placed : SectorOf shape r t b (At s)) where
-    passes : blockFault shape r t b ≡ 0
+  module _ (asked : List ℕ) (s : ℕ) (placed : SectorOf shape r t asked b (At s)) where
+    passes : blockFault shape r t asked b ≡ 0
     passes = sym (gives-number placed (λ said. said .0) (λ k. refl) refl)
 
     -- the sector that is answered, counted inside its track
     its-sector : sectorIn (driveOf shape r) t b ≡ s % shape .sectors
     its-sector =
-        let ready = block-ready shape r t b passes in
+        let sound = block-sound shape r t asked b passes in
         let is : s ≡ liesOn (driveOf shape r) t b = rw passes at (ap (λ (said : ℕ × ℕ). said .1) (placed .says)) in
-        sector-lies (driveOf shape r) t b (ready .laid) ∙ (rw (sym is) (ap (λ (n : ℕ). s % n) (track-whole (ready .drives))))
+        sector-lies (driveOf shape r) t b (sound-laid sound) ∙ (rw (sym is) (ap (λ (n : ℕ). s % n) (track-whole (sound .spared))))
 
     its-image : (home spare : List ℕ) {track : List ℕ} → LiesIn t b home spare track → imageFor dataSize (driveOf shape r) t b home spare ≡ imageFrom (startAt shape s) track
     unfolding imageAt
     its-image home spare lies = rw (its-sector, lies-in home spare lies)
 
-  module _ (home spare : List ℕ) where
-    judged-by : (verdict : Verdict) → Judge shape r t b home spare verdict → saidVerdict verdict ≡ blockReadFault dataSize shape r t b home spare
-    judged-by verdict promise = gives-number promise (λ number. number) (λ k. refl) refl
+    -- images as long as each other, with the same bytes on the sector of the block, agree
+    agreeing :
+        (home spare home′ spare′ : List ℕ) {track track′ : List ℕ} → LiesIn t b home spare track → LiesIn t b home′ spare′ track′ →
+        AsLong home home′ → AsLong spare spare′ → imageFrom (startAt shape s) track ≡ imageFrom (startAt shape s) track′ →
+        Agree dataSize (driveOf shape r) t b home spare home′ spare′
+    agreeing home spare home′ spare′ lies lies′ long long′ same =
+        record {
+          home-alike = long;
+          spare-alike = long′;
+          lies-alike = its-image home spare lies ∙ (same ∙ sym (its-image home′ spare′ lies′));
+        }
 
-  -- images as long as each other, with the same bytes on the sector of the block, agree
-  agreeing :
-      (s : ℕ) (home spare home′ spare′ : List ℕ) {track track′ : List ℕ} → SectorOf shape r t b (At s) → LiesIn t b home spare track → LiesIn t b home′ spare′ track′ →
-      AsLong home home′ → AsLong spare spare′ → imageFrom (startAt shape s) track ≡ imageFrom (startAt shape s) track′ →
-      Agree dataSize (driveOf shape r) t b home spare home′ spare′
-  agreeing s home spare home′ spare′ placed lies lies′ long long′ same =
-      record {
-        home-alike = long;
-        spare-alike = long′;
-        lies-alike = its-image s placed home spare lies ∙ (same ∙ sym (its-image s placed home′ spare′ lies′));
-      }
+  judged-by :
+      (judged home spare : List ℕ) (verdict : Verdict) → Judge shape r t judged b home spare verdict →
+      saidVerdict verdict ≡ blockReadFault dataSize shape r t judged b home spare
+  judged-by judged home spare verdict promise = gives-number promise (λ number. number) (λ k. refl) refl
+
+  -- a block that is judged good is read without fault, with any scratch that is long enough
+  good-passes :
+      (judged read home spare : List ℕ) → Judge shape r t judged b home spare Good → Enough shape r read → blockReadFault dataSize shape r t read b home spare ≡ 0
+  good-passes judged read home spare good enough =
+      passes-either dataSize shape r t judged read b home spare (sym (judged-by judged home spare Good good)) enough
 
   -- the images behind two references lie as the references do
   lies-now : {home spare track : RefT (List ℕ)} → LiesIn t b home spare track → LiesIn t b (home .now) (spare .now) (track .now)
@@ -74,44 +82,49 @@ module _ (shape : Shape) (r : ℕ) (t : List ℕ) (b : ℕ) where
   lies-now (on-spare moved) = on-spare moved
 
   lent-in-place :
-      (s : ℕ) (home spare track part : RefT (List ℕ)) → SectorOf shape r t b (At s) → LiesIn t b home spare track →
-      blockReadFault dataSize shape r t b (home .now) (spare .now) ≡ 0 → Data shape r t b home spare part →
+      (asked read : List ℕ) (s : ℕ) (home spare track part : RefT (List ℕ)) → SectorOf shape r t asked b (At s) → LiesIn t b home spare track →
+      blockReadFault dataSize shape r t read b (home .now) (spare .now) ≡ 0 → Data shape r t read b home spare part →
       Lends track (dataAt shape s) (take dataSize (drop (dataAt shape s) (track .now))) part
-  lent-in-place s home spare track part placed lies none lent =
+  lent-in-place asked read s home spare track part placed lies none lent =
       record {
         holds =
-            accepted-data dataSize shape r t b home spare part lent none
-            ∙ (rw (lies-in (home .now) (spare .now) (lies-now lies), its-sector s placed) (data-inside dataSize (startAt shape s) (track .now)));
-        lies = rw (lies-in home spare lies, its-sector s placed) at (accepted-part dataSize shape r t b home spare part lent none .lies);
+            accepted-data dataSize shape r t read b home spare part lent none
+            ∙ (rw (lies-in (home .now) (spare .now) (lies-now lies), its-sector asked s placed) (data-inside dataSize (startAt shape s) (track .now)));
+        lies = rw (lies-in home spare lies, its-sector asked s placed) at (accepted-part dataSize shape r t read b home spare part lent none .lies);
       }
 
   spot-said :
-      (s image : ℕ) (home spare : List ℕ) (spot : Spot) → SectorOf shape r t b (At s) → LiesIn t b 0 1 image →
-      blockReadFault dataSize shape r t b home spare ≡ 0 → Spots shape r t b home spare spot → saidSpot spot ≡ (0, image, dataAt shape s)
-  spot-said s image home spare spot placed (at-home none) passed spots =
-      spots .says ∙ byBool (isReplaced t b) (λ e. absurd (none (tells-replaced t b .holds e))) (λ e. rw (passed, e, its-sector s placed))
-  spot-said s image home spare spot placed (on-spare moved) passed spots =
-      spots .says ∙ rw (passed, tells-replaced t b .told moved, its-sector s placed)
+      (asked spotted : List ℕ) (s image : ℕ) (home spare : List ℕ) (spot : Spot) → SectorOf shape r t asked b (At s) → LiesIn t b 0 1 image →
+      blockReadFault dataSize shape r t spotted b home spare ≡ 0 → Spots shape r t spotted b home spare spot → saidSpot spot ≡ (0, image, dataAt shape s)
+  spot-said asked spotted s image home spare spot placed (at-home none) passed spots =
+      spots .says ∙ byBool (isReplaced t b) (λ e. absurd (none (tells-replaced t b .holds e))) (λ e. rw (passed, e, its-sector asked s placed))
+  spot-said asked spotted s image home spare spot placed (on-spare moved) passed spots =
+      spots .says ∙ rw (passed, tells-replaced t b .told moved, its-sector asked s placed)
 
 pub reads-in-place : ReadsInPlace
 reads-in-place =
     record {
-      lends-in-place = λ shape r t b s home spare track part placed lies good lent.
-          lent-in-place shape r t b s home spare track part placed lies (sym (judged-by shape r t b (home .now) (spare .now) Good good)) lent;
-      lends-whole = λ shape r t b home spare part good lent.
-          let none = sym (judged-by shape r t b (home .now) (spare .now) Good good) in
-          ap length (accepted-data dataSize shape r t b home spare part lent none) ∙ read-length dataSize shape r t b (home .now) (spare .now) none;
-      refused-empty = λ shape r t b home spare part verdict judged lent some.
-          refused-empty dataSize shape r t b home spare part lent (λ none. some (judged-by shape r t b (home .now) (spare .now) verdict judged ∙ none));
-      empty-refused = λ shape r t b home spare part verdict judged lent empty none.
-          empty-refused dataSize shape r t b home spare part lent (omega arith) empty (sym (judged-by shape r t b (home .now) (spare .now) verdict judged) ∙ none);
-      same-verdict = λ shape r t b s home spare track home′ spare′ track′ verdict again placed lies lies′ long long′ same first second.
-          first .answers ∙ (verdict-alike dataSize shape r t b (agreeing shape r t b s home spare home′ spare′ placed lies lies′ long long′ same) ∙ sym (second .answers));
-      same-data = λ shape r t b s home spare track home′ spare′ track′ part again placed lies lies′ long long′ same first second.
-          part-alike dataSize shape r t b home spare home′ spare′ part again
-          (agreeing shape r t b s (home .now) (spare .now) (home′ .now) (spare′ .now) placed (lies-now shape r t b lies) (lies-now shape r t b lies′) long long′ same) first second;
-      spot-in-place = λ shape r t b s image home spare spot placed lies good spots.
-          spot-said shape r t b s image home spare spot placed lies (sym (judged-by shape r t b home spare Good good)) spots;
-      data-at-spot = λ shape r t b home spare part spot spots lent.
-          rw (spots .answers) (data-at-spot dataSize shape r t b home spare part lent);
+      lends-in-place = λ shape r t asked judged read b s home spare track part placed lies good enough lent.
+          lent-in-place shape r t b asked read s home spare track part placed lies (good-passes shape r t b judged read (home .now) (spare .now) good enough) lent;
+      lends-whole = λ shape r t judged read b home spare part good enough lent.
+          let none = good-passes shape r t b judged read (home .now) (spare .now) good enough in
+          ap length (accepted-data dataSize shape r t read b home spare part lent none) ∙ read-length dataSize shape r t read b (home .now) (spare .now) none;
+      refused-empty = λ shape r t judged read b home spare part verdict enough judge lent some.
+          refused-empty dataSize shape r t read b home spare part lent
+          (λ none. some (judged-by shape r t b judged (home .now) (spare .now) verdict judge ∙ passes-either dataSize shape r t read judged b (home .now) (spare .now) none enough));
+      empty-refused = λ shape r t judged read b home spare part verdict judge enough lent empty none.
+          empty-refused dataSize shape r t read b home spare part lent (omega arith) empty
+          (passes-either dataSize shape r t judged read b (home .now) (spare .now) (sym (judged-by shape r t b judged (home .now) (spare .now) verdict judge) ∙ none) enough);
+      same-verdict = λ shape r t asked judged judged′ b s home spare track home′ spare′ track′ verdict again placed lies lies′ long long′ same enough enough′ first second.
+          first .answers
+          ∙ (verdict-alike dataSize shape r t judged judged′ enough enough′ b (agreeing shape r t b asked s placed home spare home′ spare′ lies lies′ long long′ same)
+          ∙ sym (second .answers));
+      same-data = λ shape r t asked read read′ b s home spare track home′ spare′ track′ part again placed lies lies′ long long′ same enough enough′ first second.
+          part-alike dataSize shape r t read read′ enough enough′ b home spare home′ spare′ part again
+          (agreeing shape r t b asked s placed (home .now) (spare .now) (home′ .now) (spare′ .now) (lies-now shape r t b lies) (lies-now shape r t b lies′) long long′ same) first second;
+      spot-in-place = λ shape r t asked judged spotted b s image home spare spot placed lies good enough spots.
+          spot-said shape r t b asked spotted s image home spare spot placed lies (good-passes shape r t b judged spotted home spare good enough) spots;
+      data-at-spot = λ shape r t spotted read b home spare part spot enough enough′ spots lent.
+          rw (spots .answers ∙ spot-alike dataSize shape r t spotted read enough enough′ b (agree-same dataSize (driveOf shape r) t b (home .now) (spare .now)))
+          (data-at-spot dataSize shape r t read b home spare part lent);
     }

@@ -15,7 +15,7 @@ use Rattle.paper.specs.Checks.{answer}
 use Rattle.paper.specs.Limits.{dataSize, headerSize, imageExtra}
 use Rattle.paper.specs.Exactly.{Exactly}
 use Rattle.paper.specs.Answers.{saidPlaced}
-use Rattle.paper.specs.Refusals.{outside, noSpare, forcedError, badCode}
+use Rattle.paper.specs.Refusals.{badTable, outside, noSpare, forcedError, badCode}
 use Rattle.paper.specs.declared.Placed.the-variants.{At}
 use Rattle.shape.specs.declared.Address.{Address}
 use Rattle.shape.specs.declared.Located.the-variants.{At as LocatedAt}
@@ -40,9 +40,12 @@ use Rattle.page.specs.Layout.{entriesOf, laidOut}
 use Rattle.page.specs.declared.Paged.the-variants.{Page, Refused as NotPaged}
 use Rattle.format.specs.Spaces.{newGrown, newList}
 use Rattle.format.specs.declared.Formatted.the-variants.{Done}
-use Rattle.layout.specs.Layouts.{driveOf}
+use Rattle.shape.specs.Shapes.{Shaped}
+use Rattle.shape.proofs.Exact.{shape-shows}
+use Rattle.layout.specs.Layouts.{Spared, driveOf}
+use Rattle.layout.proofs.Exact.{drive-shows}
 use Rattle.layout.specs.Descriptors.{free, codeOf}
-use Rattle.table.specs.Rules.{Breaks, named-twice, tableFault}
+use Rattle.table.specs.Rules.{Breaks, named-twice, tableFault, TableJudged}
 use Rattle.table.specs.Lookup as Table
 use Rattle.table.specs.Lookup.{placeOf}
 use Rattle.table.proofs.Lookups.{lies-only, lies-apart}
@@ -55,7 +58,7 @@ use Rattle.spares.specs.declared.Replaced.the-variants.{Place, Refused as NotRe
 use Rattle.spares.specs.declared.Shifted.the-variants.{By}
 use Rattle.spares.specs.declared.Counted.the-variants.{Counts as CountedAs}
 use Rattle.spares.proofs.Exact.{replace-exactly}
-use Rattle.table.proofs.Exact.{table-ready}
+use Rattle.table.proofs.Exact.{sound-laid, sound-obeys, table-sound, table-exactly}
 use Rattle.image.specs.Code as Code
 use Rattle.image.specs.Code.{wordsOf, rotated, codeFrom}
 use Rattle.image.specs.Image.{copies, headerOf, storedIn, foundIn, dataOf, imageOf, copiesFault, contentsFault, imageFault}
@@ -76,8 +79,9 @@ use Rattle.demands.specs.Demand2Revectored.{Alters, ShiftLeads}
 use Rattle.demands.specs.Histories.{killedBy}
 use Rattle.demands.specs.Numbered.{PlacedBy}
 use Rattle.demands.specs.Angles.{Angled, BothAngled}
-use Rattle.demands.specs.Inputs.{few, chart, small, holding, noneReplaced, afterSeven, afterSix, sevenOnOne, twoGroups}
-use Rattle.demands.proofs.Boards.{made, scan, lent, pageWith, begun, damaged, older, newer, blank, trackWith, refusesAll, sameSector, addsOnce, skipsNothing, opened, runsAhead, cursorAfter, sectorsAfter, madeUpEntries, writesEarly, madeUpLengths, takesSectors, Composes, sameSpare, sparesNone, leavesTable, groupByRemainder, offsetOnce, neverRound, stoppedOrder, stopsSearch, leavesOld, freesOld, killsEarly, madeUpCensus, censusWith, truncatedShift, wrappedShift, everyForced, homeImage, readsHome}
+use Rattle.demands.specs.Scratches.{LeavesScratch}
+use Rattle.demands.specs.Inputs.{few, chart, small, eight, eightZeros, holding, noneReplaced, afterSeven, afterSix, sevenOnOne, twoGroups}
+use Rattle.demands.proofs.Boards.{made, scan, lent, pageWith, begun, damaged, older, newer, blank, trackWith, refusesAll, sameSector, addsOnce, skipsNothing, opened, runsAhead, cursorAfter, sectorsAfter, madeUpEntries, writesEarly, madeUpLengths, takesSectors, Composes, sameSpare, sparesNone, leavesTable, groupByRemainder, offsetOnce, neverRound, stoppedOrder, stopsSearch, leavesOld, freesOld, killsEarly, madeUpCensus, censusWith, truncatedShift, wrappedShift, everyForced, homeImage, readsHome, leavesMark, clearsAccepted, clearsAll, rulesFirst}
 
 -- a number that is given exactly is the only one
 no-other : {Rows : ℕ → Type 0} {number k : ℕ} → Exactly Rows number → (number ≡ k → ⊥) → Rows k → ⊥
@@ -107,9 +111,9 @@ refuses-all-unplaced k =
     (record { inside = omega arith; good = refl; before = refl }, λ same. let clash : _≡_ {A = ℕ} 0 1 = cc in omega arith)
 
 -- no spare, always: block 7 has one, and no row gives 13
-pub spares-none-unjudged : ReplaceJudged small 2 noneReplaced 7 (saidReplaced (sparesNone small 2 noneReplaced 7 .0) .0) → ⊥
+pub spares-none-unjudged : ReplaceJudged small 2 noneReplaced eightZeros 7 (saidReplaced (sparesNone small 2 noneReplaced eightZeros 7 .0) .0) → ⊥
 unfolding allBelow placeOf firstBelow firstOr outward rising
-spares-none-unjudged = no-other (replace-exactly small 2 noneReplaced 7) (λ same. omega arith)
+spares-none-unjudged = no-other (replace-exactly small 2 noneReplaced eightZeros 7) (λ same. omega arith)
 
 -- the same sector always: blocks 0 and 1 do not both lie on it
 pub same-sector-shared :
@@ -118,26 +122,26 @@ same-sector-shared s =
     (rw zero-passes, rw one-passes, λ first second. let clash : _≡_ {A = ℕ} 0 1 = lies-one-block (isIn few) 6 first second in omega arith)
 
 -- nor on a revectored drive
-noneReplaced-passes : tableFault small 2 noneReplaced ≡ 0
+noneReplaced-passes : tableFault small 2 noneReplaced eightZeros ≡ 0
 unfolding allBelow
 noneReplaced-passes = refl
 
 pub same-spare-shared :
     (s : ℕ) →
-    (sameSpare s small 2 noneReplaced 0 ≡ At s)
-    × (sameSpare s small 2 noneReplaced 1 ≡ At s)
+    (sameSpare s small 2 noneReplaced eightZeros 0 ≡ At s)
+    × (sameSpare s small 2 noneReplaced eightZeros 1 ≡ At s)
     × (Table.Resides (driveOf small 2) noneReplaced 0 s → Table.Resides (driveOf small 2) noneReplaced 1 s → ⊥)
 same-spare-shared s = (rw noneReplaced-passes, rw noneReplaced-passes, shared)
   where
     shared : Table.Resides (driveOf small 2) noneReplaced 0 s → Table.Resides (driveOf small 2) noneReplaced 1 s → ⊥
     shared first second =
-        let ready = table-ready small 2 noneReplaced noneReplaced-passes in
-        let same = lies-only (driveOf small 2) noneReplaced 0 (ready .obeys) first ∙ sym (lies-only (driveOf small 2) noneReplaced 1 (ready .obeys) second) in
-        let clash : _≡_ {A = ℕ} 0 1 = lies-apart (ready .laid) noneReplaced 0 1 same in
+        let sound = table-sound small 2 noneReplaced eightZeros noneReplaced-passes in
+        let same = lies-only (driveOf small 2) noneReplaced 0 (sound-obeys sound) first ∙ sym (lies-only (driveOf small 2) noneReplaced 1 (sound-obeys sound) second) in
+        let clash : _≡_ {A = ℕ} 0 1 = lies-apart (sound-laid sound) noneReplaced 0 1 same in
         omega arith
 
 -- a replacement that leaves the table: it answers the right place, and of no place is the descriptor altered
-pub leaves-table-unaltered : (leavesTable small 2 noneReplaced 7 ≡ (Place 4, noneReplaced)) × ((q : ℕ) → Alters small 2 noneReplaced 7 q noneReplaced → ⊥)
+pub leaves-table-unaltered : (leavesTable small 2 noneReplaced eightZeros 7 ≡ (Place 4, noneReplaced)) × ((q : ℕ) → Alters small 2 noneReplaced 7 q noneReplaced → ⊥)
 unfolding allBelow placeOf firstBelow firstOr outward rising
 leaves-table-unaltered = (refl, unaltered)
   where
@@ -150,7 +154,7 @@ leaves-table-unaltered = (refl, unaltered)
 
 -- a replacement of block 7, which lies on place 4, that leaves its old descriptor: the table names the block twice and breaks the rules
 pub leaves-old-breaks :
-    (leavesOld small 2 afterSeven 7 ≡ (Place 5, holding 0 0x20000007 0x30000007))
+    (leavesOld small 2 afterSeven eightZeros 7 ≡ (Place 5, holding 0 0x20000007 0x30000007))
     × Breaks (driveOf small 2) (holding 0 0x20000007 0x30000007)
     × (Alters small 2 afterSeven 7 5 (holding 0 0x20000007 0x30000007) → ⊥)
 unfolding allBelow placeOf firstBelow firstOr outward rising
@@ -161,8 +165,8 @@ leaves-old-breaks = (refl, twice, λ altered. altered .breaks-none twice)
 
 -- one that sets it free: the old place is not unusable; and of two replacements since the first table, the second of which killed a spare, a census finds 7 free and none unusable, where the law asks for 6 and 1
 pub frees-old-unkilled :
-    (freesOld small 2 noneReplaced 7 ≡ (Place 4, afterSeven))
-    × (freesOld small 2 afterSeven 7 ≡ (Place 5, holding 0 0 0x30000007))
+    (freesOld small 2 noneReplaced eightZeros 7 ≡ (Place 4, afterSeven))
+    × (freesOld small 2 afterSeven eightZeros 7 ≡ (Place 5, holding 0 0 0x30000007))
     × (Alters small 2 afterSeven 7 5 (holding 0 0 0x30000007) → ⊥)
 unfolding allBelow placeOf firstBelow firstOr outward rising
 frees-old-unkilled = (refl, refl, λ altered. omega (arith, altered .old-unusable 4 (inl refl, refl)))
@@ -179,7 +183,7 @@ frees-old-miscounted census counts =
 
 -- one that marks it before it looks for a spare: none is free, and the table is not kept
 pub kills-early-keeps-not :
-    (killsEarly small 2 sevenOnOne 7 ≡ (NotReplaced noSpare, set sevenOnOne 1 0x40000000)) × (Keeps noSpare sevenOnOne (set sevenOnOne 1 0x40000000) → ⊥)
+    (killsEarly small 2 sevenOnOne eightZeros 7 ≡ (NotReplaced noSpare, set sevenOnOne 1 0x40000000)) × (Keeps noSpare sevenOnOne (set sevenOnOne 1 0x40000000) → ⊥)
 unfolding allBelow placeOf firstBelow firstOr outward rising
 kills-early-keeps-not = (refl, λ keeps. omega (arith, ap (λ (l : List ℕ). getD l 1 0) (keeps (λ none. omega arith))))
 
@@ -244,7 +248,7 @@ counts-one one other =
 
 -- and any other census does not count the codes
 pub made-up-census :
-    (census : Census) → (census ≡ censusWith 5 1 2 0 120 → ⊥) → (madeUpCensus census small 2 afterSix ≡ CountedAs census) × (Counts afterSix census → ⊥)
+    (census : Census) → (census ≡ censusWith 5 1 2 0 120 → ⊥) → (madeUpCensus census small 2 afterSix eightZeros ≡ CountedAs census) × (Counts afterSix census → ⊥)
 unfolding allBelow
 made-up-census census other = (refl, λ counts. other (counts-one counts after-six-counts))
 
@@ -312,12 +316,12 @@ pub never-round-beyond : (neverRound twoGroups 13 ≡ LocatedAt (locatedAt 0 2 3
 never-round-beyond = (refl, λ angled. omega (arith, angled .below))
 
 -- a shift kept unsigned: block 6 lies one cylinder nearer to cylinder 0, and 0 does not lead there
-pub truncated-shift-leads-not : (truncatedShift small 2 afterSix 6 ≡ By (pos 0)) × (ShiftLeads small 2 afterSix 6 (pos 0) → ⊥)
+pub truncated-shift-leads-not : (truncatedShift small 2 afterSix eightZeros 6 ≡ By (pos 0)) × (ShiftLeads small 2 afterSix 6 (pos 0) → ⊥)
 unfolding allBelow placeOf firstBelow
-truncated-shift-leads-not = (refl, λ shift. let same : pos 1 ≡ pos 0 = shift .leads (record { cylinder = 0; head = 1; sector = 4; angle = 1 }) (accepts (λ k. refl) refl refl) in let clash : _≡_ {A = ℕ} 0 1 = cc in omega arith)
+truncated-shift-leads-not = (refl, λ shift. let same : pos 1 ≡ pos 0 = shift .leads eightZeros (record { cylinder = 0; head = 1; sector = 4; angle = 1 }) (accepts (λ k. refl) refl refl) in let clash : _≡_ {A = ℕ} 0 1 = cc in omega arith)
 
 -- and 2 to the 32 less 1 is not within 1 − C to C − 1
-pub wrapped-shift-not-within : (wrappedShift small 2 afterSix 6 ≡ By (pos 4294967295)) × (ShiftLeads small 2 afterSix 6 (pos 4294967295) → ⊥)
+pub wrapped-shift-not-within : (wrappedShift small 2 afterSix eightZeros 6 ≡ By (pos 4294967295)) × (ShiftLeads small 2 afterSix 6 (pos 4294967295) → ⊥)
 unfolding allBelow placeOf firstBelow
 wrapped-shift-not-within = (refl, λ shift. omega (arith, shift .within))
 
@@ -328,9 +332,9 @@ stopped-order-misses = (refl, refl)
 
 -- so it refuses block 2 after blocks 0 and 1, place 2 is free, and no row gives 13
 pub stops-search-unjudged :
-    (stopsSearch small 2 begun 2 ≡ (NotReplaced noSpare, begun)) × (codeOf (getD begun 2 0) ≡ free) × (ReplaceJudged small 2 begun 2 noSpare → ⊥)
+    (stopsSearch small 2 begun eightZeros 2 ≡ (NotReplaced noSpare, begun)) × (codeOf (getD begun 2 0) ≡ free) × (ReplaceJudged small 2 begun eightZeros 2 noSpare → ⊥)
 unfolding allBelow placeOf firstBelow firstOr outward rising
-stops-search-unjudged = (refl, refl, no-other (replace-exactly small 2 begun 2) (λ same. omega arith))
+stops-search-unjudged = (refl, refl, no-other (replace-exactly small 2 begun eightZeros 2) (λ same. omega arith))
 
 -- entries written early: the last entry, 20, is not below N, and the room does not hold what it held
 pub writes-early-keeps-not : (writesEarly (pageWith 20) lent ≡ (NotPaged outside, 3 ∷ 20 ∷ 0 ∷ 0 ∷ [])) × (Keeps outside lent (3 ∷ 20 ∷ 0 ∷ 0 ∷ []) → ⊥)
@@ -380,7 +384,7 @@ in-spare-holds :
 in-spare-holds (in-spare lends) = lends .holds
 
 module _ (home spare : RefT (List ℕ)) (home-is : home .now ≡ trackWith 0 older) (spare-is : spare .now ≡ trackWith 4 newer) where
-  lent-passes : lentFault dataSize small 2 afterSix 6 (home .now) (spare .now) ≡ 0
+  lent-passes : lentFault dataSize small 2 afterSix eightZeros 6 (home .now) (spare .now) ≡ 0
   unfolding lentFault allBelow
   lent-passes = rw (home-is, spare-is, track-long 0 older, track-long 4 newer)
 
@@ -393,13 +397,13 @@ module _ (home spare : RefT (List ℕ)) (home-is : home .now ≡ trackWith 0 old
   home-good : contentsFault dataSize (homeImage small 2 6 (home .now)) 6 ≡ 0
   home-good = rw home-holds (rw older-long at (written-good 6 older (omega arith) (replicate-below 512 0 (omega arith) (omega arith))))
 
-  home-handed : readsHome small 2 afterSix 6 home spare .now ≡ older
+  home-handed : readsHome small 2 afterSix eightZeros 6 home spare .now ≡ older
   home-handed = rw (lent-passes, home-good, home-holds) (rw older-long at (written-data 6 older false))
 
-  spare-spot : spotted dataSize small 2 afterSix 6 (home .now) (spare .now) ≡ InSpare (bytesIn dataSize 4 + headerSize)
+  spare-spot : spotted dataSize small 2 afterSix eightZeros 6 (home .now) (spare .now) ≡ InSpare (bytesIn dataSize 4 + headerSize)
   unfolding headerFor placeOf firstBelow sectorIn
   spare-spot =
-      rw (good-read dataSize small 2 afterSix 6 newer newer-long (replicate-below 512 1 (omega arith) (omega arith)) lent-passes (six-on-spare (home .now) (spare .now)) spare-holds)
+      rw (good-read dataSize small 2 afterSix eightZeros 6 newer newer-long (replicate-below 512 1 (omega arith) (omega arith)) lent-passes (six-on-spare (home .now) (spare .now)) spare-holds)
 
   spare-data : take dataSize (drop (bytesIn dataSize 4 + headerSize) (spare .now)) ≡ newer
   spare-data =
@@ -407,11 +411,52 @@ module _ (home spare : RefT (List ℕ)) (home-is : home .now ≡ trackWith 0 old
 
   -- home for every block: the older data is handed back, and it is not the part at the spot where block 6 lies
   pub reads-home-strays :
-      (readsHome small 2 afterSix 6 home spare .now ≡ older)
-      × (AtSpot dataSize home spare (readsHome small 2 afterSix 6 home spare) (spotted dataSize small 2 afterSix 6 (home .now) (spare .now)) → ⊥)
+      (readsHome small 2 afterSix eightZeros 6 home spare .now ≡ older)
+      × (AtSpot dataSize home spare (readsHome small 2 afterSix eightZeros 6 home spare) (spotted dataSize small 2 afterSix eightZeros 6 (home .now) (spare .now)) → ⊥)
   reads-home-strays = (
     home-handed,
     λ part.
         let same : older ≡ newer = sym home-handed ∙ (in-spare-holds (rw spare-spot at part) ∙ spare-data) in
         omega (arith, ap (λ (l : List ℕ). getD l 0 0) same),
   )
+
+-- scratch: block 7 is named by places 3 and 4, so that the table is refused 11
+abbrev twice : List ℕ
+twice = holding 0x30000007 0x20000007 0
+
+-- the same with block 0 at its primary and at the next place
+abbrev zeroTwice : List ℕ
+zeroTwice = eight 0x20000000 0x30000000 0 0 0 0 0 0
+
+-- eleven numbers, three more than there are spares
+abbrev ones : List ℕ
+ones = replicate 11 1
+
+small-shaped : Shaped small
+small-shaped = shape-shows small refl
+
+small-spared : Spared small 2
+small-spared = drive-shows small 2 refl .1
+
+first-zero : {after : List ℕ} → LeavesScratch small 2 ones after → getD (take 8 after) 0 0 ≡ 0
+first-zero leaves = ap (λ (l : List ℕ). getD l 0 0) (leaves .zeros small-shaped small-spared (omega arith))
+
+-- a mark is left on after 11
+pub leaves-mark-on : (getD (leavesMark small 2 zeroTwice ones) 0 0 ≡ 1) × (LeavesScratch small 2 ones (leavesMark small 2 zeroTwice ones) → ⊥)
+unfolding allBelow
+leaves-mark-on = (refl, λ leaves. omega (arith, first-zero leaves))
+
+-- cleared only where the call accepts: a table that is refused 11 leaves what was lent
+pub clears-accepted-leaves : (clearsAccepted small 2 twice ones ≡ ones) × (LeavesScratch small 2 ones (clearsAccepted small 2 twice ones) → ⊥)
+unfolding allBelow
+clears-accepted-leaves = (refl, λ leaves. omega (arith, first-zero leaves))
+
+-- all that is lent is cleared: the three numbers beyond the spares do not stand
+pub clears-all-beyond : (clearsAll small 2 afterSix ones ≡ replicate 11 0) × (LeavesScratch small 2 ones (clearsAll small 2 afterSix ones) → ⊥)
+clears-all-beyond =
+    (refl, λ leaves. omega (arith, ap (λ (l : List ℕ). getD l 0 0) (leaves .rest-stands small-shaped small-spared (omega arith))))
+
+-- 11 before 7: with no scratch at all a table that breaks a rule is refused 7, and no row gives 11
+pub rules-first-unjudged : (rulesFirst small 2 twice [] ≡ badTable) × (TableJudged small 2 twice [] badTable → ⊥)
+unfolding allBelow
+rules-first-unjudged = (refl, no-other (table-exactly small 2 twice []) (λ same. omega arith))

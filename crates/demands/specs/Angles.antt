@@ -30,7 +30,7 @@ use Rattle.demands.specs.Relations.{partShown}
 pub data Answered (shape : Shape) (address : Address) : Type 0 where
   for-sector : (x : ℕ) → Shapes.AddressOf shape x (LocatedAt address) → Answered shape address
   by-list : (a : List ℕ) (b : ℕ) → Skipped.AddressOf shape a b (LocatedAt address) → Answered shape address
-  by-table : (r : ℕ) (t : List ℕ) (b : ℕ) → Spares.AddressOf shape r t b (LocatedAt address) → Answered shape address
+  by-table : (r : ℕ) (t scratch : List ℕ) (b : ℕ) → Spares.AddressOf shape r t scratch b (LocatedAt address) → Answered shape address
 
 -- the angle of one address
 pub record Angled (shape : Shape) (address : Address) : Type 0 where
@@ -87,19 +87,19 @@ pub record EachCall : Type 0 where
   pub shape-address : (x : ℕ) → SameButAngle (λ shape. Shapes.AddressOf shape x)
   pub skipped-address : (a : List ℕ) (b : ℕ) → SameButAngle (λ shape. Skipped.AddressOf shape a b)
   pub skipped-block : (a : List ℕ) (cylinder head sector : ℕ) → SameAnswer NotNamed (λ shape. Skipped.BlockAt shape a cylinder head sector)
-  pub spare-sector : (r : ℕ) (t : List ℕ) (b : ℕ) → SameAnswer NotPlaced (λ shape. Spares.SectorOf shape r t b)
-  pub spare-address : (r : ℕ) (t : List ℕ) (b : ℕ) → SameButAngle (λ shape. Spares.AddressOf shape r t b)
-  pub spare-shift : (r : ℕ) (t : List ℕ) (b : ℕ) → SameAnswer NotShifted (λ shape. Spares.ShiftOf shape r t b)
-  pub spare-block : (r : ℕ) (t : List ℕ) (s : ℕ) → SameAnswer NotNamed (λ shape. Spares.BlockOn shape r t s)
-  pub spare-block-at : (r : ℕ) (t : List ℕ) (cylinder head sector : ℕ) → SameAnswer NotNamed (λ shape. Spares.BlockAt shape r t cylinder head sector)
-  pub spare-census : (r : ℕ) (t : List ℕ) → SameAnswer NotCounted (λ shape. Spares.CensusOf shape r t)
-  pub spare-replace : (r : ℕ) (t : List ℕ) (b : ℕ) → SameFilled NotReplaced t (λ shape. Spares.Replacement shape r t b)
+  pub spare-sector : (r : ℕ) (t scratch : List ℕ) (b : ℕ) → SameAnswer NotPlaced (λ shape. Spares.SectorOf shape r t scratch b)
+  pub spare-address : (r : ℕ) (t scratch : List ℕ) (b : ℕ) → SameButAngle (λ shape. Spares.AddressOf shape r t scratch b)
+  pub spare-shift : (r : ℕ) (t scratch : List ℕ) (b : ℕ) → SameAnswer NotShifted (λ shape. Spares.ShiftOf shape r t scratch b)
+  pub spare-block : (r : ℕ) (t scratch : List ℕ) (s : ℕ) → SameAnswer NotNamed (λ shape. Spares.BlockOn shape r t scratch s)
+  pub spare-block-at : (r : ℕ) (t scratch : List ℕ) (cylinder head sector : ℕ) → SameAnswer NotNamed (λ shape. Spares.BlockAt shape r t scratch cylinder head sector)
+  pub spare-census : (r : ℕ) (t scratch : List ℕ) → SameAnswer NotCounted (λ shape. Spares.CensusOf shape r t scratch)
+  pub spare-replace : (r : ℕ) (t scratch : List ℕ) (b : ℕ) → SameFilled NotReplaced t (λ shape. Spares.Replacement shape r t scratch b)
   pub spare-first : (r : ℕ) (list room : List ℕ) → SameFilled NotWritten room (λ shape. FirstTable shape r list room)
-  pub read-judge : (r : ℕ) (t : List ℕ) (b : ℕ) (home spare : List ℕ) → SameAnswer NotGood (λ shape. Reading.Judge shape r t b home spare)
-  pub read-spot : (r : ℕ) (t : List ℕ) (b : ℕ) (home spare : List ℕ) → SameAnswer NotSpotted (λ shape. Reading.Spots shape r t b home spare)
+  pub read-judge : (r : ℕ) (t scratch : List ℕ) (b : ℕ) (home spare : List ℕ) → SameAnswer NotGood (λ shape. Reading.Judge shape r t scratch b home spare)
+  pub read-spot : (r : ℕ) (t scratch : List ℕ) (b : ℕ) (home spare : List ℕ) → SameAnswer NotSpotted (λ shape. Reading.Spots shape r t scratch b home spare)
   pub read-data :
-      (r : ℕ) (t : List ℕ) (b : ℕ) (home spare : RefT (List ℕ)) →
-      InAnyGroups partShown (Lends home 0 []) (λ shape. Reading.Data shape r t b home spare)
+      (r : ℕ) (t scratch : List ℕ) (b : ℕ) (home spare : RefT (List ℕ)) →
+      InAnyGroups partShown (Lends home 0 []) (λ shape. Reading.Data shape r t scratch b home spare)
 
 pub record Angles : Type 0 where
   -- An address that is answered has its angle, (sector + offset × group) mod S.

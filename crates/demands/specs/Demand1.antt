@@ -41,6 +41,7 @@ use Rattle.format.specs.Spaces.{newGrown, newList, newSpace, FormatJudged}
 use Rattle.format.specs.Promises.{saidFormatted, Formats}
 use Rattle.layout.specs.Layouts.{driveOf}
 use Rattle.table.specs.Rules.{TableJudged, BlockJudged}
+use Rattle.table.specs.Scratch.{Scratched}
 use Rattle.first_table.specs.Tables.{firstTable, IsFirstTable, FirstTableJudged}
 use Rattle.first_table.specs.Promises.{FirstTable}
 use Rattle.spares.specs.declared.Shifted.{Shifted}
@@ -96,20 +97,20 @@ pub record EachByTheNumbers : Type 0 where
       FormattedBy (FormatJudged n p g space option d grown list) result
   -- a revectored drive: shape, spares of a track and table
   pub spares-sector-of :
-      (shape : Shape) (r : ℕ) (t : List ℕ) (b : ℕ) (result : Placed) → Spares.SectorOf shape r t b result → PlacedBy (BlockJudged shape r t b) result
+      (shape : Shape) (r : ℕ) (t scratch : List ℕ) (b : ℕ) (result : Placed) → Spares.SectorOf shape r t scratch b result → PlacedBy (BlockJudged shape r t scratch b) result
   pub spares-address-of :
-      (shape : Shape) (r : ℕ) (t : List ℕ) (b : ℕ) (result : Located) → Spares.AddressOf shape r t b result → LocatedBy (BlockJudged shape r t b) result
+      (shape : Shape) (r : ℕ) (t scratch : List ℕ) (b : ℕ) (result : Located) → Spares.AddressOf shape r t scratch b result → LocatedBy (BlockJudged shape r t scratch b) result
   pub spares-shift :
-      (shape : Shape) (r : ℕ) (t : List ℕ) (b : ℕ) (result : Shifted) → Spares.ShiftOf shape r t b result → ShiftedBy (BlockJudged shape r t b) result
+      (shape : Shape) (r : ℕ) (t scratch : List ℕ) (b : ℕ) (result : Shifted) → Spares.ShiftOf shape r t scratch b result → ShiftedBy (BlockJudged shape r t scratch b) result
   pub spares-block-on :
-      (shape : Shape) (r : ℕ) (t : List ℕ) (s : ℕ) (result : Named) → Spares.BlockOn shape r t s result → NamedBy (SpareBlockOnJudged shape r t s) result
+      (shape : Shape) (r : ℕ) (t scratch : List ℕ) (s : ℕ) (result : Named) → Spares.BlockOn shape r t scratch s result → NamedBy (SpareBlockOnJudged shape r t scratch s) result
   pub spares-block-at :
-      (shape : Shape) (r : ℕ) (t : List ℕ) (cylinder head sector : ℕ) (result : Named) → Spares.BlockAt shape r t cylinder head sector result →
-      NamedBy (SpareBlockAtJudged shape r t cylinder head sector) result
+      (shape : Shape) (r : ℕ) (t scratch : List ℕ) (cylinder head sector : ℕ) (result : Named) → Spares.BlockAt shape r t scratch cylinder head sector result →
+      NamedBy (SpareBlockAtJudged shape r t scratch cylinder head sector) result
   pub spares-replace :
-      (shape : Shape) (r : ℕ) (t : List ℕ) (b : ℕ) (result : Replaced) (after : List ℕ) → Spares.Replacement shape r t b result after →
-      ReplacedBy (ReplaceJudged shape r t b) result
-  pub spares-census : (shape : Shape) (r : ℕ) (t : List ℕ) (result : Counted) → Spares.CensusOf shape r t result → CountedBy (TableJudged shape r t) result
+      (shape : Shape) (r : ℕ) (t scratch : List ℕ) (b : ℕ) (result : Replaced) (after : List ℕ) → Spares.Replacement shape r t scratch b result after →
+      ReplacedBy (ReplaceJudged shape r t scratch b) result
+  pub spares-census : (shape : Shape) (r : ℕ) (t scratch : List ℕ) (result : Counted) → Spares.CensusOf shape r t scratch result → CountedBy (TableJudged shape r t scratch) result
   pub spares-first-table :
       (shape : Shape) (r : ℕ) (list room : List ℕ) (result : Written) (after : List ℕ) → FirstTable shape r list room result after →
       WrittenBy (FirstTableJudged shape r list room) result
@@ -126,17 +127,17 @@ pub record EachByTheNumbers : Type 0 where
       PartBy (ImageJudged dataSize (image .now) number) dataSize (part .now)
   -- a read of a revectored block
   pub reading-judge :
-      (shape : Shape) (r : ℕ) (t : List ℕ) (b : ℕ) (home spare : List ℕ) (result : Verdict) → Reading.Judge shape r t b home spare result →
-      VerdictBy (BlockReadJudged dataSize shape r t b home spare) result
+      (shape : Shape) (r : ℕ) (t scratch : List ℕ) (b : ℕ) (home spare : List ℕ) (result : Verdict) → Reading.Judge shape r t scratch b home spare result →
+      VerdictBy (BlockReadJudged dataSize shape r t scratch b home spare) result
   pub reading-spot :
-      (shape : Shape) (r : ℕ) (t : List ℕ) (b : ℕ) (home spare : List ℕ) (result : Spot) → Reading.Spots shape r t b home spare result →
-      SpotBy (BlockReadJudged dataSize shape r t b home spare) result
+      (shape : Shape) (r : ℕ) (t scratch : List ℕ) (b : ℕ) (home spare : List ℕ) (result : Spot) → Reading.Spots shape r t scratch b home spare result →
+      SpotBy (BlockReadJudged dataSize shape r t scratch b home spare) result
   -- the part, in the same way
   pub reading-data :
-      (shape : Shape) (r : ℕ) (t : List ℕ) (b : ℕ) (home spare part : RefT (List ℕ)) → Reading.Data shape r t b home spare part →
-      PartBy (BlockReadJudged dataSize shape r t b (home .now) (spare .now)) dataSize (part .now)
+      (shape : Shape) (r : ℕ) (t scratch : List ℕ) (b : ℕ) (home spare part : RefT (List ℕ)) → Reading.Data shape r t scratch b home spare part →
+      PartBy (BlockReadJudged dataSize shape r t scratch b (home .now) (spare .now)) dataSize (part .now)
 
--- what is lent to each of the six calls that write stays as it was where the call refuses
+-- what is lent to each of the six calls that write stays as it was where the call refuses; what is left of scratch is said in `Scratches`
 pub record EachKeeps : Type 0 where
   pub page-read :
       (page room : List ℕ) (result : Paged) (after : List ℕ) → Page.Reads page room result after → Keeps (Page.saidPaged result .0) room after
@@ -150,7 +151,7 @@ pub record EachKeeps : Type 0 where
       Keeps {Lent = List ℕ × List ℕ} (saidFormatted result .0) (grown, list) (grownAfter, listAfter)
   -- a replacement is lent the table itself
   pub spares-replace :
-      (shape : Shape) (r : ℕ) (t : List ℕ) (b : ℕ) (result : Replaced) (after : List ℕ) → Spares.Replacement shape r t b result after →
+      (shape : Shape) (r : ℕ) (t scratch : List ℕ) (b : ℕ) (result : Replaced) (after : List ℕ) → Spares.Replacement shape r t scratch b result after →
       Keeps (Spares.saidReplaced result .0) t after
   pub spares-first-table :
       (shape : Shape) (r : ℕ) (list room : List ℕ) (result : Written) (after : List ℕ) → FirstTable shape r list room result after →
@@ -203,22 +204,24 @@ pub record EachDetermined : Type 0 where
   pub format-format :
       (n : ℕ) (p g : List ℕ) (space option : ℕ) (d grown list : List ℕ) → OneFilledTwice (Formats n p g space option d grown list)
   -- a revectored drive
-  pub spares-sector-of : (shape : Shape) (r : ℕ) (t : List ℕ) (b : ℕ) → OneResult (Spares.SectorOf shape r t b)
-  pub spares-address-of : (shape : Shape) (r : ℕ) (t : List ℕ) (b : ℕ) → OneResult (Spares.AddressOf shape r t b)
-  pub spares-shift : (shape : Shape) (r : ℕ) (t : List ℕ) (b : ℕ) → OneResult (Spares.ShiftOf shape r t b)
-  pub spares-block-on : (shape : Shape) (r : ℕ) (t : List ℕ) (s : ℕ) → OneResult (Spares.BlockOn shape r t s)
-  pub spares-block-at : (shape : Shape) (r : ℕ) (t : List ℕ) (cylinder head sector : ℕ) → OneResult (Spares.BlockAt shape r t cylinder head sector)
-  pub spares-replace : (shape : Shape) (r : ℕ) (t : List ℕ) (b : ℕ) → OneFilled (Spares.Replacement shape r t b)
-  pub spares-census : (shape : Shape) (r : ℕ) (t : List ℕ) → OneResult (Spares.CensusOf shape r t)
+  pub spares-sector-of : (shape : Shape) (r : ℕ) (t scratch : List ℕ) (b : ℕ) → OneResult (Spares.SectorOf shape r t scratch b)
+  pub spares-address-of : (shape : Shape) (r : ℕ) (t scratch : List ℕ) (b : ℕ) → OneResult (Spares.AddressOf shape r t scratch b)
+  pub spares-shift : (shape : Shape) (r : ℕ) (t scratch : List ℕ) (b : ℕ) → OneResult (Spares.ShiftOf shape r t scratch b)
+  pub spares-block-on : (shape : Shape) (r : ℕ) (t scratch : List ℕ) (s : ℕ) → OneResult (Spares.BlockOn shape r t scratch s)
+  pub spares-block-at : (shape : Shape) (r : ℕ) (t scratch : List ℕ) (cylinder head sector : ℕ) → OneResult (Spares.BlockAt shape r t scratch cylinder head sector)
+  pub spares-replace : (shape : Shape) (r : ℕ) (t scratch : List ℕ) (b : ℕ) → OneFilled (Spares.Replacement shape r t scratch b)
+  pub spares-census : (shape : Shape) (r : ℕ) (t scratch : List ℕ) → OneResult (Spares.CensusOf shape r t scratch)
   pub spares-first-table : (shape : Shape) (r : ℕ) (list room : List ℕ) → OneFilled (FirstTable shape r list room)
   -- the sector image, and a read of a revectored block
   pub image-write : (number : ℕ) (bytes : List ℕ) (forced : Bool) (room : List ℕ) → OneFilled (Image.Write number bytes forced room)
   pub image-header : (image : List ℕ) → OneResult (Image.Header image)
   pub image-judge : (image : List ℕ) (number : ℕ) → OneResult (Image.Judge image number)
   pub image-data : (image : RefT (List ℕ)) (number : ℕ) → OneLent (Image.Data image number)
-  pub reading-judge : (shape : Shape) (r : ℕ) (t : List ℕ) (b : ℕ) (home spare : List ℕ) → OneResult (Reading.Judge shape r t b home spare)
-  pub reading-spot : (shape : Shape) (r : ℕ) (t : List ℕ) (b : ℕ) (home spare : List ℕ) → OneResult (Reading.Spots shape r t b home spare)
-  pub reading-data : (shape : Shape) (r : ℕ) (t : List ℕ) (b : ℕ) (home spare : RefT (List ℕ)) → OneLent (Reading.Data shape r t b home spare)
+  pub reading-judge : (shape : Shape) (r : ℕ) (t scratch : List ℕ) (b : ℕ) (home spare : List ℕ) → OneResult (Reading.Judge shape r t scratch b home spare)
+  pub reading-spot : (shape : Shape) (r : ℕ) (t scratch : List ℕ) (b : ℕ) (home spare : List ℕ) → OneResult (Reading.Spots shape r t scratch b home spare)
+  pub reading-data : (shape : Shape) (r : ℕ) (t scratch : List ℕ) (b : ℕ) (home spare : RefT (List ℕ)) → OneLent (Reading.Data shape r t scratch b home spare)
+  -- what the ten calls that are lent a table leave of their scratch
+  pub scratch : (shape : Shape) (r : ℕ) (before : List ℕ) → OneResult (Scratched shape r before)
   -- what an image holds has one verdict
   pub one-verdict :
       (image : List ℕ) (number j k : ℕ) → ContentsJudged dataSize image number j → ContentsJudged dataSize image number k → j ≡ k
@@ -288,7 +291,7 @@ pub record EachAgain : Type 0 where
 pub record Demand1 : Type 0 where
   -- a call, whatever it is handed, answers or refuses by the paper's numbers, and a refusal says its number and nothing else
   pub by-the-numbers : EachByTheNumbers
-  -- lent memory keeps its bytes where a call refuses
+  -- lent memory keeps its bytes where a call refuses, scratch apart
   pub lent-kept : EachKeeps
   -- what an accepted call wrote stands at the front of the lent room, and the rest of the room stays
   pub front-filled : EachHands

@@ -10,6 +10,7 @@ use Rattle.paper.specs.Limits.{dataSize, headerSize, imageExtra}
 use Rattle.words.specs.Words.{Bytes}
 use Rattle.shape.specs.declared.Shape.{Shape}
 use Rattle.layout.specs.Layouts.{driveOf, homeCylinder, spareCylinder}
+use Rattle.table.specs.Scratch.{Enough}
 use Rattle.spares.specs.Promises.{ShiftOf, saidShifted}
 use Rattle.image.specs.declared.Verdict.{Verdict}
 use Rattle.image.specs.Image.{imageOf}
@@ -39,34 +40,36 @@ pub record SamePart (part again : RefT (List ℕ)) : Type 0 where
   pub same-bytes : part .now ≡ again .now
   pub same-place : (part .now ≡ [] → ⊥) → part .ptr ≡ again .ptr
 
--- a read of block b is accepted and hands back exactly these bytes, where spare q has them in the second image
+-- a read of block b, with scratch that is long enough, is accepted and hands back exactly these bytes, where spare q has them in the second image
 pub record HandsBack (shape : Shape) (r : ℕ) (t : List ℕ) (b q : ℕ) (home spare : RefT (List ℕ)) (bytes : List ℕ) : Type 0 where
-  pub accepted : AllowsOnly (Judge shape r t b (home .now) (spare .now)) (λ answer. saidVerdict answer ≡ 0)
-  pub bytes-lent : AllowsOnly (Data shape r t b home spare) (Lends spare (spareData shape r q) bytes)
+  pub accepted : (scratch : List ℕ) → Enough shape r scratch → AllowsOnly (Judge shape r t scratch b (home .now) (spare .now)) (λ answer. saidVerdict answer ≡ 0)
+  pub bytes-lent : (scratch : List ℕ) → Enough shape r scratch → AllowsOnly (Data shape r t scratch b home spare) (Lends spare (spareData shape r q) bytes)
 
 -- with table t, reads of block b are safe: spare q holds the block, this shift away from its home
 pub record Safe (shape : Shape) (r : ℕ) (t : List ℕ) (b q : ℕ) (shift : ℤ) : Type 0 where
-  -- the shift that is answered is this one, with its sign
-  pub answers : AllowsOnly (ShiftOf shape r t b) (λ answer. saidShifted answer ≡ (0, shift))
+  -- the shift that is answered, with scratch that is long enough, is this one, with its sign
+  pub answers : (scratch : List ℕ) → Enough shape r scratch → AllowsOnly (ShiftOf shape r t scratch b) (λ answer. saidShifted answer ≡ (0, shift))
   -- it leads from the cylinder of the block's home to that of the spare
   pub leads : pos (homeCylinder (driveOf shape r) b) +ℤ shift ≡ pos (spareCylinder (driveOf shape r) q)
   -- a spot that is answered is in the second image, where the spare's data begins
   pub spots :
-      (home spare : List ℕ) →
-      AllowsOnly (Spots shape r t b home spare) (λ answer. saidSpot answer .0 ≡ 0 → saidSpot answer ≡ (0, 1, spareData shape r q))
+      (scratch home spare : List ℕ) →
+      AllowsOnly (Spots shape r t scratch b home spare) (λ answer. saidSpot answer .0 ≡ 0 → saidSpot answer ≡ (0, 1, spareData shape r q))
   -- a part that is not empty is the 512 bytes there, in place, whatever the first image holds
   pub lends :
-      (home spare : RefT (List ℕ)) →
-      AllowsOnly (Data shape r t b home spare)
+      (scratch : List ℕ) (home spare : RefT (List ℕ)) →
+      AllowsOnly (Data shape r t scratch b home spare)
       (λ part. (part .now ≡ [] → ⊥) → Lends spare (spareData shape r q) (take dataSize (drop (spareData shape r q) (spare .now))) part)
   -- another first image of the same length changes neither the part
   pub same-part :
+      (scratch again-scratch : List ℕ) → Enough shape r scratch → Enough shape r again-scratch →
       (home other spare part again : RefT (List ℕ)) → length (home .now) ≡ length (other .now) →
-      Data shape r t b home spare part → Data shape r t b other spare again → SamePart part again
+      Data shape r t scratch b home spare part → Data shape r t again-scratch b other spare again → SamePart part again
   -- nor the verdict
   pub same-verdict :
+      (scratch again-scratch : List ℕ) → Enough shape r scratch → Enough shape r again-scratch →
       (home other spare : List ℕ) (verdict again : Verdict) → length home ≡ length other →
-      Judge shape r t b home spare verdict → Judge shape r t b other spare again → verdict ≡ again
+      Judge shape r t scratch b home spare verdict → Judge shape r t again-scratch b other spare again → verdict ≡ again
   -- where a good image of the block stands on the spare, exactly its data comes back, also where the home still has a good image with older data
   pub gives-back :
       (home spare : RefT (List ℕ)) (bytes : List ℕ) → WholeTrack shape (home .now) → WholeTrack shape (spare .now) →

@@ -1,4 +1,4 @@
--- The paper's small inputs and those of requests Q-9 and Q-3, which the rows of the table and the wrong boards share.
+-- The paper's small inputs and those of requests Q-9, Q-3 and Q-6, which the rows of the table and the wrong boards share.
 use Prim.Native.Nat.{ℕ}
 use mathlib.Core.List.{List, [], _∷_}
 use lib.ListN.{replicate}
@@ -20,7 +20,11 @@ small = record { cylinders = 2; heads = 2; sectors = 5; groups = 2; tracks = 1; 
 abbrev pub eight : ℕ → ℕ → ℕ → ℕ → ℕ → ℕ → ℕ → ℕ → List ℕ
 eight w0 w1 w2 w3 w4 w5 w6 w7 = w0 ∷ w1 ∷ w2 ∷ w3 ∷ w4 ∷ w5 ∷ w6 ∷ w7 ∷ replicate 120 0x80000000
 
--- the same with words at places 3, 4 and 5, and the others free
+-- scratch for it: a number for each spare
+abbrev pub eightZeros : List ℕ
+eightZeros = replicate 8 0
+
+-- the table with words at places 3, 4 and 5, and the others free
 abbrev pub holding : ℕ → ℕ → ℕ → List ℕ
 holding third fourth fifth = eight 0 0 0 third fourth fifth 0 0
 

@@ -1,5 +1,6 @@
 pub mod Mission
 pub mod Demand1
+pub mod Scratches
 pub mod Demand2Skipped
 pub mod Demand2Revectored
 pub mod Reads

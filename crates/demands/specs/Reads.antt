@@ -8,6 +8,7 @@ use Rattle.paper.specs.Limits.{dataSize, headerSize, imageExtra}
 use Rattle.paper.specs.declared.Placed.the-variants.{At}
 use Rattle.shape.specs.declared.Shape.{Shape}
 use Rattle.table.specs.Lookup.{Replaced}
+use Rattle.table.specs.Scratch.{Enough}
 use Rattle.spares.specs.Promises.{SectorOf}
 use Rattle.image.specs.declared.Verdict.{Verdict}
 use Rattle.image.specs.declared.Verdict.the-variants.{Good}
@@ -33,44 +34,49 @@ dataAt shape s = startAt shape s + headerSize
 abbrev pub AsLong : List ℕ → List ℕ → Type 0
 AsLong image other = length image ≡ length other
 
--- what a read hands back and looks at
+-- what a read hands back and looks at; each call is lent scratch of its own
 pub record ReadsInPlace : Type 0 where
   -- data of a block that is judged good is handed back in place: the part lies where the data of the block's sector does, in the image that the block lies in, and holds what stands there
   pub lends-in-place :
-      (shape : Shape) (r : ℕ) (t : List ℕ) (b s : ℕ) (home spare track part : RefT (List ℕ)) →
-      SectorOf shape r t b (At s) → LiesIn t b home spare track →
-      Judge shape r t b (home .now) (spare .now) Good → Data shape r t b home spare part →
+      (shape : Shape) (r : ℕ) (t asked judged read : List ℕ) (b s : ℕ) (home spare track part : RefT (List ℕ)) →
+      SectorOf shape r t asked b (At s) → LiesIn t b home spare track →
+      Judge shape r t judged b (home .now) (spare .now) Good → Enough shape r read → Data shape r t read b home spare part →
       Lends track (dataAt shape s) (take dataSize (drop (dataAt shape s) (track .now))) part
   -- which are 512 bytes
   pub lends-whole :
-      (shape : Shape) (r : ℕ) (t : List ℕ) (b : ℕ) (home spare part : RefT (List ℕ)) →
-      Judge shape r t b (home .now) (spare .now) Good → Data shape r t b home spare part → length (part .now) ≡ dataSize
+      (shape : Shape) (r : ℕ) (t judged read : List ℕ) (b : ℕ) (home spare part : RefT (List ℕ)) →
+      Judge shape r t judged b (home .now) (spare .now) Good → Enough shape r read → Data shape r t read b home spare part → length (part .now) ≡ dataSize
   -- the part is empty where the verdict refuses
   pub refused-empty :
-      (shape : Shape) (r : ℕ) (t : List ℕ) (b : ℕ) (home spare part : RefT (List ℕ)) (verdict : Verdict) →
-      Judge shape r t b (home .now) (spare .now) verdict → Data shape r t b home spare part → (saidVerdict verdict ≡ 0 → ⊥) → part .now ≡ []
+      (shape : Shape) (r : ℕ) (t judged read : List ℕ) (b : ℕ) (home spare part : RefT (List ℕ)) (verdict : Verdict) →
+      Enough shape r judged → Judge shape r t judged b (home .now) (spare .now) verdict → Data shape r t read b home spare part →
+      (saidVerdict verdict ≡ 0 → ⊥) → part .now ≡ []
   -- and nowhere else
   pub empty-refused :
-      (shape : Shape) (r : ℕ) (t : List ℕ) (b : ℕ) (home spare part : RefT (List ℕ)) (verdict : Verdict) →
-      Judge shape r t b (home .now) (spare .now) verdict → Data shape r t b home spare part → part .now ≡ [] → saidVerdict verdict ≡ 0 → ⊥
+      (shape : Shape) (r : ℕ) (t judged read : List ℕ) (b : ℕ) (home spare part : RefT (List ℕ)) (verdict : Verdict) →
+      Judge shape r t judged b (home .now) (spare .now) verdict → Enough shape r read → Data shape r t read b home spare part →
+      part .now ≡ [] → saidVerdict verdict ≡ 0 → ⊥
   -- the verdict looks at the 530 bytes of the sector that the block lies on and at no other: images of the same lengths that agree on those have the same verdict
   pub same-verdict :
-      (shape : Shape) (r : ℕ) (t : List ℕ) (b s : ℕ) (home spare track home′ spare′ track′ : List ℕ) (verdict again : Verdict) →
-      SectorOf shape r t b (At s) → LiesIn t b home spare track → LiesIn t b home′ spare′ track′ →
+      (shape : Shape) (r : ℕ) (t asked judged judged′ : List ℕ) (b s : ℕ) (home spare track home′ spare′ track′ : List ℕ) (verdict again : Verdict) →
+      SectorOf shape r t asked b (At s) → LiesIn t b home spare track → LiesIn t b home′ spare′ track′ →
       AsLong home home′ → AsLong spare spare′ → imageFrom (startAt shape s) track ≡ imageFrom (startAt shape s) track′ →
-      Judge shape r t b home spare verdict → Judge shape r t b home′ spare′ again → verdict ≡ again
+      Enough shape r judged → Enough shape r judged′ →
+      Judge shape r t judged b home spare verdict → Judge shape r t judged′ b home′ spare′ again → verdict ≡ again
   -- and their parts hold the same
   pub same-data :
-      (shape : Shape) (r : ℕ) (t : List ℕ) (b s : ℕ) (home spare track home′ spare′ track′ part again : RefT (List ℕ)) →
-      SectorOf shape r t b (At s) → LiesIn t b home spare track → LiesIn t b home′ spare′ track′ →
+      (shape : Shape) (r : ℕ) (t asked read read′ : List ℕ) (b s : ℕ) (home spare track home′ spare′ track′ part again : RefT (List ℕ)) →
+      SectorOf shape r t asked b (At s) → LiesIn t b home spare track → LiesIn t b home′ spare′ track′ →
       AsLong (home .now) (home′ .now) → AsLong (spare .now) (spare′ .now) → imageFrom (startAt shape s) (track .now) ≡ imageFrom (startAt shape s) (track′ .now) →
-      Data shape r t b home spare part → Data shape r t b home′ spare′ again → part .now ≡ again .now
+      Enough shape r read → Enough shape r read′ →
+      Data shape r t read b home spare part → Data shape r t read′ b home′ spare′ again → part .now ≡ again .now
   -- the spot of a block that is judged good says the image that the block lies in, 0 or 1, and where the data begins
   pub spot-in-place :
-      (shape : Shape) (r : ℕ) (t : List ℕ) (b s image : ℕ) (home spare : List ℕ) (spot : Spot) →
-      SectorOf shape r t b (At s) → LiesIn t b 0 1 image →
-      Judge shape r t b home spare Good → Spots shape r t b home spare spot → saidSpot spot ≡ (0, image, dataAt shape s)
+      (shape : Shape) (r : ℕ) (t asked judged spotted : List ℕ) (b s image : ℕ) (home spare : List ℕ) (spot : Spot) →
+      SectorOf shape r t asked b (At s) → LiesIn t b 0 1 image →
+      Judge shape r t judged b home spare Good → Enough shape r spotted → Spots shape r t spotted b home spare spot → saidSpot spot ≡ (0, image, dataAt shape s)
   -- and the data lies at the spot
   pub data-at-spot :
-      (shape : Shape) (r : ℕ) (t : List ℕ) (b : ℕ) (home spare part : RefT (List ℕ)) (spot : Spot) →
-      Spots shape r t b (home .now) (spare .now) spot → Data shape r t b home spare part → AtSpot dataSize home spare part spot
+      (shape : Shape) (r : ℕ) (t spotted read : List ℕ) (b : ℕ) (home spare part : RefT (List ℕ)) (spot : Spot) →
+      Enough shape r spotted → Enough shape r read →
+      Spots shape r t spotted b (home .now) (spare .now) spot → Data shape r t read b home spare part → AtSpot dataSize home spare part spot

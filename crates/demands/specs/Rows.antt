@@ -1,4 +1,4 @@
--- Document 01, "Numbers to try": those that are marked P, and some of ours beside them; document 02, Q-9: angles, and Q-3: spares that die; all as the rows of one table, and what it is for a row to hold.
+-- Document 01, "Numbers to try": those that are marked P, and some of ours beside them; document 02, Q-9: angles, Q-3: spares that die, and Q-6: scratch; all as the rows of one table, and what it is for a row to hold.
 use Prim.Native.Nat.{ℕ, _+_, _<_, _≤_}
 use mathlib.Core.Path.{_≡_}
 use mathlib.Core.Bool.{Bool, true, false}
@@ -15,13 +15,14 @@ use Rattle.skip.specs.Promises as Skip
 use Rattle.format.specs.declared.Formatted.{Formatted}
 use Rattle.format.specs.Promises.{saidFormatted, Formats}
 use Rattle.layout.specs.Layouts.{driveOf}
+use Rattle.table.specs.Scratch.{Enough}
 use Rattle.first_table.specs.Promises.{FirstTable}
 use Rattle.spares.specs.declared.Replaced.{Replaced}
 use Rattle.spares.specs.Promises as Spares
 use Rattle.image.specs.Image.{storedIn}
 use Rattle.image.specs.Promises.{Write}
 use Rattle.demands.specs.Relations.{AllowsOnly}
-use Rattle.demands.specs.Inputs.{few, chart, small, eight, noneReplaced, afterSeven, afterEight, afterSix, sevenOnFive, eightOnThree, sevenOnSix, sixOnTwo, sevenOnSeven, zeroOnZero, sevenOnOne, fourHeads, twoGroups, largest}
+use Rattle.demands.specs.Inputs.{few, chart, small, eight, noneReplaced, afterSeven, afterEight, afterSix, sevenOnFive, eightOnThree, sevenOnSix, sixOnTwo, sevenOnSeven, zeroOnZero, sevenOnOne, fourHeads, twoGroups, largest, holding}
 
 -- a row: a call, what goes into it, and the paper's figures for what comes out; the refusal comes first, 0 where the call accepts
 pub data Row : Type 0 where
@@ -49,10 +50,12 @@ pub data Row : Type 0 where
   spare-block : (shape : Shape) (r : ℕ) (table : List ℕ) (sector : ℕ) (figures : ℕ × ℕ × ℕ) → Row
   -- spares::census: refusal, free, at the primary, elsewhere, unusable, null
   spare-census : (shape : Shape) (r : ℕ) (table : List ℕ) (figures : ℕ × ℕ × ℕ × ℕ × ℕ × ℕ) → Row
+  -- spares::sector_of, of whatever block, with any scratch that is too short: refused 7
+  spare-short : (shape : Shape) (r : ℕ) (table : List ℕ) → Row
   -- image::write, accepted, of good data or of data that was bad: the code that the image carries
   image-write : (forced : Bool) (bytes : List ℕ) (code : ℕ) → Row
 
--- a row holds where the promise of its call allows its figures alone, in any room that is long enough
+-- a row holds where the promise of its call allows its figures alone, in any room and with any scratch that is long enough
 abbrev pub Holds : Row → Type 0
 Holds (skip-sector n list block figures) = AllowsOnly (Skip.SectorOf n list block) (λ answer. saidPlaced answer ≡ figures)
 Holds (skip-block n list sector figures) = AllowsOnly (Skip.BlockOn n list sector) (λ answer. saidNamed answer ≡ figures)
@@ -68,19 +71,33 @@ Holds (spare-first shape r list table) =
     (λ (answer : Written × List ℕ). FirstTable shape r list room (answer .0) (answer .1))
     (λ answer. (saidWritten (answer .0) ≡ (0, length table)) × (answer .1 ≡ written table room))
 Holds (spare-replace shape r table block place after) =
+    (scratch : List ℕ) → Enough shape r scratch →
     AllowsOnly
-    (λ (answer : Replaced × List ℕ). Spares.Replacement shape r table block (answer .0) (answer .1))
+    (λ (answer : Replaced × List ℕ). Spares.Replacement shape r table scratch block (answer .0) (answer .1))
     (λ answer. (Spares.saidReplaced (answer .0) ≡ (0, place)) × (answer .1 ≡ after))
 Holds (spare-full shape r table) =
-    (block : ℕ) → block < driveOf shape r .blocks →
+    (scratch : List ℕ) → Enough shape r scratch → (block : ℕ) → block < driveOf shape r .blocks →
     AllowsOnly
-    (λ (answer : Replaced × List ℕ). Spares.Replacement shape r table block (answer .0) (answer .1))
+    (λ (answer : Replaced × List ℕ). Spares.Replacement shape r table scratch block (answer .0) (answer .1))
     (λ answer. (Spares.saidReplaced (answer .0) ≡ (13, 0)) × (answer .1 ≡ table))
-Holds (spare-shift shape r table block figures) = AllowsOnly (Spares.ShiftOf shape r table block) (λ answer. Spares.saidShifted answer ≡ figures)
-Holds (spare-address shape r table block figures) = AllowsOnly (Spares.AddressOf shape r table block) (λ answer. Shapes.saidLocated answer ≡ figures)
-Holds (spare-sector shape r table block figures) = AllowsOnly (Spares.SectorOf shape r table block) (λ answer. saidPlaced answer ≡ figures)
-Holds (spare-block shape r table sector figures) = AllowsOnly (Spares.BlockOn shape r table sector) (λ answer. saidNamed answer ≡ figures)
-Holds (spare-census shape r table figures) = AllowsOnly (Spares.CensusOf shape r table) (λ answer. Spares.saidCounted answer ≡ figures)
+Holds (spare-shift shape r table block figures) =
+    (scratch : List ℕ) → Enough shape r scratch →
+    AllowsOnly (Spares.ShiftOf shape r table scratch block) (λ answer. Spares.saidShifted answer ≡ figures)
+Holds (spare-address shape r table block figures) =
+    (scratch : List ℕ) → Enough shape r scratch →
+    AllowsOnly (Spares.AddressOf shape r table scratch block) (λ answer. Shapes.saidLocated answer ≡ figures)
+Holds (spare-sector shape r table block figures) =
+    (scratch : List ℕ) → Enough shape r scratch →
+    AllowsOnly (Spares.SectorOf shape r table scratch block) (λ answer. saidPlaced answer ≡ figures)
+Holds (spare-block shape r table sector figures) =
+    (scratch : List ℕ) → Enough shape r scratch →
+    AllowsOnly (Spares.BlockOn shape r table scratch sector) (λ answer. saidNamed answer ≡ figures)
+Holds (spare-census shape r table figures) =
+    (scratch : List ℕ) → Enough shape r scratch →
+    AllowsOnly (Spares.CensusOf shape r table scratch) (λ answer. Spares.saidCounted answer ≡ figures)
+Holds (spare-short shape r table) =
+    (scratch : List ℕ) → length scratch < driveOf shape r .spares → (block : ℕ) →
+    AllowsOnly (Spares.SectorOf shape r table scratch block) (λ answer. saidPlaced answer ≡ (7, 0))
 Holds (image-write forced bytes code) =
     (number : ℕ) (room : List ℕ) → dataSize + imageExtra ≤ length room →
     AllowsOnly
@@ -103,7 +120,7 @@ firstOne = 0 ∷ 1 ∷ replicate 510 0
 abbrev pub lastOne : List ℕ
 lastOne = replicate 511 0 ++ (1 ∷ [])
 
--- the table, in the paper's order, and then the rows of requests Q-9 and Q-3; what the paper does not mark P is said to be ours
+-- the table, in the paper's order, and then the rows of requests Q-9, Q-3 and Q-6; what the paper does not mark P is said to be ours
 abbrev pub paperRows : List Row
 paperRows =
     -- the chart's blocks 3, 57, 58 and 843
@@ -196,4 +213,7 @@ paperRows =
     ∷ spare-replace small 2 (eight 0 0 0 0 0 0x30000007 0 0) 7 4 (eight 0 0 0 0 0x20000007 0x40000000 0 0)
     -- block 0 on its spare, with every other spare unusable, keeps it
     ∷ spare-full small 2 (eight 0x20000000 0x40000000 0x40000000 0x40000000 0x40000000 0x40000000 0x40000000 0x40000000)
+    -- Q-6: scratch that is too short is refused 7, also where the table breaks a rule, or no such block is
+    ∷ spare-short small 2 afterSix
+    ∷ spare-short small 2 (holding 0x30000007 0x20000007 0)
     ∷ []

@@ -23,7 +23,7 @@ use Rattle.image.specs.declared.Verdict.the-variants.{Good, Refused as NotGood}
 use Rattle.reading.specs.Tracks.{trackOf, sectorIn, bytesIn, imageAt, imageFor}
 use Rattle.reading.specs.Faults.{lentFault, blockReadFault}
 use Rattle.reading.specs.Promises.{DataSized}
-use Rattle.reading.proofs.Spots.{spotted}
+use Rattle.reading.proofs.Spots.{spotted, read-enough}
 use Rattle.reading.proofs.Tracks.{track-ptr, image-inside}
 use Rattle.reading.proofs.Parts.{refused-part, accepted-part, refused-empty, accepted-data}
 
@@ -65,6 +65,10 @@ module _ (size : ℕ) where
       (λ h.
       let after : sector < other = byLt sector other (λ l. l) (λ l. absurd (apart (omega arith))) in
       getD-sets-before track (bytesIn size other) k bytes 0 (omega (arith, image-inside size sector other after))))
+
+-- images agree with themselves
+pub agree-same : (size : ℕ) (drive : Drive) (t : List ℕ) (b : ℕ) (home spare : List ℕ) → Agree size drive t b home spare home spare
+agree-same size drive t b home spare = record { home-alike = refl; spare-alike = refl; lies-alike = refl }
 
 module _ (size : ℕ) (shape : Shape) (r : ℕ) (t scratch scratch′ : List ℕ) (enough : Enough shape r scratch) (enough′ : Enough shape r scratch′) (b : ℕ) where
   -- images that agree are judged alike, and their data begins at the same spot, whichever scratch is lent
@@ -108,6 +112,13 @@ module _ (size : ℕ) (shape : Shape) (r : ℕ) (t scratch scratch′ : List ℕ
           (λ some.
           refused-part size shape r t scratch b home spare part first some .lies
           ∙ rw homes (sym (refused-part size shape r t scratch′ b home′ spare′ part′ second (λ none. some (read-alike agree ∙ none)) .lies)))
+
+-- a read that passes with one scratch passes with any that is long enough
+pub passes-either :
+    (size : ℕ) (shape : Shape) (r : ℕ) (t scratch other : List ℕ) (b : ℕ) (home spare : List ℕ) → blockReadFault size shape r t scratch b home spare ≡ 0 →
+    Enough shape r other → blockReadFault size shape r t other b home spare ≡ 0
+passes-either size shape r t scratch other b home spare none enough =
+    read-alike size shape r t other scratch enough (read-enough size shape r t scratch b home spare none) b (agree-same size (driveOf shape r) t b home spare) ∙ none
 
 module _ (size : ℕ) (shape : Shape) (r : ℕ) (t : List ℕ) (b : ℕ) where
   -- the other image may hold anything of its length

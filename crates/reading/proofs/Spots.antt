@@ -18,7 +18,9 @@ use Rattle.layout.specs.declared.Drive.{Drive}
 use Rattle.layout.specs.Layouts.{driveOf}
 use Rattle.layout.proofs.Layings.{track-whole}
 use Rattle.table.specs.Lookup.{isReplaced}
-use Rattle.table.proofs.Exact.{sound-laid}
+use Rattle.table.specs.Rules.{blockFault}
+use Rattle.table.specs.Scratch.{Enough}
+use Rattle.table.proofs.Exact.{sound-laid, block-enough}
 use Rattle.image.specs.Image.{contentsFault}
 use Rattle.reading.specs.declared.Seat.{Seat}
 use Rattle.reading.specs.declared.answers.Spot.{Spot}
@@ -94,6 +96,11 @@ module _ (size : ℕ) (shape : Shape) (r : ℕ) (t scratch : List ℕ) (b : ℕ)
   pub read-shows : blockReadFault size shape r t scratch b home spare ≡ 0 → Lent size shape r t b home spare
   unfolding blockReadFault
   read-shows none = lent-shows size shape r t scratch b home spare (orElse-first (lentFault size shape r t scratch b home spare) _ none)
+
+  pub read-enough : blockReadFault size shape r t scratch b home spare ≡ 0 → Enough shape r scratch
+  unfolding blockReadFault lentFault
+  read-enough none =
+      block-enough shape r t scratch b (orElse-first (blockFault shape r t scratch b) _ (orElse-first (lentFault size shape r t scratch b home spare) _ none))
 
   pub data-ends : blockReadFault size shape r t scratch b home spare ≡ 0 → dataStart size (driveOf shape r) t b + size ≤ bytesIn size (shape .sectors)
   data-ends none = omega (arith, lies-inside (read-shows none))

@@ -29,12 +29,12 @@ impl Drawn {
 }
 
 impl Draw {
-    /// A night in its ranges, mostly short; one in five hundred with as many entries as a list may have, or
-    /// a few more.
+    /// A night in its ranges, mostly short; one in three hundred with as many entries as a list may have,
+    /// or a few more.
     pub fn night(&mut self) -> Drawn {
         let option = self.below(8);
         let space = self.below(4);
-        if self.one_in(500) {
+        if self.one_in(300) {
             return self.long_night(space, option);
         }
         let n = self.of_these(&[1, 6, 20, 24, 300]).min(self.within(1, 300));

@@ -111,9 +111,9 @@ impl Draw {
     /// A shape and r of a revectored drive in their ranges, in any groups: one in a hundred has many
     /// spares, and a few of a long run have about as many as may be.
     pub fn drive(&mut self) -> (Shape, u32) {
-        let (shape, r) = match self.below(2_000) {
+        let (shape, r) = match self.below(1_000) {
             0 => self.most_spares(),
-            1..=20 => self.many_spares(),
+            1..=10 => self.many_spares(),
             _ => self.few_spares(),
         };
         (self.in_groups(shape), r)

@@ -7,7 +7,7 @@ use tautberry::Shape;
 use crate::draw::{Draw, Room, Scratch};
 use crate::drawn_shapes::paper;
 use crate::model::spares::{
-    drive, empty_table, word, Drive, ELSEWHERE, FREE, NULL, PRIMARY, UNUSABLE,
+    allocated, drive, empty_table, word, Drive, ELSEWHERE, FREE, NULL, PRIMARY, UNUSABLE,
 };
 
 /// A drive with its table and scratch, each at times at fault, and the drive's form in the model as it was
@@ -40,6 +40,16 @@ impl Draw {
         let scratch = self.scratch(drive.spares());
         let (shape, r) = self.any_drive(shape, r);
         Tabled { shape, r, table, scratch, drive }
+    }
+
+    /// A block to ask a drive for: about the number of its blocks, or one that the table names.
+    pub fn block_of(&mut self, tabled: &Tabled) -> u32 {
+        let place = self.below(tabled.drive.spares()) as usize;
+        let named = tabled.table.get(place).and_then(|word| allocated(*word));
+        match named {
+            Some(block) if self.one_in(4) => block,
+            _ => self.near(tabled.drive.blocks()),
+        }
     }
 
     /// A table that obeys the rules: empty, with a few places taken, or nearly full.

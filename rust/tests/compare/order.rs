@@ -226,11 +226,12 @@ fn nights_in_order() {
     let over: Vec<u32> = (0..=most).collect();
     let even: Vec<u32> = (0..most).map(|entry| 2 * entry).collect();
     let n = 2 * most + 100;
+    let outside = [n];
     let both = [1, 3];
     let steps: Vec<(Night, usize, u32)> = vec![
         (night(0, &over, &[9, 9], 4, 8, &[9, 9]), 0, 1),
         (night(n, &over, &[9, 9], 4, 8, &[9, 9]), 0, 2),
-        (night(n, &[n], &[9, 9], 4, 8, &[9, 9]), 0, 4),
+        (night(n, &outside, &[9, 9], 4, 8, &[9, 9]), 0, 4),
         (night(n, &even, &[9, 9], 4, 8, &[9, 9]), 0, 3),
         (night(n, &even, &both, 4, 8, &[9, 9]), 0, 10),
         (night(n, &even, &both, 3, 8, &[9, 9]), 0, 10),
@@ -239,7 +240,7 @@ fn nights_in_order() {
         // The list in use, before any look at D.
         (night(n, &even, &both, 3, 7, &[9, 9]), 0, 2),
         (night(n, &even, &both, 2, 5, &[9, 9]), 0, 3),
-        (night(n, &even, &both, 2, 5, &[n]), 0, 4),
+        (night(n, &even, &both, 2, 5, &outside), 0, 4),
         // The new list's length before the rooms.
         (night(n, &even, &both, 2, 5, &[9]), 0, 2),
         (night(n, &even, &both, 2, 7, &[9]), 0, 7),

@@ -37,10 +37,10 @@ fn plain_step() {
 #[test]
 fn plain_spare_sector() {
     let mut tally = Tally::of("plain::spare_sector");
-    for seed in tally.seeds(SEEDS) {
+    for seed in tally.seeds(2 * SEEDS) {
         let mut draw = Draw::of(seed);
         let tabled = draw.any_tabled();
-        let block = draw.near(tabled.drive.blocks());
+        let block = draw.block_of(&tabled);
         let (shape, r, table) = (tabled.shape, tabled.r, &tabled.table);
         let mut scratch = tabled.scratch();
         let lent = scratch.library.lent();

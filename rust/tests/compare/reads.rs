@@ -41,7 +41,7 @@ impl Drawn {
 fn any_read(draw: &mut Draw) -> Drawn {
     let tabled = draw.any_tabled();
     let drive = tabled.drive;
-    let block = draw.near(drive.blocks());
+    let block = draw.block_of(&tabled);
     let place = drive.place_of(&tabled.table, block).unwrap_or(0);
     let track = drive.shape.s as usize * 530;
     let (mut home, mut spare) = (draw.bytes(track), draw.bytes(track));

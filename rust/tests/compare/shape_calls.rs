@@ -14,11 +14,11 @@ use crate::order::{number, paper_number};
 #[derive(Clone)]
 pub struct Rest {
     pub r: u32,
-    list: Vec<u32>,
+    pub list: Vec<u32>,
     pub table: Vec<u32>,
     pub scratch: Vec<u32>,
     /// The length of the room for a first table.
-    room: usize,
+    pub room: usize,
     /// The block, the sector, or each number of the place that is asked for.
     pub asked: u32,
     pub home: Vec<u8>,
@@ -80,21 +80,15 @@ fn ask(drive: Shape, rest: &Rest) -> Vec<Given> {
     let paper = paper(drive);
     let read = Read { shape: paper, r, table, block: asked, home, spare };
     let calls: [(&'static str, Ask, Ask); 15] = [
-        (
-            "shape::sector_of",
-            &|_| number(shapes::sector_of(drive, asked, asked, asked)),
-            &|_| paper_number(model::shape::sector_of(paper, (asked, asked, asked))),
-        ),
-        (
-            "shape::address_of",
-            &|_| number(shapes::address_of(drive, asked)),
-            &|_| paper_number(model::shape::address_of(paper, asked)),
-        ),
-        (
-            "skipped::address_of",
-            &|_| number(skipped::address_of(drive, list, asked)),
-            &|_| paper_number(skipping::address_of(paper, list, asked)),
-        ),
+        ("shape::sector_of", &|_| number(shapes::sector_of(drive, asked, asked, asked)), &|_| {
+            paper_number(model::shape::sector_of(paper, (asked, asked, asked)))
+        }),
+        ("shape::address_of", &|_| number(shapes::address_of(drive, asked)), &|_| {
+            paper_number(model::shape::address_of(paper, asked))
+        }),
+        ("skipped::address_of", &|_| number(skipped::address_of(drive, list, asked)), &|_| {
+            paper_number(skipping::address_of(paper, list, asked))
+        }),
         (
             "skipped::block_at",
             &|_| number(skipped::block_at(drive, list, asked, asked, asked)),
@@ -110,11 +104,9 @@ fn ask(drive: Shape, rest: &Rest) -> Vec<Given> {
             &|lent| number(spares::address_of(drive, r, table, lent, asked)),
             &|lent| paper_number(model::spares::address_of(paper, r, table, lent, asked)),
         ),
-        (
-            "spares::shift",
-            &|lent| number(spares::shift(drive, r, table, lent, asked)),
-            &|lent| paper_number(model::spares::shift(paper, r, table, lent, asked)),
-        ),
+        ("spares::shift", &|lent| number(spares::shift(drive, r, table, lent, asked)), &|lent| {
+            paper_number(model::spares::shift(paper, r, table, lent, asked))
+        }),
         (
             "spares::block_on",
             &|lent| number(spares::block_on(drive, r, table, lent, asked)),
@@ -131,15 +123,11 @@ fn ask(drive: Shape, rest: &Rest) -> Vec<Given> {
         (
             "spares::replace",
             &|lent| number(spares::replace(drive, r, &mut table.clone(), lent, asked)),
-            &|lent| {
-                paper_number(model::spares::replace(paper, r, &mut table.clone(), lent, asked))
-            },
+            &|lent| paper_number(model::spares::replace(paper, r, &mut table.clone(), lent, asked)),
         ),
-        (
-            "spares::census",
-            &|lent| number(spares::census(drive, r, table, lent)),
-            &|lent| paper_number(model::spares::census(paper, r, table, lent)),
-        ),
+        ("spares::census", &|lent| number(spares::census(drive, r, table, lent)), &|lent| {
+            paper_number(model::spares::census(paper, r, table, lent))
+        }),
         (
             "spares::first_table",
             &|_| number(spares::first_table(drive, r, list, &mut vec![0; *room])),

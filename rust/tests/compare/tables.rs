@@ -18,7 +18,7 @@ fn spares_sector_of() {
     for seed in tally.seeds(SEEDS) {
         let mut draw = Draw::of(seed);
         let tabled = draw.any_tabled();
-        let block = draw.near(tabled.drive.blocks());
+        let block = draw.block_of(&tabled);
         let (shape, r, table) = (tabled.shape, tabled.r, &tabled.table);
         let mut scratch = tabled.scratch();
         let library = spares::sector_of(shape, r, table, scratch.library.lent(), block);
@@ -35,7 +35,7 @@ fn spares_address_of() {
     for seed in tally.seeds(SEEDS) {
         let mut draw = Draw::of(seed);
         let tabled = draw.any_tabled();
-        let block = draw.near(tabled.drive.blocks());
+        let block = draw.block_of(&tabled);
         let (shape, r, table) = (tabled.shape, tabled.r, &tabled.table);
         let mut scratch = tabled.scratch();
         let library = spares::address_of(shape, r, table, scratch.library.lent(), block);
@@ -55,7 +55,7 @@ fn spares_shift() {
     for seed in tally.seeds(SEEDS) {
         let mut draw = Draw::of(seed);
         let tabled = draw.any_tabled();
-        let block = draw.near(tabled.drive.blocks());
+        let block = draw.block_of(&tabled);
         let (shape, r, table) = (tabled.shape, tabled.r, &tabled.table);
         let mut scratch = tabled.scratch();
         let library = spares::shift(shape, r, table, scratch.library.lent(), block);
@@ -130,7 +130,7 @@ fn spares_replace() {
     for seed in tally.seeds(SEEDS) {
         let mut draw = Draw::of(seed);
         let tabled = draw.any_tabled();
-        let block = draw.near(tabled.drive.blocks());
+        let block = draw.block_of(&tabled);
         let (shape, r) = (tabled.shape, tabled.r);
         let (mut ours, mut theirs) = (tabled.table.clone(), tabled.table.clone());
         let mut scratch = tabled.scratch();

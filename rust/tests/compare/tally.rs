@@ -4,10 +4,10 @@ use std::collections::BTreeMap;
 use std::fmt::Debug;
 use std::ops::Range;
 
-use tautberry::{Refusal, Shape};
+use tautberry::{Refusal, Shape, SPARES_MOST};
 
 use crate::draw::{Room, Scratch};
-use crate::drawn_shapes::{grouped, paper};
+use crate::drawn_shapes::{grouped, paper, FEW_SPARES};
 use crate::model;
 
 /// The answers of one call, counted by refusal number on both sides; 0 is accepted.
@@ -16,7 +16,7 @@ pub struct Tally {
     library: BTreeMap<u32, u32>,
     model: BTreeMap<u32, u32>,
     groups: Option<Groups>,
-    scratch: Option<Scratches>,
+    tables: Option<Tables>,
 }
 
 /// What the groups of the shapes came to, of a call that takes a shape.
@@ -30,22 +30,28 @@ struct Groups {
     accepted: u32,
 }
 
-/// What the scratch came to, of a call that is lent a table.
+/// What the scratch came to, of a call that is lent a table, and how large the drives were.
 #[derive(Debug, Default)]
-struct Scratches {
-    /// Too short.
+struct Tables {
+    /// Scratch that was too short.
     short: u32,
-    /// Written by a call that was accepted.
+    /// Scratch that was written by a call that was accepted.
     accepted: u32,
-    /// Written by a call that was refused.
+    /// Scratch that was written by a call that was refused.
     refused: u32,
-    /// Written, and longer than it had to be.
+    /// Scratch that was written and was longer than it had to be.
     longer: u32,
+    /// Drives of more than [`FEW_SPARES`].
+    many_spares: u32,
+    /// Drives of about as many spares as may be.
+    most_spares: u32,
 }
 
 /// Every comparison of a call that takes a shape must have seen each count of [`Groups`] so often, and one
-/// of a call that is lent a table each count of [`Scratches`].
+/// of a call that is lent a table each count of [`Tables`] but the last.
 const SEEN_LEAST: u32 = 100;
+/// It must have seen the last so often: such an input takes long.
+const MOST_SPARES_LEAST: u32 = 8;
 
 impl Groups {
     /// Counts one answer about a drive, with r where it has spares.
@@ -61,9 +67,12 @@ impl Groups {
     }
 }
 
-impl Scratches {
-    /// Counts the scratch of one answer.
-    fn count(&mut self, scratch: &Scratch, number: u32) {
+impl Tables {
+    /// Counts one answer about a drive, and the scratch after it.
+    fn count(&mut self, (shape, r): (Shape, u32), scratch: &Scratch, number: u32) {
+        let spares = model::spares::drive(paper(shape), r).map_or(0, |drive| drive.spares());
+        self.many_spares += u32::from(spares > FEW_SPARES);
+        self.most_spares += u32::from(spares > SPARES_MOST - 100);
         let written = scratch.written();
         self.short += u32::from(number == 7);
         self.accepted += u32::from(written && number == 0);
@@ -75,7 +84,7 @@ impl Scratches {
 impl Tally {
     pub fn of(call: &'static str) -> Tally {
         let (library, model) = (BTreeMap::new(), BTreeMap::new());
-        Tally { call, library, model, groups: None, scratch: None }
+        Tally { call, library, model, groups: None, tables: None }
     }
 
     /// So many seeds that no other call has, as its name gives them.
@@ -152,12 +161,13 @@ impl Tally {
     pub fn same_numbers_on_table<T: PartialEq + Debug>(
         &mut self,
         seed: u64,
-        (shape, r): (Shape, u32),
+        drive: (Shape, u32),
         scratch: &Scratch,
         library: Result<T, u32>,
         model: Result<T, u32>,
     ) {
-        self.scratch.get_or_insert_default().count(scratch, number(&library));
+        self.tables.get_or_insert_default().count(drive, scratch, number(&library));
+        let (shape, r) = drive;
         self.same_numbers_on(seed, (shape, Some(r)), library, model);
         assert!(
             scratch.library == scratch.model,
@@ -189,7 +199,8 @@ impl Tally {
 
     /// Both sides must have given these numbers, 0 for accepted, and no others. A call that takes a shape
     /// must have been refused for its groups alone, and accepted with groups. One that is lent a table must
-    /// have been refused for its scratch, and must have written to it, accepted and refused.
+    /// have been refused for its scratch, must have written to it, accepted and refused, and must have been
+    /// asked about drives of many spares.
     pub fn saw(self, numbers: &[u32]) {
         let inputs: u32 = self.library.values().sum();
         println!("{}: {inputs} inputs, answers {:?}", self.call, self.library);
@@ -199,11 +210,13 @@ impl Tally {
                 assert!(seen >= SEEN_LEAST, "{}: too few of {groups:?}", self.call);
             }
         }
-        if let Some(scratch) = &self.scratch {
-            println!("{}: {scratch:?}", self.call);
-            for seen in [scratch.short, scratch.accepted, scratch.refused, scratch.longer] {
-                assert!(seen >= SEEN_LEAST, "{}: too few of {scratch:?}", self.call);
+        if let Some(tables) = &self.tables {
+            println!("{}: {tables:?}", self.call);
+            let Tables { short, accepted, refused, longer, many_spares, most_spares } = *tables;
+            for seen in [short, accepted, refused, longer, many_spares] {
+                assert!(seen >= SEEN_LEAST, "{}: too few of {tables:?}", self.call);
             }
+            assert!(most_spares >= MOST_SPARES_LEAST, "{}: too few of {tables:?}", self.call);
         }
         for (side, seen) in [("library", &self.library), ("model", &self.model)] {
             let given: Vec<u32> = seen.keys().copied().collect();
