@@ -10,8 +10,7 @@ pub const NUMBER_BITS: u32 = 32;
 // The number of bits of the code is that of the definitions.
 fn bits_agree()
     ensures { λ result. do ⌜ (← ⟦NUMBER_BITS⟧ .entry) ≡ numberBits ⌝ }
-{
-}
+{}
 
 // Turns one bit of a number on, and answers whether it was on. Only other crates call this.
 pub fn mark(numbers: &mut [u32], slot: usize, bit: u32) -> bool

@@ -126,31 +126,31 @@ format-one n p g space option d grown list {first} {second} one other =
     let fields : formattedFields first ≡ formattedFields second = one .are-said ∙ (ap saidFormatted (same .0) ∙ sym (other .are-said)) in
     (ap formattedOf fields, same .1)
 
-pub spare-sector-one : (shape : Shape) (r : ℕ) (table : List ℕ) (block : ℕ) {first second : TbPlaced} → TellsPlaced (SpareSectorOf shape r table block) first → TellsPlaced (SpareSectorOf shape r table block) second → first ≡ second
-spare-sector-one shape r table block one other = ap placedOf (told-one (spares-sector-of shape r table block) one other)
+pub spare-sector-one : (shape : Shape) (r : ℕ) (table scratch : List ℕ) (block : ℕ) {first second : TbPlaced} → TellsPlaced (SpareSectorOf shape r table scratch block) first → TellsPlaced (SpareSectorOf shape r table scratch block) second → first ≡ second
+spare-sector-one shape r table scratch block one other = ap placedOf (told-one (spares-sector-of shape r table scratch block) one other)
 
-pub spare-address-one : (shape : Shape) (r : ℕ) (table : List ℕ) (block : ℕ) {first second : TbLocated} → TellsLocated (SpareAddressOf shape r table block) first → TellsLocated (SpareAddressOf shape r table block) second → first ≡ second
-spare-address-one shape r table block one other = ap locatedOf (told-one (spares-address-of shape r table block) one other)
+pub spare-address-one : (shape : Shape) (r : ℕ) (table scratch : List ℕ) (block : ℕ) {first second : TbLocated} → TellsLocated (SpareAddressOf shape r table scratch block) first → TellsLocated (SpareAddressOf shape r table scratch block) second → first ≡ second
+spare-address-one shape r table scratch block one other = ap locatedOf (told-one (spares-address-of shape r table scratch block) one other)
 
-pub spare-shift-one : (shape : Shape) (r : ℕ) (table : List ℕ) (block : ℕ) {first second : TbShifted} → TellsShifted (ShiftOf shape r table block) first → TellsShifted (ShiftOf shape r table block) second → first ≡ second
-spare-shift-one shape r table block one other = ap shiftedOf (told-one (spares-shift shape r table block) one other)
+pub spare-shift-one : (shape : Shape) (r : ℕ) (table scratch : List ℕ) (block : ℕ) {first second : TbShifted} → TellsShifted (ShiftOf shape r table scratch block) first → TellsShifted (ShiftOf shape r table scratch block) second → first ≡ second
+spare-shift-one shape r table scratch block one other = ap shiftedOf (told-one (spares-shift shape r table scratch block) one other)
 
-pub spare-block-one : (shape : Shape) (r : ℕ) (table : List ℕ) (sector : ℕ) {first second : TbNamed} → TellsNamed (SpareBlockOn shape r table sector) first → TellsNamed (SpareBlockOn shape r table sector) second → first ≡ second
-spare-block-one shape r table sector one other = ap namedOf (told-one (spares-block-on shape r table sector) one other)
+pub spare-block-one : (shape : Shape) (r : ℕ) (table scratch : List ℕ) (sector : ℕ) {first second : TbNamed} → TellsNamed (SpareBlockOn shape r table scratch sector) first → TellsNamed (SpareBlockOn shape r table scratch sector) second → first ≡ second
+spare-block-one shape r table scratch sector one other = ap namedOf (told-one (spares-block-on shape r table scratch sector) one other)
 
-pub spare-block-at-one : (shape : Shape) (r : ℕ) (table : List ℕ) (cylinder head sector : ℕ) {first second : TbNamed} → TellsNamed (SpareBlockAtOf shape r table cylinder head sector) first → TellsNamed (SpareBlockAtOf shape r table cylinder head sector) second → first ≡ second
-spare-block-at-one shape r table cylinder head sector one other = ap namedOf (told-one (spares-block-at shape r table cylinder head sector) one other)
+pub spare-block-at-one : (shape : Shape) (r : ℕ) (table scratch : List ℕ) (cylinder head sector : ℕ) {first second : TbNamed} → TellsNamed (SpareBlockAtOf shape r table scratch cylinder head sector) first → TellsNamed (SpareBlockAtOf shape r table scratch cylinder head sector) second → first ≡ second
+spare-block-at-one shape r table scratch cylinder head sector one other = ap namedOf (told-one (spares-block-at shape r table scratch cylinder head sector) one other)
 
 pub spare-replace-one :
-    (shape : Shape) (r : ℕ) (table : List ℕ) (block : ℕ) {after otherAfter : List ℕ} {first second : TbReplaced} → TellsReplaced (λ answer. Replacement shape r table block answer after) first → TellsReplaced (λ answer. Replacement shape r table block answer otherAfter) second →
+    (shape : Shape) (r : ℕ) (table scratch : List ℕ) (block : ℕ) {after otherAfter : List ℕ} {first second : TbReplaced} → TellsReplaced (λ answer. Replacement shape r table scratch block answer after) first → TellsReplaced (λ answer. Replacement shape r table scratch block answer otherAfter) second →
     (first ≡ second) × (after ≡ otherAfter)
-spare-replace-one shape r table block {first} {second} one other =
+spare-replace-one shape r table scratch block {first} {second} one other =
     let same = fills-one (one .promised) (other .promised) in
     let fields : replacedFields first ≡ replacedFields second = one .are-said ∙ (ap saidReplaced (same .0) ∙ sym (other .are-said)) in
     (ap replacedOf fields, same .1)
 
-pub spare-census-one : (shape : Shape) (r : ℕ) (table : List ℕ) {first second : TbCounted} → TellsCounted (CensusOf shape r table) first → TellsCounted (CensusOf shape r table) second → first ≡ second
-spare-census-one shape r table one other = ap countedOf (told-one (spares-census shape r table) one other)
+pub spare-census-one : (shape : Shape) (r : ℕ) (table scratch : List ℕ) {first second : TbCounted} → TellsCounted (CensusOf shape r table scratch) first → TellsCounted (CensusOf shape r table scratch) second → first ≡ second
+spare-census-one shape r table scratch one other = ap countedOf (told-one (spares-census shape r table scratch) one other)
 
 pub spare-first-one :
     (shape : Shape) (r : ℕ) (list room : List ℕ) {after otherAfter : List ℕ} {first second : TbWritten} → TellsWritten (λ answer. FirstTable shape r list room answer after) first → TellsWritten (λ answer. FirstTable shape r list room answer otherAfter) second →
@@ -174,8 +174,8 @@ image-header-one image one other = ap headedOf (told-one (image-header image) on
 pub image-judge-one : (image : List ℕ) (block : ℕ) {first second : TbJudged} → TellsJudged (ImageVerdict image block) first → TellsJudged (ImageVerdict image block) second → first ≡ second
 image-judge-one image block one other = ap judgedOf (told-one (image-judge image block) one other)
 
-pub read-judge-one : (shape : Shape) (r : ℕ) (table : List ℕ) (block : ℕ) (home spare : List ℕ) {first second : TbJudged} → TellsJudged (ReadVerdict shape r table block home spare) first → TellsJudged (ReadVerdict shape r table block home spare) second → first ≡ second
-read-judge-one shape r table block home spare one other = ap judgedOf (told-one (reading-judge shape r table block home spare) one other)
+pub read-judge-one : (shape : Shape) (r : ℕ) (table scratch : List ℕ) (block : ℕ) (home spare : List ℕ) {first second : TbJudged} → TellsJudged (ReadVerdict shape r table scratch block home spare) first → TellsJudged (ReadVerdict shape r table scratch block home spare) second → first ≡ second
+read-judge-one shape r table scratch block home spare one other = ap judgedOf (told-one (reading-judge shape r table scratch block home spare) one other)
 
-pub read-data-one : (shape : Shape) (r : ℕ) (table : List ℕ) (block : ℕ) (home spare : List ℕ) {first second : TbSpotted} → TellsSpotted (Spots shape r table block home spare) first → TellsSpotted (Spots shape r table block home spare) second → first ≡ second
-read-data-one shape r table block home spare one other = ap spottedOf (told-one (reading-spot shape r table block home spare) one other)
+pub read-data-one : (shape : Shape) (r : ℕ) (table scratch : List ℕ) (block : ℕ) (home spare : List ℕ) {first second : TbSpotted} → TellsSpotted (Spots shape r table scratch block home spare) first → TellsSpotted (Spots shape r table scratch block home spare) second → first ≡ second
+read-data-one shape r table scratch block home spare one other = ap spottedOf (told-one (reading-spot shape r table scratch block home spare) one other)

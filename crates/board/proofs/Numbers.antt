@@ -90,29 +90,29 @@ format-numbers n p g space option d grown list grownAfter listAfter = told-numbe
 pub format-kept : (n : ℕ) (p g : List ℕ) (space option : ℕ) (d grown list grownAfter listAfter : List ℕ) {result : TbFormatted} → TellsFormatted (λ answer. Formats n p g space option d grown list answer grownAfter listAfter) result → Keeps {Lent = List ℕ × List ℕ} (formattedFields result .0) (grown, list) (grownAfter, listAfter)
 format-kept n p g space option d grown list grownAfter listAfter = told-keeps (λ fields. fields .0) (λ given promise. format-keeps n p g space option d grown list given grownAfter listAfter promise)
 
-pub spare-sector-numbers : (shape : Shape) (r : ℕ) (table : List ℕ) (block : ℕ) {result : TbPlaced} → TellsPlaced (SpareSectorOf shape r table block) result → NumbersBy (λ fields. fields .0) (λ k. (k, 0)) (BlockJudged shape r table block) (placedFields result)
-spare-sector-numbers shape r table block = told-numbers (spares-sector-of shape r table block)
+pub spare-sector-numbers : (shape : Shape) (r : ℕ) (table scratch : List ℕ) (block : ℕ) {result : TbPlaced} → TellsPlaced (SpareSectorOf shape r table scratch block) result → NumbersBy (λ fields. fields .0) (λ k. (k, 0)) (BlockJudged shape r table scratch block) (placedFields result)
+spare-sector-numbers shape r table scratch block = told-numbers (spares-sector-of shape r table scratch block)
 
-pub spare-address-numbers : (shape : Shape) (r : ℕ) (table : List ℕ) (block : ℕ) {result : TbLocated} → TellsLocated (SpareAddressOf shape r table block) result → NumbersBy (λ fields. fields .0) (λ k. (k, 0, 0, 0, 0)) (BlockJudged shape r table block) (locatedFields result)
-spare-address-numbers shape r table block = told-numbers (spares-address-of shape r table block)
+pub spare-address-numbers : (shape : Shape) (r : ℕ) (table scratch : List ℕ) (block : ℕ) {result : TbLocated} → TellsLocated (SpareAddressOf shape r table scratch block) result → NumbersBy (λ fields. fields .0) (λ k. (k, 0, 0, 0, 0)) (BlockJudged shape r table scratch block) (locatedFields result)
+spare-address-numbers shape r table scratch block = told-numbers (spares-address-of shape r table scratch block)
 
-pub spare-shift-numbers : (shape : Shape) (r : ℕ) (table : List ℕ) (block : ℕ) {result : TbShifted} → TellsShifted (ShiftOf shape r table block) result → NumbersBy (λ fields. fields .0) (λ k. (k, pos 0)) (BlockJudged shape r table block) (shiftedFields result)
-spare-shift-numbers shape r table block = told-numbers (spares-shift shape r table block)
+pub spare-shift-numbers : (shape : Shape) (r : ℕ) (table scratch : List ℕ) (block : ℕ) {result : TbShifted} → TellsShifted (ShiftOf shape r table scratch block) result → NumbersBy (λ fields. fields .0) (λ k. (k, pos 0)) (BlockJudged shape r table scratch block) (shiftedFields result)
+spare-shift-numbers shape r table scratch block = told-numbers (spares-shift shape r table scratch block)
 
-pub spare-block-numbers : (shape : Shape) (r : ℕ) (table : List ℕ) (sector : ℕ) {result : TbNamed} → TellsNamed (SpareBlockOn shape r table sector) result → NumbersBy (λ fields. fields .0) (λ k. (k, 0, 0)) (SpareBlockOnJudged shape r table sector) (namedFields result)
-spare-block-numbers shape r table sector = told-numbers (spares-block-on shape r table sector)
+pub spare-block-numbers : (shape : Shape) (r : ℕ) (table scratch : List ℕ) (sector : ℕ) {result : TbNamed} → TellsNamed (SpareBlockOn shape r table scratch sector) result → NumbersBy (λ fields. fields .0) (λ k. (k, 0, 0)) (SpareBlockOnJudged shape r table scratch sector) (namedFields result)
+spare-block-numbers shape r table scratch sector = told-numbers (spares-block-on shape r table scratch sector)
 
-pub spare-block-at-numbers : (shape : Shape) (r : ℕ) (table : List ℕ) (cylinder head sector : ℕ) {result : TbNamed} → TellsNamed (SpareBlockAtOf shape r table cylinder head sector) result → NumbersBy (λ fields. fields .0) (λ k. (k, 0, 0)) (SpareBlockAtJudged shape r table cylinder head sector) (namedFields result)
-spare-block-at-numbers shape r table cylinder head sector = told-numbers (spares-block-at shape r table cylinder head sector)
+pub spare-block-at-numbers : (shape : Shape) (r : ℕ) (table scratch : List ℕ) (cylinder head sector : ℕ) {result : TbNamed} → TellsNamed (SpareBlockAtOf shape r table scratch cylinder head sector) result → NumbersBy (λ fields. fields .0) (λ k. (k, 0, 0)) (SpareBlockAtJudged shape r table scratch cylinder head sector) (namedFields result)
+spare-block-at-numbers shape r table scratch cylinder head sector = told-numbers (spares-block-at shape r table scratch cylinder head sector)
 
-pub spare-replace-numbers : (shape : Shape) (r : ℕ) (table : List ℕ) (block : ℕ) (after : List ℕ) {result : TbReplaced} → TellsReplaced (λ answer. Replacement shape r table block answer after) result → NumbersBy (λ fields. fields .0) (λ k. (k, 0)) (ReplaceJudged shape r table block) (replacedFields result)
-spare-replace-numbers shape r table block after = told-numbers (λ given promise. spares-replace shape r table block given after promise)
+pub spare-replace-numbers : (shape : Shape) (r : ℕ) (table scratch : List ℕ) (block : ℕ) (after : List ℕ) {result : TbReplaced} → TellsReplaced (λ answer. Replacement shape r table scratch block answer after) result → NumbersBy (λ fields. fields .0) (λ k. (k, 0)) (ReplaceJudged shape r table scratch block) (replacedFields result)
+spare-replace-numbers shape r table scratch block after = told-numbers (λ given promise. spares-replace shape r table scratch block given after promise)
 
-pub spare-replace-kept : (shape : Shape) (r : ℕ) (table : List ℕ) (block : ℕ) (after : List ℕ) {result : TbReplaced} → TellsReplaced (λ answer. Replacement shape r table block answer after) result → Keeps (replacedFields result .0) table after
-spare-replace-kept shape r table block after = told-keeps (λ fields. fields .0) (λ given promise. spares-replace-keeps shape r table block given after promise)
+pub spare-replace-kept : (shape : Shape) (r : ℕ) (table scratch : List ℕ) (block : ℕ) (after : List ℕ) {result : TbReplaced} → TellsReplaced (λ answer. Replacement shape r table scratch block answer after) result → Keeps (replacedFields result .0) table after
+spare-replace-kept shape r table scratch block after = told-keeps (λ fields. fields .0) (λ given promise. spares-replace-keeps shape r table scratch block given after promise)
 
-pub spare-census-numbers : (shape : Shape) (r : ℕ) (table : List ℕ) {result : TbCounted} → TellsCounted (CensusOf shape r table) result → NumbersBy (λ fields. fields .0) (λ k. (k, 0, 0, 0, 0, 0)) (TableJudged shape r table) (countedFields result)
-spare-census-numbers shape r table = told-numbers (spares-census shape r table)
+pub spare-census-numbers : (shape : Shape) (r : ℕ) (table scratch : List ℕ) {result : TbCounted} → TellsCounted (CensusOf shape r table scratch) result → NumbersBy (λ fields. fields .0) (λ k. (k, 0, 0, 0, 0, 0)) (TableJudged shape r table scratch) (countedFields result)
+spare-census-numbers shape r table scratch = told-numbers (spares-census shape r table scratch)
 
 pub spare-first-numbers : (shape : Shape) (r : ℕ) (list room : List ℕ) (after : List ℕ) {result : TbWritten} → TellsWritten (λ answer. FirstTable shape r list room answer after) result → NumbersBy (λ fields. fields .0) (λ k. (k, 0)) (FirstTableJudged shape r list room) (writtenFields result)
 spare-first-numbers shape r list room after = told-numbers (λ given promise. spares-first-table shape r list room given after promise)
@@ -132,8 +132,8 @@ image-header-numbers image = told-numbers (image-header image)
 pub image-judge-numbers : (image : List ℕ) (block : ℕ) {result : TbJudged} → TellsJudged (ImageVerdict image block) result → NumbersBy (λ fields. fields) (λ k. k) (ImageJudged dataSize image block) (judgedFields result)
 image-judge-numbers image block = told-numbers (image-judge image block)
 
-pub read-judge-numbers : (shape : Shape) (r : ℕ) (table : List ℕ) (block : ℕ) (home spare : List ℕ) {result : TbJudged} → TellsJudged (ReadVerdict shape r table block home spare) result → NumbersBy (λ fields. fields) (λ k. k) (BlockReadJudged dataSize shape r table block home spare) (judgedFields result)
-read-judge-numbers shape r table block home spare = told-numbers (reading-judge shape r table block home spare)
+pub read-judge-numbers : (shape : Shape) (r : ℕ) (table scratch : List ℕ) (block : ℕ) (home spare : List ℕ) {result : TbJudged} → TellsJudged (ReadVerdict shape r table scratch block home spare) result → NumbersBy (λ fields. fields) (λ k. k) (BlockReadJudged dataSize shape r table scratch block home spare) (judgedFields result)
+read-judge-numbers shape r table scratch block home spare = told-numbers (reading-judge shape r table scratch block home spare)
 
-pub read-data-numbers : (shape : Shape) (r : ℕ) (table : List ℕ) (block : ℕ) (home spare : List ℕ) {result : TbSpotted} → TellsSpotted (Spots shape r table block home spare) result → NumbersBy (λ fields. fields .0) (λ k. (k, 0, 0)) (BlockReadJudged dataSize shape r table block home spare) (spottedFields result)
-read-data-numbers shape r table block home spare = told-numbers (reading-spot shape r table block home spare)
+pub read-data-numbers : (shape : Shape) (r : ℕ) (table scratch : List ℕ) (block : ℕ) (home spare : List ℕ) {result : TbSpotted} → TellsSpotted (Spots shape r table scratch block home spare) result → NumbersBy (λ fields. fields .0) (λ k. (k, 0, 0)) (BlockReadJudged dataSize shape r table scratch block home spare) (spottedFields result)
+read-data-numbers shape r table scratch block home spare = told-numbers (reading-spot shape r table scratch block home spare)

@@ -4,6 +4,7 @@ ghost use Rattle.skip.specs.Promises.{SectorOf as SkipSectorOf, BlockOn as Skip
 ghost use Rattle.skipped.specs.Promises.{AddressOf as SkippedAddressOf, BlockAt as SkippedBlockAt};
 ghost use Rattle.page.specs.Promises.{Reads, Writes};
 ghost use Rattle.format.specs.Promises.{Formats};
+ghost use Rattle.table.specs.Scratch.{Scratched};
 ghost use Rattle.first_table.specs.Promises.{FirstTable};
 ghost use Rattle.spares.specs.Promises.{SectorOf as SpareSectorOf, AddressOf as SpareAddressOf, ShiftOf, BlockOn as SpareBlockOn, BlockAt as SpareBlockAtOf, Replacement, CensusOf};
 ghost use Rattle.image.specs.Promises.{Write, Header, Judge as ImageVerdict};
@@ -139,72 +140,110 @@ pub extern "C" fn tb_format(
     answers::formatted(format::format(n, p, g, space, option, d, grown, list))
 }
 
-// The sector that a block of a revectored drive lies on. Checks 1, 11, 5.
+// The sector that a block of a revectored drive lies on. Checks 1, 7, 11, 5.
 #[no_mangle]
-pub extern "C" fn tb_spare_sector(shape: Shape, r: u32, table: &[u32], block: u32) -> TbPlaced
-    ensures { λ result. ⌜ TellsPlaced (SpareSectorOf shape r (now (table .entry)) block) result ⌝ }
+pub extern "C" fn tb_spare_sector(
+    shape: Shape,
+    r: u32,
+    table: &[u32],
+    scratch: &mut [u32],
+    block: u32,
+) -> TbPlaced
+    ensures { λ result. ⌜ TellsPlaced (SpareSectorOf shape r (now (table .entry)) (now (scratch .entry)) block) result ⌝ }
+    ensures { λ result. ⌜ Scratched shape r (now (scratch .entry)) (now (scratch .exit)) ⌝ }
 {
-    answers::placed(spares::sector_of(shape, r, table, block))
+    answers::placed(spares::sector_of(shape, r, table, scratch, block))
 }
 
-// The address that a block of a revectored drive lies at. Checks 1, 11, 5.
+// The address that a block of a revectored drive lies at. Checks 1, 7, 11, 5.
 #[no_mangle]
-pub extern "C" fn tb_spare_address(shape: Shape, r: u32, table: &[u32], block: u32) -> TbLocated
-    ensures { λ result. ⌜ TellsLocated (SpareAddressOf shape r (now (table .entry)) block) result ⌝ }
+pub extern "C" fn tb_spare_address(
+    shape: Shape,
+    r: u32,
+    table: &[u32],
+    scratch: &mut [u32],
+    block: u32,
+) -> TbLocated
+    ensures { λ result. ⌜ TellsLocated (SpareAddressOf shape r (now (table .entry)) (now (scratch .entry)) block) result ⌝ }
+    ensures { λ result. ⌜ Scratched shape r (now (scratch .entry)) (now (scratch .exit)) ⌝ }
 {
-    answers::located(spares::address_of(shape, r, table, block))
+    answers::located(spares::address_of(shape, r, table, scratch, block))
 }
 
-// How many cylinders a block is moved, negative toward cylinder 0. Checks 1, 11, 5.
+// How many cylinders a block is moved, negative toward cylinder 0. Checks 1, 7, 11, 5.
 #[no_mangle]
-pub extern "C" fn tb_spare_shift(shape: Shape, r: u32, table: &[u32], block: u32) -> TbShifted
-    ensures { λ result. ⌜ TellsShifted (ShiftOf shape r (now (table .entry)) block) result ⌝ }
+pub extern "C" fn tb_spare_shift(
+    shape: Shape,
+    r: u32,
+    table: &[u32],
+    scratch: &mut [u32],
+    block: u32,
+) -> TbShifted
+    ensures { λ result. ⌜ TellsShifted (ShiftOf shape r (now (table .entry)) (now (scratch .entry)) block) result ⌝ }
+    ensures { λ result. ⌜ Scratched shape r (now (scratch .entry)) (now (scratch .exit)) ⌝ }
 {
-    answers::shifted(spares::shift(shape, r, table, block))
+    answers::shifted(spares::shift(shape, r, table, scratch, block))
 }
 
-// The block that lies on a sector of a revectored drive, or none. Checks 1, 11, 6.
+// The block that lies on a sector of a revectored drive, or none. Checks 1, 7, 11, 6.
 #[no_mangle]
-pub extern "C" fn tb_spare_block(shape: Shape, r: u32, table: &[u32], sector: u32) -> TbNamed
-    ensures { λ result. ⌜ TellsNamed (SpareBlockOn shape r (now (table .entry)) sector) result ⌝ }
+pub extern "C" fn tb_spare_block(
+    shape: Shape,
+    r: u32,
+    table: &[u32],
+    scratch: &mut [u32],
+    sector: u32,
+) -> TbNamed
+    ensures { λ result. ⌜ TellsNamed (SpareBlockOn shape r (now (table .entry)) (now (scratch .entry)) sector) result ⌝ }
+    ensures { λ result. ⌜ Scratched shape r (now (scratch .entry)) (now (scratch .exit)) ⌝ }
 {
-    answers::named(spares::block_on(shape, r, table, sector))
+    answers::named(spares::block_on(shape, r, table, scratch, sector))
 }
 
-// The block that lies at a cylinder, head and sector of a revectored drive, or none. Checks 1, 11, 6.
+// The block that lies at a cylinder, head and sector of a revectored drive, or none. Checks 1, 7, 11, 6.
 #[no_mangle]
 pub extern "C" fn tb_spare_block_at(
     shape: Shape,
     r: u32,
     table: &[u32],
+    scratch: &mut [u32],
     cylinder: u32,
     head: u32,
     sector: u32,
 ) -> TbNamed
-    ensures { λ result. ⌜ TellsNamed (SpareBlockAtOf shape r (now (table .entry)) cylinder head sector) result ⌝ }
+    ensures { λ result. ⌜ TellsNamed (SpareBlockAtOf shape r (now (table .entry)) (now (scratch .entry)) cylinder head sector) result ⌝ }
+    ensures { λ result. ⌜ Scratched shape r (now (scratch .entry)) (now (scratch .exit)) ⌝ }
 {
-    answers::named(spares::block_at(shape, r, table, cylinder, head, sector))
+    answers::named(spares::block_at(shape, r, table, scratch, cylinder, head, sector))
 }
 
-// Replaces a block, at home or on a spare: writes its new descriptor, marks its old one unusable, and answers its new place. Checks 1, 11, 5, 13.
+// Replaces a block, at home or on a spare: writes its new descriptor, marks its old one unusable, and answers its new place. Checks 1, 7, 11, 5, 13.
 #[no_mangle]
 pub extern "C" fn tb_spare_replace(
     shape: Shape,
     r: u32,
     table: &mut [u32],
+    scratch: &mut [u32],
     block: u32,
 ) -> TbReplaced
-    ensures { λ result. ⌜ TellsReplaced (λ answer. Replacement shape r (now (table .entry)) block answer (now (table .exit))) result ⌝ }
+    ensures { λ result. ⌜ TellsReplaced (λ answer. Replacement shape r (now (table .entry)) (now (scratch .entry)) block answer (now (table .exit))) result ⌝ }
+    ensures { λ result. ⌜ Scratched shape r (now (scratch .entry)) (now (scratch .exit)) ⌝ }
 {
-    answers::replaced(spares::replace(shape, r, table, block))
+    answers::replaced(spares::replace(shape, r, table, scratch, block))
 }
 
-// Counts the descriptors of each code. Checks 1, 11.
+// Counts the descriptors of each code. Checks 1, 7, 11.
 #[no_mangle]
-pub extern "C" fn tb_spare_census(shape: Shape, r: u32, table: &[u32]) -> TbCounted
-    ensures { λ result. ⌜ TellsCounted (CensusOf shape r (now (table .entry))) result ⌝ }
+pub extern "C" fn tb_spare_census(
+    shape: Shape,
+    r: u32,
+    table: &[u32],
+    scratch: &mut [u32],
+) -> TbCounted
+    ensures { λ result. ⌜ TellsCounted (CensusOf shape r (now (table .entry)) (now (scratch .entry))) result ⌝ }
+    ensures { λ result. ⌜ Scratched shape r (now (scratch .entry)) (now (scratch .exit)) ⌝ }
 {
-    answers::counted(spares::census(shape, r, table))
+    answers::counted(spares::census(shape, r, table, scratch))
 }
 
 // The first table of a list of bad sectors into the room, and its length. Checks 1, list, 7, 13.
@@ -244,32 +283,36 @@ pub extern "C" fn tb_image_judge(image: &[u8], block: u32) -> TbJudged
     answers::judged(image::judge(image, block))
 }
 
-// The verdict on a block from the images of its home track and of its spare's track. Checks 1, 11, 5, 14, 15 to 18.
+// The verdict on a block from the images of its home track and of its spare's track. Checks 1, 7, 11, 5, 14, 15 to 18.
 #[no_mangle]
 pub extern "C" fn tb_read_judge<'a>(
     shape: Shape,
     r: u32,
     table: &[u32],
+    scratch: &mut [u32],
     block: u32,
     home: &'a [u8],
     spare: &'a [u8],
 ) -> TbJudged
-    ensures { λ result. ⌜ TellsJudged (ReadVerdict shape r (now (table .entry)) block (now (home .entry)) (now (spare .entry))) result ⌝ }
+    ensures { λ result. ⌜ TellsJudged (ReadVerdict shape r (now (table .entry)) (now (scratch .entry)) block (now (home .entry)) (now (spare .entry))) result ⌝ }
+    ensures { λ result. ⌜ Scratched shape r (now (scratch .entry)) (now (scratch .exit)) ⌝ }
 {
-    answers::judged(reading::judge(shape, r, table, block, home, spare))
+    answers::judged(reading::judge(shape, r, table, scratch, block, home, spare))
 }
 
-// In which image, and how far inside it, the 512 bytes of a good block begin. Checks 1, 11, 5, 14, 15 to 18.
+// In which image, and how far inside it, the 512 bytes of a good block begin. Checks 1, 7, 11, 5, 14, 15 to 18.
 #[no_mangle]
 pub extern "C" fn tb_read_data<'a>(
     shape: Shape,
     r: u32,
     table: &[u32],
+    scratch: &mut [u32],
     block: u32,
     home: &'a [u8],
     spare: &'a [u8],
 ) -> TbSpotted
-    ensures { λ result. ⌜ TellsSpotted (Spots shape r (now (table .entry)) block (now (home .entry)) (now (spare .entry))) result ⌝ }
+    ensures { λ result. ⌜ TellsSpotted (Spots shape r (now (table .entry)) (now (scratch .entry)) block (now (home .entry)) (now (spare .entry))) result ⌝ }
+    ensures { λ result. ⌜ Scratched shape r (now (scratch .entry)) (now (scratch .exit)) ⌝ }
 {
-    answers::spotted(reading::spot(shape, r, table, block, home, spare))
+    answers::spotted(reading::spot(shape, r, table, scratch, block, home, spare))
 }

@@ -115,7 +115,15 @@ pub fn block_on(shape: Shape, r: u32, table: &[u32], scratch: &mut [u32], sector
 }
 
 // Cylinder, head and sector to block. Checks 1, 7, 11, 6.
-pub fn block_at(shape: Shape, r: u32, table: &[u32], scratch: &mut [u32], cylinder: u32, head: u32, sector: u32) -> Named
+pub fn block_at(
+    shape: Shape,
+    r: u32,
+    table: &[u32],
+    scratch: &mut [u32],
+    cylinder: u32,
+    head: u32,
+    sector: u32,
+) -> Named
     ensures { λ result. ⌜ BlockAt shape r (now (table .entry)) (now (scratch .entry)) cylinder head sector result ⌝ }
     ensures { λ result. ⌜ Scratched shape r (now (scratch .entry)) (now (scratch .exit)) ⌝ }
 {

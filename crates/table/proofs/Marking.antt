@@ -27,9 +27,10 @@ use Rattle.table.proofs.Once.{first-free}
 
 -- the number of a block of the window is one of the window's
 window-slot : (from count b : ℕ) → inWindow from count b ≡ true → (from ≤ b / numberBits) × (b / numberBits - from < count)
-window-slot from count b e =
-    (tells-le from (b / numberBits) .holds (and-left (leb from (b / numberBits)) (ltb (b / numberBits - from) count) e),
-    tells-lt (b / numberBits - from) count .holds (and-right (leb from (b / numberBits)) (ltb (b / numberBits - from) count) e))
+window-slot from count b e = (
+  tells-le from (b / numberBits) .holds (and-left (leb from (b / numberBits)) (ltb (b / numberBits - from) count) e),
+  tells-lt (b / numberBits - from) count .holds (and-right (leb from (b / numberBits)) (ltb (b / numberBits - from) count) e),
+)
 
 pub slot-in-window : (from count b : ℕ) → from ≤ b / numberBits → b / numberBits - from < count → inWindow from count b ≡ true
 slot-in-window from count b least most = rw (le-leb from (b / numberBits) least, lt-ltb (b / numberBits - from) count most)

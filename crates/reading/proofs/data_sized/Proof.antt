@@ -74,24 +74,30 @@ same-length c = search needs
 
 returns : tie.Need-returns
 returns c = (
-    let a = c .before .before .before .before .before .before .before .before .before .before .before .before .args in
-    lends-home (a .size) (a .shape) (a .r) (a .table .now) (a .scratch .now) (a .block) (a .home) (a .spare) _ (sym (c .before .before .before .before .before .before .spot-sized .ensures .0 .answers) ∙ c .before .before .offset .given .1) (record { holds = refl; lies = refl }), c .before .before .before .before .before .before .spot-sized .ensures .1)
+  let a = c .before .before .before .before .before .before .before .before .before .before .before .before .args in
+      lends-home (a .size) (a .shape) (a .r) (a .table .now) (a .scratch .now) (a .block) (a .home) (a .spare) _ (sym (c .before .before .before .before .before .before .spot-sized .ensures .0 .answers) ∙ c .before .before .offset .given .1) (record { holds = refl; lies = refl }),
+  c .before .before .before .before .before .before .spot-sized .ensures .1,
+)
 
 same-length-2 : tie.Need-same-length-2
 same-length-2 c = search needs
 
 returns-2 : tie.Need-returns-2
 returns-2 c = (
-    let a = c .before .before .before .before .before .before .before .before .before .before .before .before .args in
-    lends-spare (a .size) (a .shape) (a .r) (a .table .now) (a .scratch .now) (a .block) (a .home) (a .spare) _ (sym (c .before .before .before .before .before .before .spot-sized .ensures .0 .answers) ∙ c .before .before .offset2 .given .1) (record { holds = refl; lies = refl }), c .before .before .before .before .before .before .spot-sized .ensures .1)
+  let a = c .before .before .before .before .before .before .before .before .before .before .before .before .args in
+      lends-spare (a .size) (a .shape) (a .r) (a .table .now) (a .scratch .now) (a .block) (a .home) (a .spare) _ (sym (c .before .before .before .before .before .before .spot-sized .ensures .0 .answers) ∙ c .before .before .offset2 .given .1) (record { holds = refl; lies = refl }),
+  c .before .before .before .before .before .before .spot-sized .ensures .1,
+)
 
 same-length-3 : tie.Need-same-length-3
 same-length-3 c = search needs
 
 returns-3 : tie.Need-returns-3
 returns-3 c = (
-    let a = c .before .before .before .before .before .before .before .before .before .before .before .args in
-    lends-empty (a .size) (a .shape) (a .r) (a .table .now) (a .scratch .now) (a .block) (a .home) (a .spare) _ (sym (c .before .before .before .before .before .spot-sized .ensures .0 .answers) ∙ c .before .enum-told .given .1) (record { holds = refl; lies = refl }), c .before .before .before .before .before .spot-sized .ensures .1)
+  let a = c .before .before .before .before .before .before .before .before .before .before .before .args in
+      lends-empty (a .size) (a .shape) (a .r) (a .table .now) (a .scratch .now) (a .block) (a .home) (a .spare) _ (sym (c .before .before .before .before .before .spot-sized .ensures .0 .answers) ∙ c .before .enum-told .given .1) (record { holds = refl; lies = refl }),
+  c .before .before .before .before .before .spot-sized .ensures .1,
+)
 
 pub data-sized-spec : {M : Type 1} → statement M
 data-sized-spec =

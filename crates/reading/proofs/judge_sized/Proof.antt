@@ -25,22 +25,28 @@ same-length c = search needs
 
 returns : tie.Need-returns
 returns c = (
-    gives (λ k. refl) (rw (home-told _ _ _ _ _ _ _ _ (sym (c .before .before .before .before .spot-sized .ensures .0 .answers) ∙ c .enum-told .given .1) .0)), c .before .before .before .before .spot-sized .ensures .1)
+  gives (λ k. refl) (rw (home-told _ _ _ _ _ _ _ _ (sym (c .before .before .before .before .spot-sized .ensures .0 .answers) ∙ c .enum-told .given .1) .0)),
+  c .before .before .before .before .spot-sized .ensures .1,
+)
 
 same-length-2 : tie.Need-same-length-2
 same-length-2 c = search needs
 
 returns-2 : tie.Need-returns-2
 returns-2 c = (
-    gives (λ k. refl) (rw (spare-told _ _ _ _ _ _ _ _ (sym (c .before .before .before .before .spot-sized .ensures .0 .answers) ∙ c .enum-told2 .given .1) .0)), c .before .before .before .before .spot-sized .ensures .1)
+  gives (λ k. refl) (rw (spare-told _ _ _ _ _ _ _ _ (sym (c .before .before .before .before .spot-sized .ensures .0 .answers) ∙ c .enum-told2 .given .1) .0)),
+  c .before .before .before .before .spot-sized .ensures .1,
+)
 
 same-length-3 : tie.Need-same-length-3
 same-length-3 c = search needs
 
 returns-3 : tie.Need-returns-3
 returns-3 c = (
-    let told = refused-told _ _ _ _ _ _ _ _ (sym (c .before .before .before .before .before .spot-sized .ensures .0 .answers) ∙ c .before .fault .given .1) in
-    gives (λ k. refl) (rw (told .0) (sym (answer-refused _ _ _ (told .1)))), c .before .before .before .before .before .spot-sized .ensures .1)
+  let told = refused-told _ _ _ _ _ _ _ _ (sym (c .before .before .before .before .before .spot-sized .ensures .0 .answers) ∙ c .before .fault .given .1) in
+      gives (λ k. refl) (rw (told .0) (sym (answer-refused _ _ _ (told .1)))),
+  c .before .before .before .before .before .spot-sized .ensures .1,
+)
 
 pub judge-sized-spec : {M : Type 1} → statement M
 judge-sized-spec =

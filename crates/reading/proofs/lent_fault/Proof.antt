@@ -21,7 +21,7 @@ same-length c = search needs
 
 returns : tie.Need-returns
 unfolding lentFault
-returns c = ( rw (← c .before .before .before .block-fault .ensures .0) (sym (orElse-some _ _ (c .if1 .taken))), c .before .before .before .block-fault .ensures .1)
+returns c = (rw (← c .before .before .before .block-fault .ensures .0) (sym (orElse-some _ _ (c .if1 .taken))), c .before .before .before .block-fault .ensures .1)
 
 cast-long : tie.Need-cast-long
 cast-long c = search needs
@@ -40,21 +40,21 @@ same-length-2 c = search needs
 
 returns-2 : tie.Need-returns-2
 unfolding lentFault
-returns-2 c = ( rw (← c .before .before .before .before .before .block-fault .ensures .0, c .before .before .if1 .left, ne-eqb _ _ (c .if2 .taken)), c .before .before .before .before .before .block-fault .ensures .1)
+returns-2 c = (rw (← c .before .before .before .before .before .block-fault .ensures .0, c .before .before .if1 .left, ne-eqb _ _ (c .if2 .taken)), c .before .before .before .before .before .block-fault .ensures .1)
 
 same-length-3 : tie.Need-same-length-3
 same-length-3 c = search needs
 
 returns-3 : tie.Need-returns-3
 unfolding lentFault
-returns-3 c = ( rw (← c .before .before .before .before .before .before .block-fault .ensures .0, c .before .before .before .if1 .left, eq-eqb _ _ (c .before .if2 .left), ne-eqb _ _ (c .if3 .taken)), c .before .before .before .before .before .before .block-fault .ensures .1)
+returns-3 c = (rw (← c .before .before .before .before .before .before .block-fault .ensures .0, c .before .before .before .if1 .left, eq-eqb _ _ (c .before .if2 .left), ne-eqb _ _ (c .if3 .taken)), c .before .before .before .before .before .before .block-fault .ensures .1)
 
 same-length-4 : tie.Need-same-length-4
 same-length-4 c = search needs
 
 returns-4 : tie.Need-returns-4
 unfolding lentFault
-returns-4 c = ( rw (← c .before .before .before .before .before .before .block-fault .ensures .0, c .before .before .before .if1 .left, eq-eqb _ _ (c .before .if2 .left), eq-eqb _ _ (c .if3 .left)), c .before .before .before .before .before .before .block-fault .ensures .1)
+returns-4 c = (rw (← c .before .before .before .before .before .before .block-fault .ensures .0, c .before .before .before .if1 .left, eq-eqb _ _ (c .before .if2 .left), eq-eqb _ _ (c .if3 .left)), c .before .before .before .before .before .before .block-fault .ensures .1)
 
 pub lent-fault-spec : {M : Type 1} → statement M
 lent-fault-spec =

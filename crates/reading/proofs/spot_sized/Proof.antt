@@ -17,7 +17,9 @@ same-length c = search needs
 
 returns : tie.Need-returns
 returns c = (
-    spot-refused _ _ _ _ _ _ _ _ (read-lent _ _ _ _ _ _ _ _ (c .before .before .before .lent-fault .ensures .0) (c .if1 .taken)) (c .if1 .taken), c .before .before .before .lent-fault .ensures .1)
+  spot-refused _ _ _ _ _ _ _ _ (read-lent _ _ _ _ _ _ _ _ (c .before .before .before .lent-fault .ensures .0) (c .if1 .taken)) (c .if1 .taken),
+  c .before .before .before .lent-fault .ensures .1,
+)
 
 drive-of-requires : tie.Need-drive-of-requires
 drive-of-requires c κs =
@@ -55,9 +57,11 @@ same-length-2 c = search needs
 
 returns-2 : tie.Need-returns-2
 returns-2 c = (
-    let a = c .before .before .before .before .before .before .before .before .before .before .before .before .before .before .before .before .args in
-    let found = seat-fault (a .size) (a .shape) (a .r) (a .table .now) (a .block) (c .before .before .before .before .before .before .drive-of .ensures) (c .before .before .before .before .before .seat-of .ensures) (a .home) (a .spare) (c .before .before .before .track-of .ensures) (c .before .before .header-for .ensures) (c .before .part-fault .ensures) in
-    spot-refused _ _ _ _ _ _ _ _ (read-lying _ _ _ _ _ _ _ _ (sym (c .before .before .before .before .before .before .before .before .before .before .lent-fault .ensures .0) ∙ c .before .before .before .before .before .before .before .if1 .left) ∙ sym found) (c .if2 .taken), c .before .before .before .before .before .before .before .before .before .before .lent-fault .ensures .1)
+  let a = c .before .before .before .before .before .before .before .before .before .before .before .before .before .before .before .before .args in
+      let found = seat-fault (a .size) (a .shape) (a .r) (a .table .now) (a .block) (c .before .before .before .before .before .before .drive-of .ensures) (c .before .before .before .before .before .seat-of .ensures) (a .home) (a .spare) (c .before .before .before .track-of .ensures) (c .before .before .header-for .ensures) (c .before .part-fault .ensures) in
+      spot-refused _ _ _ _ _ _ _ _ (read-lying _ _ _ _ _ _ _ _ (sym (c .before .before .before .before .before .before .before .before .before .before .lent-fault .ensures .0) ∙ c .before .before .before .before .before .before .before .if1 .left) ∙ sym found) (c .if2 .taken),
+  c .before .before .before .before .before .before .before .before .before .before .lent-fault .ensures .1,
+)
 
 add-offset : tie.Need-add-offset
 add-offset c =
@@ -76,18 +80,22 @@ same-length-3 c = search needs
 
 returns-3 : tie.Need-returns-3
 returns-3 c = (
-    let a = c .before .before .before .before .before .before .before .before .before .before .before .before .before .before .before .before .before .args in
-    let found = seat-fault (a .size) (a .shape) (a .r) (a .table .now) (a .block) (c .before .before .before .before .before .before .before .drive-of .ensures) (c .before .before .before .before .before .before .seat-of .ensures) (a .home) (a .spare) (c .before .before .before .before .track-of .ensures) (c .before .before .before .header-for .ensures) (c .before .before .part-fault .ensures) in
-    spot-found _ _ _ _ _ _ _ _ (read-lying _ _ _ _ _ _ _ _ (sym (c .before .before .before .before .before .before .before .before .before .before .before .lent-fault .ensures .0) ∙ c .before .before .before .before .before .before .before .before .if1 .left) ∙ sym found ∙ c .before .if2 .left) (rw (← seat-sector (a .size) (a .shape) (a .r) (a .table .now) (a .block) (c .before .before .before .before .before .before .before .drive-of .ensures) (c .before .before .before .before .before .before .seat-of .ensures), ← seat-replaced (a .size) (a .shape) (a .r) (a .table .now) (a .block) (c .before .before .before .before .before .before .before .drive-of .ensures) (c .before .before .before .before .before .before .seat-of .ensures), c .if3 .taken)), c .before .before .before .before .before .before .before .before .before .before .before .lent-fault .ensures .1)
+  let a = c .before .before .before .before .before .before .before .before .before .before .before .before .before .before .before .before .before .args in
+      let found = seat-fault (a .size) (a .shape) (a .r) (a .table .now) (a .block) (c .before .before .before .before .before .before .before .drive-of .ensures) (c .before .before .before .before .before .before .seat-of .ensures) (a .home) (a .spare) (c .before .before .before .before .track-of .ensures) (c .before .before .before .header-for .ensures) (c .before .before .part-fault .ensures) in
+      spot-found _ _ _ _ _ _ _ _ (read-lying _ _ _ _ _ _ _ _ (sym (c .before .before .before .before .before .before .before .before .before .before .before .lent-fault .ensures .0) ∙ c .before .before .before .before .before .before .before .before .if1 .left) ∙ sym found ∙ c .before .if2 .left) (rw (← seat-sector (a .size) (a .shape) (a .r) (a .table .now) (a .block) (c .before .before .before .before .before .before .before .drive-of .ensures) (c .before .before .before .before .before .before .seat-of .ensures), ← seat-replaced (a .size) (a .shape) (a .r) (a .table .now) (a .block) (c .before .before .before .before .before .before .before .drive-of .ensures) (c .before .before .before .before .before .before .seat-of .ensures), c .if3 .taken)),
+  c .before .before .before .before .before .before .before .before .before .before .before .lent-fault .ensures .1,
+)
 
 same-length-4 : tie.Need-same-length-4
 same-length-4 c = search needs
 
 returns-4 : tie.Need-returns-4
 returns-4 c = (
-    let a = c .before .before .before .before .before .before .before .before .before .before .before .before .before .before .before .before .before .args in
-    let found = seat-fault (a .size) (a .shape) (a .r) (a .table .now) (a .block) (c .before .before .before .before .before .before .before .drive-of .ensures) (c .before .before .before .before .before .before .seat-of .ensures) (a .home) (a .spare) (c .before .before .before .before .track-of .ensures) (c .before .before .before .header-for .ensures) (c .before .before .part-fault .ensures) in
-    spot-found _ _ _ _ _ _ _ _ (read-lying _ _ _ _ _ _ _ _ (sym (c .before .before .before .before .before .before .before .before .before .before .before .lent-fault .ensures .0) ∙ c .before .before .before .before .before .before .before .before .if1 .left) ∙ sym found ∙ c .before .if2 .left) (rw (← seat-sector (a .size) (a .shape) (a .r) (a .table .now) (a .block) (c .before .before .before .before .before .before .before .drive-of .ensures) (c .before .before .before .before .before .before .seat-of .ensures), ← seat-replaced (a .size) (a .shape) (a .r) (a .table .now) (a .block) (c .before .before .before .before .before .before .before .drive-of .ensures) (c .before .before .before .before .before .before .seat-of .ensures), c .if3 .left)), c .before .before .before .before .before .before .before .before .before .before .before .lent-fault .ensures .1)
+  let a = c .before .before .before .before .before .before .before .before .before .before .before .before .before .before .before .before .before .args in
+      let found = seat-fault (a .size) (a .shape) (a .r) (a .table .now) (a .block) (c .before .before .before .before .before .before .before .drive-of .ensures) (c .before .before .before .before .before .before .seat-of .ensures) (a .home) (a .spare) (c .before .before .before .before .track-of .ensures) (c .before .before .before .header-for .ensures) (c .before .before .part-fault .ensures) in
+      spot-found _ _ _ _ _ _ _ _ (read-lying _ _ _ _ _ _ _ _ (sym (c .before .before .before .before .before .before .before .before .before .before .before .lent-fault .ensures .0) ∙ c .before .before .before .before .before .before .before .before .if1 .left) ∙ sym found ∙ c .before .if2 .left) (rw (← seat-sector (a .size) (a .shape) (a .r) (a .table .now) (a .block) (c .before .before .before .before .before .before .before .drive-of .ensures) (c .before .before .before .before .before .before .seat-of .ensures), ← seat-replaced (a .size) (a .shape) (a .r) (a .table .now) (a .block) (c .before .before .before .before .before .before .before .drive-of .ensures) (c .before .before .before .before .before .before .seat-of .ensures), c .if3 .left)),
+  c .before .before .before .before .before .before .before .before .before .before .before .lent-fault .ensures .1,
+)
 
 pub spot-sized-spec : {M : Type 1} → statement M
 spot-sized-spec =

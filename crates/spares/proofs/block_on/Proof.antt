@@ -21,7 +21,7 @@ same-length : tie.Need-same-length
 same-length c = search needs
 
 returns : tie.Need-returns
-returns c = ( refuses (λ k. refl) _ (rw (← c .before .before .before .table-fault .ensures .0) (orElse-some _ _ (c .if1 .taken))) (c .if1 .taken), c .before .before .before .table-fault .ensures .1)
+returns c = (refuses (λ k. refl) _ (rw (← c .before .before .before .table-fault .ensures .0) (orElse-some _ _ (c .if1 .taken))) (c .if1 .taken), c .before .before .before .table-fault .ensures .1)
 
 size-of-requires : tie.Need-size-of-requires
 size-of-requires c κs =
@@ -34,8 +34,10 @@ same-length-2 c = search needs
 
 returns-2 : tie.Need-returns-2
 returns-2 c = (
-    let past : c .before .size-of .result ≤ c .before .before .before .before .before .before .before .before .before .args .sector = omega arith in
-    refuses (λ k. refl) _ (rw (← c .before .before .before .before .before .table-fault .ensures .0, c .before .before .if1 .left, ← c .before .size-of .ensures, le-leb _ _ past)) (omega arith), c .before .before .before .before .before .table-fault .ensures .1)
+  let past : c .before .size-of .result ≤ c .before .before .before .before .before .before .before .before .before .args .sector = omega arith in
+      refuses (λ k. refl) _ (rw (← c .before .before .before .before .before .table-fault .ensures .0, c .before .before .if1 .left, ← c .before .size-of .ensures, le-leb _ _ past)) (omega arith),
+  c .before .before .before .before .before .table-fault .ensures .1,
+)
 
 drive-of-requires : tie.Need-drive-of-requires
 drive-of-requires c κs =
@@ -55,8 +57,10 @@ same-length-3 c = search needs
 
 returns-3 : tie.Need-returns-3
 returns-3 c = (
-    let below : c .before .before .before .before .before .before .before .before .before .before .before .args .sector < c .before .before .before .size-of .result = omega arith in
-    accepts (λ k. refl) (rw (← c .before .before .before .before .before .before .before .table-fault .ensures .0, c .before .before .before .before .if1 .left, ← c .before .before .before .size-of .ensures, lt-leb _ _ below)) (rw (c .lying-on .ensures, c .before .drive-of .ensures)), c .before .before .before .before .before .before .before .table-fault .ensures .1)
+  let below : c .before .before .before .before .before .before .before .before .before .before .before .args .sector < c .before .before .before .size-of .result = omega arith in
+      accepts (λ k. refl) (rw (← c .before .before .before .before .before .before .before .table-fault .ensures .0, c .before .before .before .before .if1 .left, ← c .before .before .before .size-of .ensures, lt-leb _ _ below)) (rw (c .lying-on .ensures, c .before .drive-of .ensures)),
+  c .before .before .before .before .before .before .before .table-fault .ensures .1,
+)
 
 pub block-on-spec : {M : Type 1} → statement M
 block-on-spec =

@@ -22,7 +22,7 @@ same-length-2 : tie.Need-same-length-2
 same-length-2 c = search needs
 
 returns : tie.Need-returns
-returns c = ( fills-refuses (λ k. refl) _ (rw (← c .before .before .before .block-fault .ensures .0) (orElse-some _ _ (c .if1 .taken))) (c .if1 .taken), c .before .before .before .block-fault .ensures .1)
+returns c = (fills-refuses (λ k. refl) _ (rw (← c .before .before .before .block-fault .ensures .0) (orElse-some _ _ (c .if1 .taken))) (c .if1 .taken), c .before .before .before .block-fault .ensures .1)
 
 drive-of-requires : tie.Need-drive-of-requires
 drive-of-requires c κs =
@@ -45,10 +45,12 @@ same-length-4 c = search needs
 
 returns-2 : tie.Need-returns-2
 returns-2 c = (
-    let a = c .before .before .before .before .before .before .before .before .before .before .before .before .before .before .args in
-    let none = sym (c .before .before .before .before .before .before .before .before .before .block-fault .ensures .0) ∙ c .before .before .before .before .before .before .if1 .left in
-    let moved = rw (c .before .before .before .before .before .drive-of .ensures) at (c .before .before .before .move-in .ensures) in
-    keeps-refused (a .shape) (a .r) (now (a .table)) (now (a .scratch)) (a .block) none (moved .0) (moved .1) (omega arith), c .before .before .before .before .before .before .before .before .before .block-fault .ensures .1)
+  let a = c .before .before .before .before .before .before .before .before .before .before .before .before .before .before .args in
+      let none = sym (c .before .before .before .before .before .before .before .before .before .block-fault .ensures .0) ∙ c .before .before .before .before .before .before .if1 .left in
+      let moved = rw (c .before .before .before .before .before .drive-of .ensures) at (c .before .before .before .move-in .ensures) in
+      keeps-refused (a .shape) (a .r) (now (a .table)) (now (a .scratch)) (a .block) none (moved .0) (moved .1) (omega arith),
+  c .before .before .before .before .before .before .before .before .before .block-fault .ensures .1,
+)
 
 cast-t17 : tie.Need-cast-t17
 cast-t17 c =
@@ -64,10 +66,12 @@ same-length-6 c = search needs
 
 returns-3 : tie.Need-returns-3
 returns-3 c = (
-    let a = c .before .before .before .before .before .before .before .before .before .before .before .before .before .before .args in
-    let none = sym (c .before .before .before .before .before .before .before .before .before .block-fault .ensures .0) ∙ c .before .before .before .before .before .before .if1 .left in
-    let moved = rw (c .before .before .before .before .before .drive-of .ensures) at (c .before .before .before .move-in .ensures) in
-    keeps-accepted (a .shape) (a .r) (now (a .table)) (now (a .scratch)) (a .block) none (moved .0) (moved .1) (omega arith), c .before .before .before .before .before .before .before .before .before .block-fault .ensures .1)
+  let a = c .before .before .before .before .before .before .before .before .before .before .before .before .before .before .args in
+      let none = sym (c .before .before .before .before .before .before .before .before .before .block-fault .ensures .0) ∙ c .before .before .before .before .before .before .if1 .left in
+      let moved = rw (c .before .before .before .before .before .drive-of .ensures) at (c .before .before .before .move-in .ensures) in
+      keeps-accepted (a .shape) (a .r) (now (a .table)) (now (a .scratch)) (a .block) none (moved .0) (moved .1) (omega arith),
+  c .before .before .before .before .before .before .before .before .before .block-fault .ensures .1,
+)
 
 pub replace-spec : {M : Type 1} → statement M
 replace-spec =

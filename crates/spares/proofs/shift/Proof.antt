@@ -19,7 +19,7 @@ same-length : tie.Need-same-length
 same-length c = search needs
 
 returns : tie.Need-returns
-returns c = ( refuses (λ k. refl) _ (sym (c .before .before .before .block-fault .ensures .0)) (c .if1 .taken), c .before .before .before .block-fault .ensures .1)
+returns c = (refuses (λ k. refl) _ (sym (c .before .before .before .block-fault .ensures .0)) (c .if1 .taken), c .before .before .before .block-fault .ensures .1)
 
 drive-of-requires : tie.Need-drive-of-requires
 drive-of-requires c κs =
@@ -40,9 +40,11 @@ same-length-2 c = search needs
 
 returns-2 : tie.Need-returns-2
 returns-2 c = (
-    let a = c .before .before .before .before .before .before .before .before .before .args in
-    let value : c .shift-of .result ≡ shiftOf (driveOf (a .shape) (a .r)) (now (a .table)) (a .block) = rw (c .before .drive-of .ensures) at (c .shift-of .ensures) in
-    accepts (λ k. refl) (sym (c .before .before .before .before .before .block-fault .ensures .0) ∙ c .before .before .if1 .left) (ap By (read-again _ (c .shift-of .ok) ∙ value)), c .before .before .before .before .before .block-fault .ensures .1)
+  let a = c .before .before .before .before .before .before .before .before .before .args in
+      let value : c .shift-of .result ≡ shiftOf (driveOf (a .shape) (a .r)) (now (a .table)) (a .block) = rw (c .before .drive-of .ensures) at (c .shift-of .ensures) in
+      accepts (λ k. refl) (sym (c .before .before .before .before .before .block-fault .ensures .0) ∙ c .before .before .if1 .left) (ap By (read-again _ (c .shift-of .ok) ∙ value)),
+  c .before .before .before .before .before .block-fault .ensures .1,
+)
 
 pub shift-spec : {M : Type 1} → statement M
 shift-spec =

@@ -35,9 +35,10 @@ same-length : tie.Need-same-length Inv-loop μ-loop
 same-length c = search needs
 
 returns : tie.Need-returns Inv-loop μ-loop
-returns c =
-    (sym (window-fails (now (c .before .before .before .before .before .before .before .before .before .before .args .table)) (c .before .before .before .before .before .before .before .loop .from) (c .before .before .before .before .before .before .before .before .before .before .args .drive .spares) (sym (c .before .before .before .window-once .ensures .0) ∙ not-true _ (c .if2 .taken))),
-    c .before .before .before .window-once .ensures .1 ∙ c .before .before .before .before .before .before .before .loop .inv .2)
+returns c = (
+  sym (window-fails (now (c .before .before .before .before .before .before .before .before .before .before .args .table)) (c .before .before .before .before .before .before .before .loop .from) (c .before .before .before .before .before .before .before .before .before .before .args .drive .spares) (sym (c .before .before .before .window-once .ensures .0) ∙ not-true _ (c .if2 .taken))),
+  c .before .before .before .window-once .ensures .1 ∙ c .before .before .before .before .before .before .before .loop .inv .2,
+)
 
 add-from : tie.Need-add-from Inv-loop μ-loop
 add-from c = omega (arith, blocks-few (c .before .before .before .before .before .before .before .before .before .before .before .pre .0))
@@ -46,11 +47,12 @@ loop-less : tie.Need-loop-less Inv-loop μ-loop
 loop-less c = omega (arith, spares-some (c .before .before .before .before .before .before .before .before .before .before .before .pre .0))
 
 loop-again : tie.Need-loop-again Inv-loop μ-loop
-loop-again c =
-    (omega arith,
-    omega arith,
-    c .before .before .before .before .window-once .ensures .1 ∙ c .before .before .before .before .before .before .before .before .loop .inv .2,
-    window-next (now (c .before .before .before .before .before .before .before .before .before .before .before .args .table)) (c .before .before .before .before .before .before .before .before .loop .from) (c .before .before .before .before .before .before .before .before .before .before .before .args .drive .spares) (c .before .before .before .before .before .before .before .before .loop .inv .3) (sym (c .before .before .before .before .window-once .ensures .0) ∙ not-false _ (c .before .if2 .left)))
+loop-again c = (
+  omega arith,
+  omega arith,
+  c .before .before .before .before .window-once .ensures .1 ∙ c .before .before .before .before .before .before .before .before .loop .inv .2,
+  window-next (now (c .before .before .before .before .before .before .before .before .before .before .before .args .table)) (c .before .before .before .before .before .before .before .before .loop .from) (c .before .before .before .before .before .before .before .before .before .before .before .args .drive .spares) (c .before .before .before .before .before .before .before .before .loop .inv .3) (sym (c .before .before .before .before .window-once .ensures .0) ∙ not-false _ (c .before .if2 .left)),
+)
 
 same-length-2 : tie.Need-same-length-2 Inv-loop μ-loop
 same-length-2 c = c .before .before .loop .inv .1

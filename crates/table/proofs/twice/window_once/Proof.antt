@@ -48,9 +48,10 @@ same-length c = search needs
 
 returns : tie.Need-returns Inv-loop μ-loop
 returns c =
-    let t = now (c .before .before .before .before .before .before .before .before .before .before .before .before .before .before .args .table) in
-    (sym (every-fails (firstIn (c .before .before .before .before .before .before .before .before .before .before .before .before .before .before .args .from) (c .before .before .before .before .before .before .before .before .before .before .before .before .before .before .args .count) t) (length t) (c .before .before .before .before .before .before .before .loop .place) (c .before .before .before .before .before .before .loop-test .taken) (sym (c .before .before .before .mark-block .ensures .0 ∙ first-unmarked (c .before .before .before .before .before .before .before .loop .inv .2)) ∙ not-true _ (c .if1 .taken))),
-    beyond-next (c .before .before .before .before .before .before .before .loop .inv .2) (c .before .before .before .mark-block .ensures .1) ∙ c .before .before .before .before .before .before .before .loop .inv .3 ∙ ap (drop (c .before .before .before .before .before .before .before .before .before .before .before .before .before .before .args .count)) (c .before .before .before .before .before .before .before .before .before .before .clear-scratch .ensures) ∙ cleared-beyond (c .before .before .before .before .before .before .before .before .before .before .before .before .before .before .args .count) (now (c .before .before .before .before .before .before .before .before .before .before .before .before .before .before .args .scratch)))
+    let t = now (c .before .before .before .before .before .before .before .before .before .before .before .before .before .before .args .table) in (
+      sym (every-fails (firstIn (c .before .before .before .before .before .before .before .before .before .before .before .before .before .before .args .from) (c .before .before .before .before .before .before .before .before .before .before .before .before .before .before .args .count) t) (length t) (c .before .before .before .before .before .before .before .loop .place) (c .before .before .before .before .before .before .loop-test .taken) (sym (c .before .before .before .mark-block .ensures .0 ∙ first-unmarked (c .before .before .before .before .before .before .before .loop .inv .2)) ∙ not-true _ (c .if1 .taken))),
+      beyond-next (c .before .before .before .before .before .before .before .loop .inv .2) (c .before .before .before .mark-block .ensures .1) ∙ c .before .before .before .before .before .before .before .loop .inv .3 ∙ ap (drop (c .before .before .before .before .before .before .before .before .before .before .before .before .before .before .args .count)) (c .before .before .before .before .before .before .before .before .before .before .clear-scratch .ensures) ∙ cleared-beyond (c .before .before .before .before .before .before .before .before .before .before .before .before .before .before .args .count) (now (c .before .before .before .before .before .before .before .before .before .before .before .before .before .before .args .scratch)),
+    )
 
 add-place : tie.Need-add-place Inv-loop μ-loop
 add-place c = omega arith
@@ -59,21 +60,23 @@ loop-less : tie.Need-loop-less Inv-loop μ-loop
 loop-less c = omega arith
 
 loop-again : tie.Need-loop-again Inv-loop μ-loop
-loop-again c =
-    (omega arith,
-    omega arith,
-    marked-next (c .before .before .before .before .before .before .before .loop .inv .2) (c .before .before .before .mark-block .ensures .1),
-    beyond-next (c .before .before .before .before .before .before .before .loop .inv .2) (c .before .before .before .mark-block .ensures .1) ∙ c .before .before .before .before .before .before .before .loop .inv .3,
-    below-more _ _ (c .before .before .before .before .before .before .before .loop .inv .4) (sym (c .before .before .before .mark-block .ensures .0 ∙ first-unmarked (c .before .before .before .before .before .before .before .loop .inv .2)) ∙ not-false _ (c .if1 .left)))
+loop-again c = (
+  omega arith,
+  omega arith,
+  marked-next (c .before .before .before .before .before .before .before .loop .inv .2) (c .before .before .before .mark-block .ensures .1),
+  beyond-next (c .before .before .before .before .before .before .before .loop .inv .2) (c .before .before .before .mark-block .ensures .1) ∙ c .before .before .before .before .before .before .before .loop .inv .3,
+  below-more _ _ (c .before .before .before .before .before .before .before .loop .inv .4) (sym (c .before .before .before .mark-block .ensures .0 ∙ first-unmarked (c .before .before .before .before .before .before .before .loop .inv .2)) ∙ not-false _ (c .if1 .left)),
+)
 
 same-length-2 : tie.Need-same-length-2 Inv-loop μ-loop
 same-length-2 c = search needs
 
 returns-2 : tie.Need-returns-2 Inv-loop μ-loop
 returns-2 c =
-    let t = now (c .before .before .before .before .before .before .before .before .args .table) in
-    (sym (here-every (firstIn (c .before .before .before .before .before .before .before .before .args .from) (c .before .before .before .before .before .before .before .before .args .count) t) (length t) (λ k h. c .before .loop .inv .4 k (omega arith))),
-    c .before .loop .inv .3 ∙ ap (drop (c .before .before .before .before .before .before .before .before .args .count)) (c .before .before .before .before .clear-scratch .ensures) ∙ cleared-beyond (c .before .before .before .before .before .before .before .before .args .count) (now (c .before .before .before .before .before .before .before .before .args .scratch)))
+    let t = now (c .before .before .before .before .before .before .before .before .args .table) in (
+      sym (here-every (firstIn (c .before .before .before .before .before .before .before .before .args .from) (c .before .before .before .before .before .before .before .before .args .count) t) (length t) (λ k h. c .before .loop .inv .4 k (omega arith))),
+      c .before .loop .inv .3 ∙ ap (drop (c .before .before .before .before .before .before .before .before .args .count)) (c .before .before .before .before .clear-scratch .ensures) ∙ cleared-beyond (c .before .before .before .before .before .before .before .before .args .count) (now (c .before .before .before .before .before .before .before .before .args .scratch)),
+    )
 
 pub window-once-spec : {M : Type 1} → statement M
 window-once-spec =
