@@ -23,7 +23,7 @@
  * - `forced` is the language's own bool: a byte that is 0 or 1.
  *
  * What libboard.a asks of its place: an x86-64 processor with SSE2, the System V calling convention, the red zone
- * (during a call no interrupt may come in on the same stack), and memcpy. docs/FIRMWARE.md says more.
+ * (during a call no interrupt may come in on the same stack), memcpy and memset. docs/FIRMWARE.md says more.
  *
  * Two calls of the library are not here, since they hand back a part of what they were lent: image::data and
  * reading::data. The comments of tb_image_judge and tb_read_data say where the data lies.

@@ -16,6 +16,9 @@ const GAUGE: u32 = 6;
 // Spares at the end of each track.
 const SPARES: u32 = 2;
 
+// Numbers of scratch, one for each spare of the four tracks.
+const NUMBERS: usize = 8;
+
 // How many bytes a reading of the gauge has.
 const READING: u32 = 13;
 
@@ -44,7 +47,7 @@ fn refused(words: &[u8], fault: u32) {
 
 // Writes how the spares stand.
 fn tell_spares(table: &[u32]) {
-    match spares::census(drive(), SPARES, table) {
+    match spares::census(drive(), SPARES, table, &mut [0u32; NUMBERS]) {
         Counted::Counts(census) => {
             telling::number(b"Spares free: ", census.free);
             telling::number(b", in use as a primary: ", census.primary);
@@ -59,11 +62,14 @@ fn tell_spares(table: &[u32]) {
 // Writes where the gauge log lies.
 fn tell_place(words: &[u8], table: &[u32]) {
     telling::text(words);
-    match spares::sector_of(drive(), SPARES, table, GAUGE) {
+    match spares::sector_of(drive(), SPARES, table, &mut [0u32; NUMBERS], GAUGE) {
         Placed::At(sector) => telling::number(b" lies on sector ", sector),
         Placed::Refused(fault) => telling::number(b" is refused ", fault),
     }
-    telling::answers::located(b": ", spares::address_of(drive(), SPARES, table, GAUGE));
+    telling::answers::located(
+        b": ",
+        spares::address_of(drive(), SPARES, table, &mut [0u32; NUMBERS], GAUGE),
+    );
 }
 
 // The image of a track, with a reading of the gauge in the sector that starts at a byte.
@@ -90,8 +96,24 @@ fn tell_part(words: &[u8], offset: u32, part: &[u8]) {
 
 // Reads the gauge.
 fn tell_read<'a>(table: &[u32], home: &'a [u8], second: &'a [u8]) {
-    let part = reading::data(drive(), SPARES, table, GAUGE, home, second);
-    match reading::spot(drive(), SPARES, table, GAUGE, home, second) {
+    let part = reading::data(
+        drive(),
+        SPARES,
+        table,
+        &mut [0u32; NUMBERS],
+        GAUGE,
+        home,
+        second,
+    );
+    match reading::spot(
+        drive(),
+        SPARES,
+        table,
+        &mut [0u32; NUMBERS],
+        GAUGE,
+        home,
+        second,
+    ) {
         Spot::InHome(offset) => tell_part(b"Read from its home track, byte ", offset, part),
         Spot::InSpare(offset) => tell_part(b"Read from its spare's track, byte ", offset, part),
         Spot::Refused(fault) => {
@@ -103,7 +125,7 @@ fn tell_read<'a>(table: &[u32], home: &'a [u8], second: &'a [u8]) {
 
 // Writes how far a block was moved.
 fn tell_shift(table: &[u32], block: u32) {
-    match spares::shift(drive(), SPARES, table, block) {
+    match spares::shift(drive(), SPARES, table, &mut [0u32; NUMBERS], block) {
         Shifted::By(shift) => {
             telling::signed(b", shift ", shift);
             if shift == 0 {
@@ -124,7 +146,7 @@ fn tell_shift(table: &[u32], block: u32) {
 fn tell_replacement(block: u32, words: &[u8], table: &mut [u32]) {
     telling::number(b"Block ", block);
     telling::text(words);
-    match spares::replace(drive(), SPARES, table, block) {
+    match spares::replace(drive(), SPARES, table, &mut [0u32; NUMBERS], block) {
         Replaced::Place(place) => telling::number(b" goes to spare ", place),
         Replaced::Refused(fault) => telling::number(b" is refused ", fault),
     }

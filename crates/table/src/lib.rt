@@ -6,7 +6,7 @@ ghost use Rattle.seek.specs.Every.{allBelow};
 ghost use Rattle.layout.specs.Layouts.{sectorsPerTrack};
 ghost use Rattle.layout.specs.Steps.{Laid};
 ghost use Rattle.table.specs.Rules.{tableFault, blockFault};
-ghost use Rattle.table.specs.Scratch.{Scratched};
+ghost use Rattle.table.specs.Scratch.{scratchAfter, Scratched};
 ghost use Rattle.table.specs.Places.{tableLength, codeAt};
 ghost use Rattle.table.specs.Steps.{mayStand, obeys, Obeys, Countable, counted};
 ghost use Rattle.table.specs.Counting.{censusOf};
@@ -112,7 +112,7 @@ fn obeys_rules(drive: Drive, table: &[u32], scratch: &mut [u32]) -> bool
 // Refusal 1 for the drive's numbers, 7 for scratch that is too short, 11 for a table that breaks its rules, else 0. Past 7 the numbers of scratch for the spares are zeros. Only other crates call this.
 pub fn table_fault(shape: Shape, r: u32, table: &[u32], scratch: &mut [u32]) -> u32
     ensures { λ result. ⌜ result ≡ tableFault shape r (now (table .entry)) (now (scratch .entry)) ⌝ }
-    ensures { λ result. ⌜ Scratched shape r (now (scratch .entry)) (now (scratch .exit)) ⌝ }
+    ensures { λ result. ⌜ now (scratch .exit) ≡ scratchAfter shape r (now (scratch .entry)) ⌝ }
 {
     let fault = layout::drive_fault(shape, r);
     if fault != 0 {

@@ -24,7 +24,10 @@ fn none_replaced() -> [u32; 128] {
 fn try_with(r: u32, table: [u32; 128], block: u32) -> [u32; 128] {
     let mut after = table;
     telling::number(b"  replace block ", block);
-    telling::answers::replaced(b": ", spares::replace(drive(), r, &mut after, block));
+    telling::answers::replaced(
+        b": ",
+        spares::replace(drive(), r, &mut after, &mut [0u32; 8], block),
+    );
     telling::count_line(
         b"    descriptors that differ: ",
         comparing::differing(&after, &table),
@@ -57,15 +60,33 @@ fn try_words(table: [u32; 128]) {
 
 // Writes the census of a table.
 fn try_census(table: &[u32]) {
-    telling::answers::counted(b"  census: ", spares::census(drive(), 2, table));
+    telling::answers::counted(
+        b"  census: ",
+        spares::census(drive(), 2, table, &mut [0u32; 8]),
+    );
 }
 
 // Asks where a block lies and how far it was moved.
 fn try_block(table: &[u32], block: u32) {
     telling::number(b"  block ", block);
-    telling::answers::placed(b": ", spares::sector_of(drive(), 2, table, block));
+    telling::answers::placed(
+        b": ",
+        spares::sector_of(drive(), 2, table, &mut [0u32; 8], block),
+    );
     telling::number(b"  block ", block);
-    telling::answers::shifted(b": ", spares::shift(drive(), 2, table, block));
+    telling::answers::shifted(
+        b": ",
+        spares::shift(drive(), 2, table, &mut [0u32; 8], block),
+    );
+}
+
+// Asks for the block on a sector.
+fn try_sector(table: &[u32], sector: u32) {
+    telling::number(b"  sector ", sector);
+    telling::answers::named(
+        b": ",
+        spares::block_on(drive(), 2, table, &mut [0u32; 8], sector),
+    );
 }
 
 // Block 7 is replaced until no spare is left, and then no block is, whether it lies on a spare or at home.
@@ -82,8 +103,8 @@ fn try_life() {
     try_words(table);
     try_census(&table);
     try_block(&table, 7);
-    telling::answers::named(b"  sector 4: ", spares::block_on(drive(), 2, &table, 4));
-    telling::answers::named(b"  sector 13: ", spares::block_on(drive(), 2, &table, 13));
+    try_sector(&table, 4);
+    try_sector(&table, 13);
     let same = try_replace(table, 7);
     let same = try_replace(same, 0);
     let same = try_replace(same, 1);

@@ -8,20 +8,29 @@ fn drive() -> Shape {
 
 // Writes the census of a table.
 fn try_census(table: &[u32]) {
-    telling::answers::counted(b"  census: ", spares::census(drive(), 1, table));
+    telling::answers::counted(
+        b"  census: ",
+        spares::census(drive(), 1, table, &mut [0u32; 1_024]),
+    );
 }
 
 // Asks for the block on a sector.
 fn try_sector(table: &[u32], sector: u32) {
     telling::number(b"  sector ", sector);
-    telling::answers::named(b": ", spares::block_on(drive(), 1, table, sector));
+    telling::answers::named(
+        b": ",
+        spares::block_on(drive(), 1, table, &mut [0u32; 1_024], sector),
+    );
 }
 
 // Replaces a block, and says how many descriptors differ after it; hands back the table.
 fn try_replace(table: [u32; 1_024], block: u32) -> [u32; 1_024] {
     let mut after = table;
     telling::number(b"  replace block ", block);
-    telling::answers::replaced(b": ", spares::replace(drive(), 1, &mut after, block));
+    telling::answers::replaced(
+        b": ",
+        spares::replace(drive(), 1, &mut after, &mut [0u32; 1_024], block),
+    );
     telling::count_line(
         b"    descriptors that differ: ",
         comparing::differing(&after, &table),
@@ -32,9 +41,15 @@ fn try_replace(table: [u32; 1_024], block: u32) -> [u32; 1_024] {
 // Asks where a block lies and how far it was moved.
 fn try_block(table: &[u32], block: u32) {
     telling::number(b"  block ", block);
-    telling::answers::placed(b": ", spares::sector_of(drive(), 1, table, block));
+    telling::answers::placed(
+        b": ",
+        spares::sector_of(drive(), 1, table, &mut [0u32; 1_024], block),
+    );
     telling::number(b"  block ", block);
-    telling::answers::shifted(b": ", spares::shift(drive(), 1, table, block));
+    telling::answers::shifted(
+        b": ",
+        spares::shift(drive(), 1, table, &mut [0u32; 1_024], block),
+    );
 }
 
 // The first table of a list.

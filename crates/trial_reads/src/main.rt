@@ -20,7 +20,10 @@ fn drive() -> Shape {
 // Replaces a block of the paper's drive.
 fn try_replace(table: &mut [u32], block: u32) {
     telling::number(b"replace block ", block);
-    telling::answers::replaced(b": ", spares::replace(drive(), 2, table, block));
+    telling::answers::replaced(
+        b": ",
+        spares::replace(drive(), 2, table, &mut [0u32; 8], block),
+    );
 }
 
 // The paper's table: blocks 7, 8 and 6 are replaced.
@@ -37,7 +40,10 @@ fn paper_table() -> [u32; 128] {
     telling::descriptor(b" ", table[4]);
     telling::descriptor(b" ", table[5]);
     telling::end();
-    telling::answers::shifted(b"block 6: ", spares::shift(drive(), 2, &table, BLOCK));
+    telling::answers::shifted(
+        b"block 6: ",
+        spares::shift(drive(), 2, &table, &mut [0u32; 8], BLOCK),
+    );
     table
 }
 
@@ -66,10 +72,17 @@ fn spare_track(block: u32, forced: bool) -> [u8; 2_650] {
 
 // Reads a block of a drive from two track images: the verdict, where its data begins, and how the data begins.
 fn try_read_on<'a>(shape: Shape, table: &[u32], block: u32, home: &'a [u8], spare: &'a [u8]) {
+    let mut scratch = [1u32; 8];
     telling::number(b"  block ", block);
-    telling::answers::judged(b": ", reading::judge(shape, 2, table, block, home, spare));
-    telling::answers::spotted(b"    ", reading::spot(shape, 2, table, block, home, spare));
-    let part = reading::data(shape, 2, table, block, home, spare);
+    telling::answers::judged(
+        b": ",
+        reading::judge(shape, 2, table, &mut scratch, block, home, spare),
+    );
+    telling::answers::spotted(
+        b"    ",
+        reading::spot(shape, 2, table, &mut scratch, block, home, spare),
+    );
+    let part = reading::data(shape, 2, table, &mut scratch, block, home, spare);
     telling::count(b"    data bytes: ", part.len());
     telling::bytes(b", the first:", comparing::first_bytes(part, 2));
 }

@@ -1,38 +1,52 @@
-// The limit of spares: 1,024 and one more in several shapes, with the table's length and the census of the first table; lengths that are no table's; and groups that are wrong.
+// The limit of spares: 65,536 and the next that a drive can have, in several shapes, with the table's length, the census of the first table and what is left of its scratch; lengths that are no table's; and groups that are wrong.
 use shape::Shape;
+
+// Writes the census of a table, and how many numbers of a scratch that was full of ones changed.
+fn try_census(shape: Shape, r: u32, table: &[u32]) {
+    let mut scratch = [1u32; 65_539];
+    telling::answers::counted(b"  census: ", spares::census(shape, r, table, &mut scratch));
+    telling::count_line(
+        b"    numbers of the scratch changed: ",
+        comparing::changed(&scratch, 1),
+    );
+}
 
 // Writes a drive, and its first table with no bad sector: the length, how many places of the room it changed, and its census.
 fn try_drive(shape: Shape, r: u32) {
     telling::shapes::shape(b"shape ", shape);
     telling::number(b", spares of a track ", r);
     telling::end();
-    let mut room = [7u32; 1_152];
+    let mut room = [7u32; 65_664];
     let answer = spares::first_table(shape, r, &[], &mut room);
     telling::answers::written(b"  first table: ", answer);
     telling::count_line(b"  places changed: ", comparing::changed(&room, 7));
-    let table = comparing::first(&room, telling::answers::long_of(answer));
-    telling::answers::counted(b"  census: ", spares::census(shape, r, table));
+    try_census(
+        shape,
+        r,
+        comparing::first(&room, telling::answers::long_of(answer)),
+    );
 }
 
-// Writes the census of so many free descriptors, for 1,024 spares.
+// Writes the census of so many free descriptors, for 65,536 spares.
 fn try_free(shape: Shape, table: &[u32]) {
-    telling::count(b"  census of ", table.len());
-    telling::answers::counted(b" free: ", spares::census(shape, 1, table));
+    telling::count_line(b"  a table of free descriptors: ", table.len());
+    try_census(shape, 1, table);
 }
 
 // A room one place too short, and tables one descriptor too short and too long.
 fn try_lengths() {
-    let shape = telling::shapes::ungrouped(1_024, 1, 2);
-    let mut room = [7u32; 1_023];
+    let shape = telling::shapes::ungrouped(4_096, 16, 2);
+    let mut room = [7u32; 65_535];
     telling::line(b"the first shape again");
     telling::answers::written(
-        b"  first table in 1023 places: ",
+        b"  first table in 65535 places: ",
         spares::first_table(shape, 1, &[], &mut room),
     );
     telling::count_line(b"  places changed: ", comparing::changed(&room, 7));
-    try_free(shape, &[0u32; 1_023]);
-    try_free(shape, &[0u32; 1_024]);
-    try_free(shape, &[0u32; 1_025]);
+    let free = [0u32; 65_537];
+    try_free(shape, comparing::first(&free, 65_535));
+    try_free(shape, comparing::first(&free, 65_536));
+    try_free(shape, &free);
 }
 
 // A table of eight spares with none in use.
@@ -42,8 +56,50 @@ fn eight_free() -> [u32; 128] {
     table
 }
 
-// The calls of a revectored drive of eight spares in groups, how many descriptors a replacement alters, and a census of no table.
-fn try_groups(groups: u32, tracks: u32, offset: u32, table: &mut [u32]) {
+// Asks a revectored drive of eight spares where block 8 lies, and what lies on a sector.
+fn try_asking(shape: Shape, table: &[u32], scratch: &mut [u32]) {
+    telling::answers::placed(
+        b"  block 8: ",
+        spares::sector_of(shape, 1, table, scratch, 8),
+    );
+    telling::answers::located(
+        b"  block 8: ",
+        spares::address_of(shape, 1, table, scratch, 8),
+    );
+    telling::answers::shifted(b"  block 8: ", spares::shift(shape, 1, table, scratch, 8));
+    telling::answers::named(
+        b"  sector 10: ",
+        spares::block_on(shape, 1, table, scratch, 10),
+    );
+    telling::answers::named(
+        b"  cylinder 0, head 2, sector 0: ",
+        spares::block_at(shape, 1, table, scratch, 0, 2, 0),
+    );
+}
+
+// Replaces block 8, says how many descriptors that alters and where the block then lies, and counts the descriptors, and those of no table.
+fn try_replacing(shape: Shape, table: &mut [u32], scratch: &mut [u32]) {
+    telling::answers::replaced(
+        b"  replace block 8: ",
+        spares::replace(shape, 1, table, scratch, 8),
+    );
+    telling::count_line(
+        b"    descriptors that differ: ",
+        comparing::differing(table, &eight_free()),
+    );
+    telling::answers::located(
+        b"  block 8: ",
+        spares::address_of(shape, 1, table, scratch, 8),
+    );
+    telling::answers::counted(b"  census: ", spares::census(shape, 1, table, scratch));
+    telling::answers::counted(
+        b"  census of no table: ",
+        spares::census(shape, 1, &[], scratch),
+    );
+}
+
+// The calls of a revectored drive of eight spares in groups, and what they leave of one scratch.
+fn try_groups(groups: u32, tracks: u32, offset: u32) {
     let shape = Shape {
         cylinders: 2,
         heads: 4,
@@ -53,30 +109,19 @@ fn try_groups(groups: u32, tracks: u32, offset: u32, table: &mut [u32]) {
         offset,
     };
     try_drive(shape, 1);
-    telling::answers::placed(b"  block 8: ", spares::sector_of(shape, 1, table, 8));
-    telling::answers::located(b"  block 8: ", spares::address_of(shape, 1, table, 8));
-    telling::answers::shifted(b"  block 8: ", spares::shift(shape, 1, table, 8));
-    telling::answers::named(b"  sector 10: ", spares::block_on(shape, 1, table, 10));
-    telling::answers::named(
-        b"  cylinder 0, head 2, sector 0: ",
-        spares::block_at(shape, 1, table, 0, 2, 0),
-    );
-    telling::answers::replaced(b"  replace block 8: ", spares::replace(shape, 1, table, 8));
-    telling::count_line(
-        b"    descriptors that differ: ",
-        comparing::differing(table, &eight_free()),
-    );
-    telling::answers::located(b"  block 8: ", spares::address_of(shape, 1, table, 8));
-    telling::answers::counted(b"  census: ", spares::census(shape, 1, table));
-    telling::answers::counted(b"  census of no table: ", spares::census(shape, 1, &[]));
+    let mut table = eight_free();
+    let mut scratch = [1u32; 8];
+    try_asking(shape, &table, &mut scratch);
+    try_replacing(shape, &mut table, &mut scratch);
+    telling::list(b"  scratch after all: ", &scratch);
 }
 
 fn main() {
-    try_drive(telling::shapes::ungrouped(1_024, 1, 2), 1);
+    try_drive(telling::shapes::ungrouped(4_096, 16, 2), 1);
+    try_drive(telling::shapes::ungrouped(1_986, 33, 2), 1);
+    try_drive(telling::shapes::ungrouped(4_096, 1, 17), 16);
     try_drive(telling::shapes::ungrouped(1_025, 1, 2), 1);
-    try_drive(telling::shapes::ungrouped(16, 64, 3), 1);
     try_drive(telling::shapes::ungrouped(8, 4, 64), 32);
-    try_drive(telling::shapes::ungrouped(5, 5, 64), 41);
     try_drive(telling::shapes::ungrouped(4_096, 64, 64), 63);
     try_drive(telling::shapes::ungrouped(129, 1, 2), 1);
     try_drive(telling::shapes::ungrouped(128, 1, 2), 1);
@@ -84,8 +129,8 @@ fn main() {
     try_drive(telling::shapes::ungrouped(1, 1, 2), 0);
     try_drive(telling::shapes::ungrouped(1, 1, 2), 2);
     try_lengths();
-    try_groups(2, 2, 3, &mut eight_free());
-    try_groups(2, 2, 5, &mut eight_free());
-    try_groups(2, 3, 0, &mut eight_free());
-    try_groups(65_536, 65_536, 0, &mut eight_free());
+    try_groups(2, 2, 3);
+    try_groups(2, 2, 5);
+    try_groups(2, 3, 0);
+    try_groups(65_536, 65_536, 0);
 }

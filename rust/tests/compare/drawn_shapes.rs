@@ -7,6 +7,8 @@ use crate::model;
 
 /// The most spares of a drawn drive that is asked again and again.
 pub const FEW_SPARES: u32 = 1_024;
+/// A customer's drive and its r: 14,080 spares, and 732,160 blocks, 52 of a track.
+pub const CUSTOMERS: (Shape, u32) = (Shape::ungrouped(880, 16, 53), 1);
 
 /// The model's form of a shape.
 pub fn paper(shape: Shape) -> model::shape::Shape {
@@ -142,7 +144,7 @@ impl Draw {
                 let most = FEW_SPARES / (r * heads);
                 (shape(self.within(1, most.max(1)), heads, sectors), r)
             }
-            // More than 32 blocks a spare: one bit of the scratch stands for two of them.
+            // 32 blocks a spare or more: past 32 one bit of the scratch stands for two blocks.
             41..=80 => {
                 let (cylinders, heads) = (self.within(1, 5), self.within(1, 6));
                 (shape(cylinders, heads, self.within(33, 64)), 1)
@@ -155,14 +157,14 @@ impl Draw {
         }
     }
 
-    /// T × r from just above [`FEW_SPARES`] to some thousands, or the customer's drive of 14,080.
+    /// T × r from just above [`FEW_SPARES`] to some thousands, or the customer's drive.
     fn many_spares(&mut self) -> (Shape, u32) {
         if self.one_in(3) {
             return self.of_these(&[
                 (shape(41, 25, 4), 1),
                 (shape(205, 1, 8), 5),
                 (shape(25, 1, 42), 41),
-                (shape(880, 16, 53), 1),
+                CUSTOMERS,
             ]);
         }
         let sectors = self.within(2, 64);

@@ -226,7 +226,9 @@ fn spares_of_1025() {
 
 #[test]
 fn every_spare_used_then_one_more() {
-    for (drive_shape, r) in [(shape(64, 16, 3), 1), (shape(2, 2, 5), 2), (shape(16, 4, 64), 16)] {
+    let drives =
+        [(shape(64, 16, 3), 1), (shape(2, 2, 5), 2), (shape(16, 4, 64), 16), (shape(41, 25, 4), 1)];
+    for (drive_shape, r) in drives {
         let drive = drive(paper(drive_shape), r).expect("a drive in its range");
         let (mut ours, mut theirs) = (empty_table(drive), empty_table(drive));
         let mut scratch = vec![u32::MAX; drive.spares() as usize];
@@ -250,8 +252,9 @@ fn every_spare_used_then_one_more() {
             assert_eq!(refused, Err(Refusal::NoSpare));
             assert_eq!((&ours, &scratch), (&full, &their_scratch));
         }
+        scratch.fill(u32::MAX);
         let census = spares::census(drive_shape, r, &ours, &mut scratch);
-        assert_eq!(census.map(|count| count.free), Ok(0));
+        assert_eq!((census.map(|count| count.free), &scratch), (Ok(0), &their_scratch));
     }
 }
 
@@ -280,10 +283,10 @@ fn the_search_goes_round_the_table() {
     let drive = drive(paper(drive_shape), 1).expect("384 spares");
     for free in 0..drive.spares() {
         for block in [0, 1, 63, 126, 127, 128, 129, 200, 255, 256, 383] {
-            let mut table = vec![word(UNUSABLE, 0); 384];
+            let (mut table, mut scratch) = (vec![word(UNUSABLE, 0); 384], [u32::MAX; 384]);
             table[free as usize] = 0;
-            let place = spares::replace(drive_shape, 1, &mut table, &mut [0; 384], block);
-            assert_eq!(place, Ok(free), "block {block}");
+            let place = spares::replace(drive_shape, 1, &mut table, &mut scratch, block);
+            assert_eq!((place, scratch), (Ok(free), [0; 384]), "block {block}");
             assert_eq!(table[free as usize], descriptor(drive, free, block));
         }
     }

@@ -3,7 +3,7 @@
 use tautberry::{format, image, page, shape as shapes, skip, skipped, spares, Refusal, Shape};
 
 use crate::drawn_nights::Drawn;
-use crate::drawn_shapes::{grouped, paper, shape};
+use crate::drawn_shapes::{grouped, paper, shape, CUSTOMERS};
 use crate::model::{self, skipping};
 use crate::nights::formatted;
 use crate::shape_calls::{every_call_gives, every_table_call_gives, Rest};
@@ -95,12 +95,14 @@ fn one_group_leaves_the_angle_at_the_sector() {
 #[test]
 fn the_angle_of_a_replaced_block() {
     let drive = two_groups();
-    let Rest { mut table, mut scratch, .. } = Rest::proper(drive, 2);
+    let Rest { mut table, scratch, .. } = Rest::proper(drive, 2);
     for at in [(0, 2, 0, 3), (0, 2, 3, 1)] {
-        let library = spares::address_of(drive, 2, &table, &mut scratch, 6);
+        let (mut ours, mut theirs) = (scratch.clone(), scratch.clone());
+        let library = spares::address_of(drive, 2, &table, &mut ours, 6);
         assert_eq!(library.map(numbers), Ok(at));
-        let model = model::spares::address_of(paper(drive), 2, &table, &mut scratch, 6);
+        let model = model::spares::address_of(paper(drive), 2, &table, &mut theirs, 6);
         assert_eq!(model, Ok(at));
+        assert_eq!(ours, theirs);
         table[4] = 0x2000_0006;
     }
 }
@@ -139,7 +141,7 @@ fn table_of(words: [u32; 8]) -> Vec<u32> {
 /// A drive and its r.
 type Drive = (Shape, u32);
 
-/// C 2, H 2, S 5, whose table has 8 spares where r is 2.
+/// C 2, H 2, S 5, r 2.
 const EIGHT_SPARES: Drive = (Shape::ungrouped(2, 2, 5), 2);
 
 /// Scratch for a drive, full of ones.
@@ -152,32 +154,40 @@ fn scratch((shape, r): Drive) -> Vec<u32> {
 fn replaces(drive: Drive, table: &mut Vec<u32>, block: u32, expected: Result<u32, u32>) {
     let (shape, r) = drive;
     let mut theirs = table.clone();
-    let (mut ours_lent, mut theirs_lent) = (scratch(drive), scratch(drive));
-    let library = spares::replace(shape, r, table, &mut ours_lent, block);
-    let model = model::spares::replace(paper(shape), r, &mut theirs, &mut theirs_lent, block);
+    let (mut our_scratch, mut their_scratch) = (scratch(drive), scratch(drive));
+    let library = spares::replace(shape, r, table, &mut our_scratch, block);
+    let model = model::spares::replace(paper(shape), r, &mut theirs, &mut their_scratch, block);
     assert_eq!(library.map_err(Refusal::number), expected, "block {block}");
     assert_eq!(model, expected, "block {block}");
-    assert!(*table == theirs && ours_lent == theirs_lent, "block {block}");
+    assert!(*table == theirs && our_scratch == their_scratch, "block {block}");
 }
 
-/// Library and model must find the block on this sector, so many cylinders from its home.
+/// Library and model must find the block on this sector, so many cylinders from its home, and leave the same
+/// scratch.
 fn lies_on(drive: Drive, table: &[u32], block: u32, sector: u32, shift: i32) {
     let (shape, r) = drive;
-    let lent = &mut scratch(drive);
-    assert_eq!(spares::sector_of(shape, r, table, lent, block), Ok(sector));
-    assert_eq!(spares::shift(shape, r, table, lent, block), Ok(shift));
-    assert_eq!(model::spares::sector_of(paper(shape), r, table, lent, block), Ok(sector));
-    assert_eq!(model::spares::shift(paper(shape), r, table, lent, block), Ok(shift));
+    let (mut ours, mut theirs) = (scratch(drive), scratch(drive));
+    assert_eq!(spares::sector_of(shape, r, table, &mut ours, block), Ok(sector));
+    let model = model::spares::sector_of(paper(shape), r, table, &mut theirs, block);
+    assert_eq!(model, Ok(sector));
+    assert!(ours == theirs, "block {block}");
+
+    let (mut ours, mut theirs) = (scratch(drive), scratch(drive));
+    assert_eq!(spares::shift(shape, r, table, &mut ours, block), Ok(shift));
+    let model = model::spares::shift(paper(shape), r, table, &mut theirs, block);
+    assert_eq!(model, Ok(shift));
+    assert!(ours == theirs, "block {block}");
 }
 
-/// Library and model must count so many descriptors of code 0, 2, 3, 4 and 8.
+/// Library and model must count so many descriptors of code 0, 2, 3, 4 and 8, and leave the same scratch.
 fn counts(drive: Drive, table: &[u32], expected: [u32; 5]) {
     let (shape, r) = drive;
-    let lent = &mut scratch(drive);
+    let (mut ours, mut theirs) = (scratch(drive), scratch(drive));
     let [free, primary, elsewhere, unusable, null] = expected;
     let census = spares::Census { free, primary, elsewhere, unusable, null };
-    assert_eq!(spares::census(shape, r, table, lent), Ok(census));
-    assert_eq!(model::spares::census(paper(shape), r, table, lent), Ok(expected));
+    assert_eq!(spares::census(shape, r, table, &mut ours), Ok(census));
+    assert_eq!(model::spares::census(paper(shape), r, table, &mut theirs), Ok(expected));
+    assert!(ours == theirs);
 }
 
 /// Three blocks are replaced, and then the third of them again.
@@ -236,9 +246,6 @@ fn the_last_good_spare() {
         assert_eq!(table, table_of(words), "place {place}");
     }
 }
-
-/// C 880, H 16, S 53, r 1: 14,080 spares and 732,160 blocks, 52 of a track.
-const CUSTOMERS: Drive = (Shape::ungrouped(880, 16, 53), 1);
 
 /// Library and model must make this table of the customer's drive, which has no null descriptor.
 fn first_table_of_the_customers_drive(list: &[u32], expected: &[u32]) -> Vec<u32> {

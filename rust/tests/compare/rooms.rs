@@ -149,8 +149,9 @@ fn the_two_places_of_a_second_replacement() {
     let mut room = table(&mut Draw::of(7));
     let mut expected = room.clone();
     (expected.lent()[4], expected.lent()[6]) = (0x4000_0000, 0x3000_0007);
-    assert_eq!(spares::replace(drive, 2, room.lent(), &mut [0; 8], 7), Ok(6));
-    assert_eq!(room, expected);
+    let mut scratch = [u32::MAX; 8];
+    assert_eq!(spares::replace(drive, 2, room.lent(), &mut scratch, 7), Ok(6));
+    assert_eq!((room, scratch), (expected, [0; 8]));
 }
 
 #[test]

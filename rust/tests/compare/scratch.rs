@@ -3,14 +3,14 @@
 
 use tautberry::Shape;
 
-use crate::drawn_shapes::{paper, shape};
+use crate::drawn_shapes::{paper, shape, CUSTOMERS};
 use crate::drawn_tables::descriptor;
 use crate::model::spares::{drive, word, UNUSABLE};
 use crate::shape_calls::{every_table_call_gives, Rest};
 
 /// Drives with one table block, with a part of a second one, and the customer's.
 fn drives() -> [(Shape, u32); 3] {
-    [(shape(2, 2, 5), 2), (shape(4, 9, 64), 4), (shape(880, 16, 53), 1)]
+    [(shape(2, 2, 5), 2), (shape(4, 9, 64), 4), CUSTOMERS]
 }
 
 /// What every call accepts on a drive, with so many numbers more of scratch than spares.
