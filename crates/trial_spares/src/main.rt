@@ -56,49 +56,47 @@ fn eight_free() -> [u32; 128] {
     table
 }
 
-// Asks a revectored drive of eight spares where block 8 lies, and what lies on a sector.
-fn try_asking(shape: Shape, table: &[u32], scratch: &mut [u32]) {
+// Asks a revectored drive of eight spares where block 8 lies.
+fn try_block(shape: Shape, table: &[u32]) {
     telling::answers::placed(
         b"  block 8: ",
-        spares::sector_of(shape, 1, table, scratch, 8),
+        spares::sector_of(shape, 1, table, &mut [1u32; 8], 8),
     );
     telling::answers::located(
         b"  block 8: ",
-        spares::address_of(shape, 1, table, scratch, 8),
+        spares::address_of(shape, 1, table, &mut [1u32; 8], 8),
     );
-    telling::answers::shifted(b"  block 8: ", spares::shift(shape, 1, table, scratch, 8));
-    telling::answers::named(
-        b"  sector 10: ",
-        spares::block_on(shape, 1, table, scratch, 10),
-    );
-    telling::answers::named(
-        b"  cylinder 0, head 2, sector 0: ",
-        spares::block_at(shape, 1, table, scratch, 0, 2, 0),
+    telling::answers::shifted(
+        b"  block 8: ",
+        spares::shift(shape, 1, table, &mut [1u32; 8], 8),
     );
 }
 
-// Replaces block 8, says how many descriptors that alters and where the block then lies, and counts the descriptors, and those of no table.
-fn try_replacing(shape: Shape, table: &mut [u32], scratch: &mut [u32]) {
+// Asks it what lies on a sector, by its number and by its address.
+fn try_sector(shape: Shape, table: &[u32]) {
+    telling::answers::named(
+        b"  sector 10: ",
+        spares::block_on(shape, 1, table, &mut [1u32; 8], 10),
+    );
+    telling::answers::named(
+        b"  cylinder 0, head 2, sector 0: ",
+        spares::block_at(shape, 1, table, &mut [1u32; 8], 0, 2, 0),
+    );
+}
+
+// Replaces block 8, and says how many descriptors that alters.
+fn try_replace(shape: Shape, table: &mut [u32]) {
     telling::answers::replaced(
         b"  replace block 8: ",
-        spares::replace(shape, 1, table, scratch, 8),
+        spares::replace(shape, 1, table, &mut [1u32; 8], 8),
     );
     telling::count_line(
         b"    descriptors that differ: ",
         comparing::differing(table, &eight_free()),
     );
-    telling::answers::located(
-        b"  block 8: ",
-        spares::address_of(shape, 1, table, scratch, 8),
-    );
-    telling::answers::counted(b"  census: ", spares::census(shape, 1, table, scratch));
-    telling::answers::counted(
-        b"  census of no table: ",
-        spares::census(shape, 1, &[], scratch),
-    );
 }
 
-// The calls of a revectored drive of eight spares in groups, and what they leave of one scratch.
+// The calls of a revectored drive of eight spares in groups, and a census of no table.
 fn try_groups(groups: u32, tracks: u32, offset: u32) {
     let shape = Shape {
         cylinders: 2,
@@ -110,10 +108,12 @@ fn try_groups(groups: u32, tracks: u32, offset: u32) {
     };
     try_drive(shape, 1);
     let mut table = eight_free();
-    let mut scratch = [1u32; 8];
-    try_asking(shape, &table, &mut scratch);
-    try_replacing(shape, &mut table, &mut scratch);
-    telling::list(b"  scratch after all: ", &scratch);
+    try_block(shape, &table);
+    try_sector(shape, &table);
+    try_replace(shape, &mut table);
+    try_block(shape, &table);
+    try_census(shape, 1, &table);
+    try_census(shape, 1, &[]);
 }
 
 fn main() {
