@@ -1,7 +1,7 @@
 -- The checks of a table and its scratch give exactly the numbers of their rows, and show what they check where they give none.
 -- Assumes nothing.
 use Prim.Native.Nat.{ℕ, _<_, _≤_}
-use mathlib.Core.Path.{_≡_, sym, _∙_}
+use mathlib.Core.Path.{_≡_}
 use mathlib.Core.List.{List}
 use native.Mathlib.Omega.{arith}
 use lib.ListN.{length, drop, replicate, length-replicate}
@@ -9,7 +9,7 @@ use borrow.Author.Tests.{lt-leb, le-ltb}
 use Rattle.paper.specs.Refusals.{noRoom, badTable, noSuchBlock}
 use Rattle.paper.specs.Promise.{written}
 use Rattle.paper.specs.Exactly.{Exactly, When}
-use Rattle.paper.proofs.Chain.{orElse-first, orElse-next, answer-refused, answer-accepted}
+use Rattle.paper.proofs.Chain.{orElse-first, orElse-next, answer-accepted}
 use Rattle.paper.proofs.Rows.{tells-le, tells-lt, passed-not, not-over, below-shows, row, rows}
 use Rattle.shape.specs.declared.Shape.{Shape}
 use Rattle.layout.specs.Layouts.{driveOf, driveFault, DriveJudged}
@@ -39,11 +39,7 @@ module _ (shape : Shape) (r : ℕ) (scratch : List ℕ) where
   pub scratch-enough : scratchFault shape r scratch ≡ 0 → Enough shape r scratch
   scratch-enough none = not-over (length scratch) (driveOf shape r .spares) noRoom (omega arith) (orElse-next (driveFault shape r) _ none)
 
-  -- refused by 1 or by this 7, the scratch is as it was
-  pub scratch-kept : (k : ℕ) → scratchFault shape r scratch ≡ k → (k ≡ 0 → ⊥) → Scratched shape r scratch scratch
-  scratch-kept k is some = sym (answer-refused (scratchFault shape r scratch) (λ fault. scratch) _ (λ none. some (sym is ∙ none)))
-
-  -- past them, what stands beyond the numbers for the spares after a walk stands when these are cleared
+  -- past 1 and this 7, what stands beyond the numbers for the spares after a walk stands when these are cleared
   pub scratch-cleared :
       (walked : List ℕ) {left : List ℕ} → scratchFault shape r scratch ≡ 0 → drop (driveOf shape r .spares) walked ≡ drop (driveOf shape r .spares) scratch →
       left ≡ written (replicate (driveOf shape r .spares) 0) walked → Scratched shape r scratch left

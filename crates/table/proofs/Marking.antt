@@ -13,7 +13,7 @@ use borrow.Author.Tests.{le-leb, lt-ltb, ne-eqb}
 use Rattle.paper.specs.Checks.{pick}
 use Rattle.paper.specs.Promise.{written}
 use Rattle.paper.proofs.Cases.{byBool, byLt, byEq}
-use Rattle.paper.proofs.Rows.{tells-le, tells-lt, and-left, and-right}
+use Rattle.paper.proofs.Rows.{tells-le, tells-lt, tells-both, and-left, and-right}
 use Rattle.bits.specs.Bits.{numberBits, bitAt, withBit}
 use Rattle.bits.proofs.Marks.{bit-on, bit-other, none-on}
 use Rattle.seek.specs.Every.{allBelow}
@@ -27,10 +27,7 @@ use Rattle.table.proofs.Once.{first-free}
 
 -- the number of a block of the window is one of the window's
 window-slot : (from count b : ℕ) → inWindow from count b ≡ true → (from ≤ b / numberBits) × (b / numberBits - from < count)
-window-slot from count b e = (
-  tells-le from (b / numberBits) .holds (and-left (leb from (b / numberBits)) (ltb (b / numberBits - from) count) e),
-  tells-lt (b / numberBits - from) count .holds (and-right (leb from (b / numberBits)) (ltb (b / numberBits - from) count) e),
-)
+window-slot from count b = tells-both (tells-le from (b / numberBits)) (tells-lt (b / numberBits - from) count) .holds
 
 pub slot-in-window : (from count b : ℕ) → from ≤ b / numberBits → b / numberBits - from < count → inWindow from count b ≡ true
 slot-in-window from count b least most = rw (le-leb from (b / numberBits) least, lt-ltb (b / numberBits - from) count most)

@@ -9,14 +9,14 @@ use lib.ListN.{length}
 use denote.Ref.{now}
 use borrow.Author.Tests.{lt-ltb, le-ltb, not-true, not-false}
 use Rattle.paper.specs.Refusals.{noRoom}
-use Rattle.paper.proofs.Chain.{orElse-some}
+use Rattle.paper.proofs.Chain.{orElse-some, answer-refused}
 use Rattle.layout.specs.declared.Drive.{Drive}
 use Rattle.layout.specs.Layouts.{driveOf}
 use Rattle.layout.proofs.Exact.{drive-shows}
 use Rattle.layout.proofs.Layings.{laid}
 use Rattle.table.specs.Scratch.{scratchFault}
 use Rattle.table.specs.Steps.{obeys}
-use Rattle.table.proofs.Exact.{scratch-kept, scratch-cleared}
+use Rattle.table.proofs.Exact.{scratch-cleared}
 use Rattle.table.proofs.table_fault.Statement.{statement}
 use Rattle.table.proofs.table_fault.Tie as tie
 
@@ -27,7 +27,7 @@ returns : tie.Need-returns
 returns c =
     let a = c .before .before .before .before .args in
     let one : scratchFault (a .shape) (a .r) (now (a .scratch)) ≡ c .before .drive-fault .result = rw (← c .before .drive-fault .ensures) (orElse-some _ _ (c .if1 .taken)) in
-    (rw one (sym (orElse-some _ _ (c .if1 .taken))), scratch-kept (a .shape) (a .r) (now (a .scratch)) _ one (c .if1 .taken))
+    (rw one (sym (orElse-some _ _ (c .if1 .taken))), sym (answer-refused _ _ _ (λ none. c .if1 .taken (sym one ∙ none))))
 
 drive-of-requires : tie.Need-drive-of-requires
 drive-of-requires c κs = drive-shows _ _ (sym (c .before .drive-fault .ensures) ∙ c .if1 .left)
@@ -40,7 +40,7 @@ returns-2 c =
     let a = c .before .before .before .before .before .before .before .args in
     let short : length (now (a .scratch)) < driveOf (a .shape) (a .r) .spares = rw (c .before .before .drive-of .ensures) at (c .if2 .taken) in
     let seven : scratchFault (a .shape) (a .r) (now (a .scratch)) ≡ noRoom = rw (← c .before .before .before .before .drive-fault .ensures, c .before .before .before .if1 .left, lt-ltb _ _ short) in
-    (rw seven, scratch-kept (a .shape) (a .r) (now (a .scratch)) _ seven (λ none. omega arith))
+    (rw seven, sym (answer-refused _ _ _ (λ none. let zero-given : noRoom ≡ 0 = sym seven ∙ none in omega arith)))
 
 obeys-rules-requires : tie.Need-obeys-rules-requires
 obeys-rules-requires c κs =
