@@ -1,16 +1,15 @@
 -- A number with one bit turned on has that bit and those that it had, and 0 has none.
 -- Assumes nothing.
-use Prim.Native.Nat.{ℕ, zero, suc, _+_, _-_, _*_, _/_, _%_, _^_, _<_, _≤_}
+use Prim.Native.Nat.{ℕ, zero, suc, _+_, _-_, _*_, _/_, _%_, _^_, _<_}
 use mathlib.Core.Path.{_≡_, refl, sym, _∙_, ap}
-use mathlib.Core.Bool.{Bool, true, false, _||_}
+use mathlib.Core.Bool.{true, false}
 use mathlib.Core.Logic.{_⊎_, inl, inr, ⊎-elim}
 use native.Mathlib.Omega.{arith}
 use native.Mathlib.Nat.{div-self, div-eq-of-lt, pow-suc, zero-div}
 use lib.Dec.{eqb}
 use lib.Bits.{bitOr, or-shr, or-mod, or-zero-r}
 use lib.Pow.{pow-add, pow-pos, pow-lt, shl-shr}
-use borrow.Author.Tests.{eq-eqb, ne-eqb}
-use Rattle.bits.specs.Bits.{bitAt, withBit}
+use Rattle.bits.specs.Steps.{bitAt, withBit}
 
 -- one bit of an or is the or of the bits
 bit-or : (v w j : ℕ) → bitOr v w / 2 ^ j % 2 ≡ bitOr (v / 2 ^ j % 2) (w / 2 ^ j % 2)

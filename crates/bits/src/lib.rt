@@ -2,7 +2,7 @@
 ghost use mathlib.Core.Path.{_≡_};
 ghost use Prim.Native.Nat.{_<_};
 ghost use lib.ListN.{length, getD, set};
-ghost use Rattle.bits.specs.Bits.{numberBits, bitAt, withBit};
+ghost use Rattle.bits.specs.Steps.{numberBits, bitAt, withBit};
 
 // Bits of a number.
 pub const NUMBER_BITS: u32 = 32;

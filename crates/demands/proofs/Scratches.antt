@@ -1,6 +1,6 @@
 -- What is left of scratch: it is as it was where 1 or its 7 refuses, and else zeros for the spares and the rest as it was.
 -- Assumes nothing.
-use Prim.Native.Nat.{ℕ, _<_, _≤_}
+use Prim.Native.Nat.{ℕ, _≤_}
 use mathlib.Core.Path.{_≡_, sym, _∙_}
 use mathlib.Core.List.{List}
 use native.Mathlib.Omega.{arith}

@@ -6,15 +6,14 @@ use mathlib.Core.Bool.{true, false, not, _&&_, true≢false, and-true, and-false
 use mathlib.Core.List.{List}
 use native.Mathlib.Numerals.{add-one}
 use native.Mathlib.Omega.{arith}
-use lib.Dec.{eqb, leb, ltb}
-use lib.ListN.{length, getD, set, drop, replicate, length-set, length-replicate, getD-replicate, List·getD-append}
+use lib.ListN.{length, getD, drop, replicate, length-set, length-replicate, getD-replicate, List·getD-append}
 use lib.Seq.{getD-set-same, getD-set-other, drop-set-lt, drop-at}
 use borrow.Author.Tests.{le-leb, lt-ltb, ne-eqb}
 use Rattle.paper.specs.Checks.{pick}
 use Rattle.paper.specs.Promise.{written}
 use Rattle.paper.proofs.Cases.{byBool, byLt, byEq}
 use Rattle.paper.proofs.Rows.{tells-le, tells-lt, tells-both, and-left, and-right}
-use Rattle.bits.specs.Bits.{numberBits, bitAt, withBit}
+use Rattle.bits.specs.Steps.{numberBits, withBit}
 use Rattle.bits.proofs.Marks.{bit-on, bit-other, none-on}
 use Rattle.seek.specs.Every.{allBelow}
 use Rattle.seek.proofs.Everys.{every-here, here-every, every-fails, Fails, one-fails}

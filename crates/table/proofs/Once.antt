@@ -15,17 +15,11 @@ use Rattle.layout.proofs.Words.{tells-allocated, tells-names}
 use Rattle.table.specs.Steps.{namedFirst}
 
 module _ (t : List ℕ) where
-  -- a place names its block first where it names none, or no place before it names the same
+  -- a place that names no block names none twice
   pub first-free : (q : ℕ) → isAllocated (getD t q 0) ≡ false → namedFirst t q ≡ true
   first-free q e = rw e
 
-  pub first-alone : (q : ℕ) → ((p : ℕ) → p < q → names (getD t p 0) (numberOf (getD t q 0)) ≡ false) → namedFirst t q ≡ true
-  first-alone q alone =
-      byBool (isAllocated (getD t q 0))
-      (λ e. rw e (here-every (λ p. not (names (getD t p 0) (numberOf (getD t q 0)))) q (λ p h. rw (alone p h))))
-      (first-free q)
-
-  -- and not where a place before it names the same
+  -- a place does not name its block first where a place before it names the same
   pub first-again :
       (p q : ℕ) → p < q → isAllocated (getD t q 0) ≡ true → names (getD t p 0) (numberOf (getD t q 0)) ≡ true → namedFirst t q ≡ false
   first-again p q h e again = rw e (every-fails (λ k. not (names (getD t k 0) (numberOf (getD t q 0)))) q p h (rw again))

@@ -7,7 +7,7 @@ use mathlib.Core.List.{List}
 use lib.Dec.{eqb, ltb, leb}
 use lib.ListN.{length, getD, set}
 use Rattle.paper.specs.Checks.{pick, oneIf}
-use Rattle.bits.specs.Bits.{numberBits, bitAt, withBit}
+use Rattle.bits.specs.Steps.{numberBits, bitAt, withBit}
 use Rattle.seek.specs.Count.{countBelow}
 use Rattle.seek.specs.Every.{allBelow}
 use Rattle.layout.specs.declared.Drive.{Drive}

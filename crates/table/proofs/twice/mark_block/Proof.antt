@@ -1,14 +1,10 @@
 -- `table::twice::mark_block` meets its contract: each return is a case of the definition.
 -- Assumes nothing.
 use borrow.Author.Needs.{needs}
-use Prim.Native.Nat.{_-_, _/_, _<_, _≤_}
-use mathlib.Core.Path.{_≡_, refl, sym, _∙_, ap}
-use mathlib.Core.Bool.{true, false, not, and-false}
-use native.Mathlib.Omega.{arith}
+use mathlib.Core.Path.{_≡_, sym, _∙_}
+use mathlib.Core.Bool.{true, false, and-false}
 use borrow.Author.Tests.{le-leb, lt-leb, lt-ltb, le-ltb, not-true, not-false}
-use Rattle.bits.specs.Bits.{numberBits}
-use Rattle.layout.specs.Descriptors.{numberOf, isAllocated}
-use Rattle.table.specs.Steps.{namesIn}
+use Rattle.layout.specs.Descriptors.{isAllocated}
 use Rattle.table.proofs.twice.mark_block.Statement.{statement}
 use Rattle.table.proofs.twice.mark_block.Tie as tie
 
