@@ -58,57 +58,57 @@ vacant-inside : {drive : Drive} {t : List ℕ} {s : ℕ} → Laid drive → Vaca
 vacant-inside laid (home-left b below same replaced) = rw same (home-below laid below)
 vacant-inside laid (spare-unused q below same unused) = rw same (spare-below laid below)
 
+-- what the calls answer of a drive and a table that pass, with scratch that is long enough
+module _ {shape : Shape} {r : ℕ} {t : List ℕ} (sound : Sound shape r t) where
+  -- one descriptor at most names a block
+  pub one-descriptor : (b p q : ℕ) → p < length t → q < length t → Names (getD t p 0) b → Names (getD t q 0) b → p ≡ q
+  one-descriptor b p q in-p in-q names-p names-q =
+      let obeys = sound-obeys sound in
+      sym (place-once obeys p b in-p (tells-names (getD t p 0) b .told names-p)) ∙ place-once obeys q b in-q (tells-names (getD t q 0) b .told names-q)
+
+  -- a block lies on a sector of the drive
+  lies-inside : (b : ℕ) → b < driveOf shape r .blocks → liesOn (driveOf shape r) t b < sizeOf shape
+  lies-inside b below = rw (drive-whole (sound .spared)) at (lies-below (sound-laid sound) t (sound-obeys sound) b below)
+
+  module _ (scratch : List ℕ) (enough : Enough shape r scratch) where
+    sector-answers :
+        (b : ℕ) → b < driveOf shape r .blocks → (result : Placed) → SectorOf shape r t scratch b result → result ≡ At (liesOn (driveOf shape r) t b)
+    sector-answers b below result promise =
+        promise .answers
+        ∙ answer-accepted (blockFault shape r t scratch b) NotPlaced (At (liesOn (driveOf shape r) t b)) (block-passes shape r t scratch sound enough b below)
+
+    located-answers :
+        (b : ℕ) → b < driveOf shape r .blocks → (result : Located) → AddressOf shape r t scratch b result →
+        result ≡ LocatedAt (addressAt shape (liesOn (driveOf shape r) t b))
+    located-answers b below result promise =
+        promise .answers
+        ∙ answer-accepted (blockFault shape r t scratch b) NotLocated (LocatedAt (addressAt shape (liesOn (driveOf shape r) t b)))
+        (block-passes shape r t scratch sound enough b below)
+
+    named-answers :
+        (s : ℕ) → s < sizeOf shape → (result : Named) → BlockOn shape r t scratch s result → result ≡ lyingOn (driveOf shape r) t s
+    named-answers s inside result promise =
+        let fault : blockOnFault shape r t scratch s ≡ 0 = rw (table-passes shape r t scratch sound enough, lt-leb (sizeOf shape) s inside) in
+        promise .answers ∙ answer-accepted (blockOnFault shape r t scratch s) NotNamed (lyingOn (driveOf shape r) t s) fault
+
+    -- each block is answered, with the one sector that it lies on
+    pub every-block-answered :
+        (b : ℕ) → b < driveOf shape r .blocks → (result : Placed) → SectorOf shape r t scratch b result → LiesThere shape r t b result
+    every-block-answered b below result promise =
+        record {
+          sector = liesOn (driveOf shape r) t b;
+          answered = sector-answers b below result promise;
+          resides = lies-shows (driveOf shape r) t b;
+          nowhere-else = λ s lies. sym (lies-only (driveOf shape r) t b (sound-obeys sound) lies);
+        }
+
+    -- a vacant sector has no block
+    pub vacant-has-none : (s : ℕ) → Vacant (driveOf shape r) t s → (result : Named) → BlockOn shape r t scratch s result → result ≡ NoBlock
+    vacant-has-none s vacant result promise =
+        let inside : s < sizeOf shape = rw (drive-whole (sound .spared)) at (vacant-inside (sound-laid sound) vacant) in
+        named-answers s inside result promise ∙ vacant-told (sound-laid sound) t vacant
+
 module _ (shape : Shape) (r : ℕ) (t : List ℕ) where
-  -- what the calls answer of a drive and a table that pass, with scratch that is long enough
-  module _ (sound : Sound shape r t) where
-    -- one descriptor at most names a block
-    pub one-descriptor : (b p q : ℕ) → p < length t → q < length t → Names (getD t p 0) b → Names (getD t q 0) b → p ≡ q
-    one-descriptor b p q in-p in-q names-p names-q =
-        let obeys = sound-obeys sound in
-        sym (place-once obeys p b in-p (tells-names (getD t p 0) b .told names-p)) ∙ place-once obeys q b in-q (tells-names (getD t q 0) b .told names-q)
-
-    -- a block lies on a sector of the drive
-    lies-inside : (b : ℕ) → b < driveOf shape r .blocks → liesOn (driveOf shape r) t b < sizeOf shape
-    lies-inside b below = rw (drive-whole (sound .spared)) at (lies-below (sound-laid sound) t (sound-obeys sound) b below)
-
-    module _ (scratch : List ℕ) (enough : Enough shape r scratch) where
-      sector-answers :
-          (b : ℕ) → b < driveOf shape r .blocks → (result : Placed) → SectorOf shape r t scratch b result → result ≡ At (liesOn (driveOf shape r) t b)
-      sector-answers b below result promise =
-          promise .answers
-          ∙ answer-accepted (blockFault shape r t scratch b) NotPlaced (At (liesOn (driveOf shape r) t b)) (block-passes shape r t scratch sound enough b below)
-
-      located-answers :
-          (b : ℕ) → b < driveOf shape r .blocks → (result : Located) → AddressOf shape r t scratch b result →
-          result ≡ LocatedAt (addressAt shape (liesOn (driveOf shape r) t b))
-      located-answers b below result promise =
-          promise .answers
-          ∙ answer-accepted (blockFault shape r t scratch b) NotLocated (LocatedAt (addressAt shape (liesOn (driveOf shape r) t b)))
-          (block-passes shape r t scratch sound enough b below)
-
-      named-answers :
-          (s : ℕ) → s < sizeOf shape → (result : Named) → BlockOn shape r t scratch s result → result ≡ lyingOn (driveOf shape r) t s
-      named-answers s inside result promise =
-          let fault : blockOnFault shape r t scratch s ≡ 0 = rw (table-passes shape r t scratch sound enough, lt-leb (sizeOf shape) s inside) in
-          promise .answers ∙ answer-accepted (blockOnFault shape r t scratch s) NotNamed (lyingOn (driveOf shape r) t s) fault
-
-      -- each block is answered, with the one sector that it lies on
-      pub every-block-answered :
-          (b : ℕ) → b < driveOf shape r .blocks → (result : Placed) → SectorOf shape r t scratch b result → LiesThere shape r t b result
-      every-block-answered b below result promise =
-          record {
-            sector = liesOn (driveOf shape r) t b;
-            answered = sector-answers b below result promise;
-            resides = lies-shows (driveOf shape r) t b;
-            nowhere-else = λ s lies. sym (lies-only (driveOf shape r) t b (sound-obeys sound) lies);
-          }
-
-      -- a vacant sector has no block
-      pub vacant-has-none : (s : ℕ) → Vacant (driveOf shape r) t s → (result : Named) → BlockOn shape r t scratch s result → result ≡ NoBlock
-      vacant-has-none s vacant result promise =
-          let inside : s < sizeOf shape = rw (drive-whole (sound .spared)) at (vacant-inside (sound-laid sound) vacant) in
-          named-answers s inside result promise ∙ vacant-told (sound-laid sound) t vacant
-
   -- a sector that is answered for a block
   module _ (scratch : List ℕ) (b s : ℕ) (promise : SectorOf shape r t scratch b (At s)) where
     answered-passes : blockFault shape r t scratch b ≡ 0
@@ -308,10 +308,7 @@ module _ (shape : Shape) (r : ℕ) (t : List ℕ) where
         }
       where
         lies : (asked : List ℕ) → Enough shape r asked → (result : Placed) → SectorOf shape r after asked b result → result ≡ At (spareSector (driveOf shape r) q)
-        lies asked enough result placed =
-            placed .answers
-            ∙ answer-accepted (blockFault shape r after asked b) NotPlaced (At (liesOn (driveOf shape r) after b)) (block-passes shape r after asked taken-after enough b taken-below)
-            ∙ ap At (replacement-moves .lies)
+        lies asked enough result placed = sector-answers taken-after asked enough b taken-below result placed ∙ ap At (replacement-moves .lies)
 
         others-lie :
             (a : ℕ) → (a ≡ b → ⊥) → (asked again : List ℕ) → Enough shape r asked → Enough shape r again →

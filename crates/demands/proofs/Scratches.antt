@@ -15,7 +15,7 @@ use Rattle.layout.specs.Layouts.{Spared, driveFault}
 use Rattle.layout.proofs.Exact.{drive-shows, drive-passes}
 use Rattle.table.specs.Scratch.{scratchFault, Scratched}
 use Rattle.table.proofs.Exact.{scratch-enough}
-use Rattle.demands.specs.Scratches.{numbersFor, LeavesScratch, EachScratch}
+use Rattle.demands.specs.Scratches.{numbersFor, LeavesScratch, Scratches}
 
 module _ (shape : Shape) (r : ℕ) (before after : List ℕ) (scratched : Scratched shape r before after) where
   kept : (scratchFault shape r before ≡ 0 → ⊥) → after ≡ before
@@ -39,5 +39,5 @@ module _ (shape : Shape) (r : ℕ) (before after : List ℕ) (scratched : Scratc
             rw (cleared in-range spared enough) (written-rest (replicate (numbersFor shape r) 0) before (numbersFor shape r) (sym (length-replicate (numbersFor shape r) 0)));
       }
 
-pub each-scratch : EachScratch
-each-scratch = leaves-scratch
+pub scratches : Scratches
+scratches = record { each-leaves = leaves-scratch }

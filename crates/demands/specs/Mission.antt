@@ -1,6 +1,6 @@
 -- The mission: the user's three demands, and what the requests of document 02 add to them; each is a record with a field for each sentence. `mission` of the proofs is the theorem that they hold, of whatever results the promises of the public calls allow.
 use Rattle.demands.specs.Demand1.{Demand1}
-use Rattle.demands.specs.Scratches.{EachScratch}
+use Rattle.demands.specs.Scratches.{Scratches}
 use Rattle.demands.specs.Demand2Skipped.{Demand2Skipped}
 use Rattle.demands.specs.Demand2Revectored.{Demand2Revectored}
 use Rattle.demands.specs.Demand3.{Demand3}
@@ -16,6 +16,6 @@ pub record Mission : Type 0 where
   -- 3. After an accepted night each new block lies where you arrive by skipping the named blocks in the old numbering and following the old map; two nights, both accepted, are one night with both lists joined.
   pub nights : Demand3
   -- Q-6. The scratch that a call is lent with a table is as it was where the shape or r is out of range or the scratch is too short; else its first T × r numbers are zeros after the call, accepted or refused, and the rest is as it was.
-  pub scratch : EachScratch
+  pub scratch : Scratches
   -- Q-9. An address has its angle, (sector + offset × group) mod S; a bad g, t or offset is refusal 1; and the groups change nothing else.
   pub angles : Angles

@@ -34,7 +34,7 @@ dataAt shape s = startAt shape s + headerSize
 abbrev pub AsLong : List ℕ → List ℕ → Type 0
 AsLong image other = length image ≡ length other
 
--- what a read hands back and looks at; each call is lent scratch of its own
+-- what a read hands back and looks at. Each call is lent scratch of its own: `asked` to `spares::sector_of`, `judged` to `reading::judge`, `read` to `reading::data`, `spotted` to `reading::spot`
 pub record ReadsInPlace : Type 0 where
   -- data of a block that is judged good is handed back in place: the part lies where the data of the block's sector does, in the image that the block lies in, and holds what stands there
   pub lends-in-place :

@@ -23,6 +23,6 @@ pub record LeavesScratch (shape : Shape) (r : ℕ) (before after : List ℕ) : T
   -- and the rest is as it was
   pub rest-stands : Shaped shape → Spared shape r → numbersFor shape r ≤ length before → drop (numbersFor shape r) after ≡ drop (numbersFor shape r) before
 
--- `Scratched` is the second promise of the ten calls that are lent a table: `spares::sector_of`, `address_of`, `shift`, `block_on`, `block_at`, `replace` and `census`, and `reading::judge`, `data` and `spot`; so this holds of each
-abbrev pub EachScratch : Type 0
-EachScratch = (shape : Shape) (r : ℕ) (before after : List ℕ) → Scratched shape r before after → LeavesScratch shape r before after
+pub record Scratches : Type 0 where
+  -- `Scratched` is the second promise of the ten calls that are lent a table: `spares::sector_of`, `address_of`, `shift`, `block_on`, `block_at`, `replace` and `census`, and `reading::judge`, `data` and `spot`. So this holds of each of them.
+  pub each-leaves : (shape : Shape) (r : ℕ) (before after : List ℕ) → Scratched shape r before after → LeavesScratch shape r before after

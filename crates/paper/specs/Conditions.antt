@@ -13,7 +13,7 @@ TooLong list = listMost < length list
 abbrev pub NotBelow : ℕ → ℕ → Type 0
 NotBelow bound number = bound ≤ number
 
--- row 7: the lent room has fewer places than the result needs
+-- row 7: the lent room has fewer places than the result needs, or the scratch than there are spares
 abbrev pub NoRoom : ℕ → List ℕ → Type 0
 NoRoom needed room = length room < needed
 

@@ -25,7 +25,7 @@ noSuchBlock = 5
 abbrev pub noSuchSector : ℕ
 noSuchSector = 6
 
--- the result does not fit into the room
+-- the result does not fit into the room, or the scratch has too few numbers
 abbrev pub noRoom : ℕ
 noRoom = 7
 

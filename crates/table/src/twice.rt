@@ -1,7 +1,7 @@
 // Whether a table names a block twice: each block that it names is marked by one bit in lent scratch.
 ghost use mathlib.Core.Path.{_≡_};
 ghost use mathlib.Core.Bool.{true, not, _&&_};
-ghost use Prim.Native.Nat.{_<_, _≤_};
+ghost use Prim.Native.Nat.{_≤_};
 ghost use lib.ListN.{length, getD, drop, replicate};
 ghost use Rattle.paper.specs.Checks.{pick};
 ghost use Rattle.paper.specs.Promise.{written};

@@ -34,7 +34,7 @@ pub fn meaning(fault: u32) {
         paper::OUTSIDE => text(b"the list leaves its space"),
         paper::NO_SUCH_BLOCK => text(b"there is no such block"),
         paper::NO_SUCH_SECTOR => text(b"there is no such sector"),
-        paper::NO_ROOM => text(b"the room is too short"),
+        paper::NO_ROOM => text(b"the room or the scratch is too short"),
         paper::BAD_PAGE => text(b"the page is broken"),
         paper::STRAY_CURSOR => text(b"the cursor is of another list"),
         paper::BAD_OPTION => text(b"the option and its list do not fit"),
