@@ -1,19 +1,19 @@
 -- The paper's "Numbers to try" and ours beside them: every row of the table holds. Where a block lies is told by the walk, which is the definition; the rest is computed.
 -- Assumes nothing.
 use Prim.Native.Nat.{ℕ, suc, _+_, _≤_}
-use mathlib.Core.Path.{_≡_, refl, sym, _∙_, ap}
+use mathlib.Core.Path.{_≡_, refl, sym, _∙_}
 use mathlib.Core.Bool.{Bool, true, false, not, true≢false}
 use mathlib.Core.List.{List, [], _∷_}
 use native.Mathlib.Omega.{arith}
-use lib.Dec.{eqb, leb}
+use lib.Dec.{eqb}
 use lib.IntN.{ℤ, pos}
 use lib.ListN.{length, getD, replicate, length-replicate}
 use borrow.Author.Tests.{lt-ltb, le-ltb}
 use Rattle.paper.specs.Answers.{saidNamed}
 use Rattle.paper.specs.Limits.{dataSize, imageExtra}
-use Rattle.paper.specs.Refusals.{noSuchBlock, noSpare}
+use Rattle.paper.specs.Refusals.{noSpare}
 use Rattle.paper.specs.Promise.{Gives, Fills}
-use Rattle.paper.specs.Checks.{refuse, _orElse_, answer}
+use Rattle.paper.specs.Checks.{answer}
 use Rattle.paper.proofs.Kept.{gives, fills}
 use Rattle.words.specs.Words.{bytes16, bytes32, bytesOf, word16At}
 use Rattle.seek.specs.Count.{countBelow}
@@ -138,9 +138,7 @@ module _ (shape : Shape) (r : ℕ) where
       (table : List ℕ) (block : ℕ) {spare : ℕ} {after : List ℕ} → Spares.replaceFault shape r table (numbers shape r) block ≡ 0 →
       spareFor (driveOf shape r) table block ≡ spare → movedIn (driveOf shape r) table block ≡ after → Holds (spare-replace shape r table block spare after)
   spare-taken table block {spare} {after} passes found stored scratch enough =
-      let none : Spares.replaceFault shape r table scratch block ≡ 0 =
-      ap (λ (fault : ℕ). (fault orElse refuse (leb (driveOf shape r .blocks) block) noSuchBlock) orElse refuse (leb (length table) (spareFor (driveOf shape r) table block)) noSpare)
-      (as-numbers shape r table scratch enough) ∙ passes in
+      let none : Spares.replaceFault shape r table scratch block ≡ 0 = rw (as-numbers shape r table scratch enough) passes in
       allows-room (λ k. refl) (rw (none, found)) (λ held. held ≡ after) (rw none stored)
 
   -- a table that passes and has no free place
