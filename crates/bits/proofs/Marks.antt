@@ -3,12 +3,12 @@
 use Prim.Native.Nat.{ℕ, zero, suc, _+_, _-_, _*_, _/_, _%_, _^_, _<_}
 use mathlib.Core.Path.{_≡_, refl, sym, _∙_, ap}
 use mathlib.Core.Bool.{true, false}
-use mathlib.Core.Logic.{_⊎_, inl, inr, ⊎-elim}
 use native.Mathlib.Omega.{arith}
 use native.Mathlib.Nat.{div-self, div-eq-of-lt, pow-suc, zero-div}
 use lib.Dec.{eqb}
 use lib.Bits.{bitOr, or-shr, or-mod, or-zero-r}
 use lib.Pow.{pow-add, pow-pos, pow-lt, shl-shr}
+use Rattle.paper.proofs.Cases.{byLt}
 use Rattle.bits.specs.Steps.{bitAt, withBit}
 
 -- one bit of an or is the or of the bits
@@ -33,12 +33,6 @@ one-or zero h = refl
 one-or (suc zero) h = refl
 one-or (suc (suc x)) h = absurd (omega arith)
 
-apart-lt : (j k : ℕ) → (j ≡ k → ⊥) → (j < k) ⊎ (k < j)
-apart-lt zero zero apart = absurd (apart refl)
-apart-lt zero (suc k) apart = inl (omega arith)
-apart-lt (suc j) zero apart = inr (omega arith)
-apart-lt (suc j) (suc k) apart = ⊎-elim (λ h. inl (omega arith)) (λ h. inr (omega arith)) (apart-lt j k (λ e. apart (ap suc e)))
-
 module _ (w k : ℕ) where
   pub bit-on : bitAt (withBit w k) k ≡ true
   bit-on = rw (bit-or w (2 ^ k) k, power-here k) (one-or (w / 2 ^ k % 2) (omega arith))
@@ -47,7 +41,10 @@ module _ (w k : ℕ) where
   bit-other j apart = rw (bit-or w (2 ^ k) j, off, or-zero-r (w / 2 ^ j % 2))
     where
       off : 2 ^ k / 2 ^ j % 2 ≡ 0
-      off = ⊎-elim (λ h. power-below j k h) (λ h. power-above j k h) (apart-lt j k apart)
+      off =
+          byLt j k
+          (power-below j k)
+          (λ least. byLt k j (power-above j k) (λ most. absurd (apart (omega arith))))
 
 -- 0 has no bit on
 pub none-on : (k : ℕ) → bitAt 0 k ≡ false

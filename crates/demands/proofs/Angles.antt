@@ -27,7 +27,7 @@ use Rattle.table.specs.Scratch.{scratchFault}
 use Rattle.spares.specs.declared.Replaced.the-variants.{Refused as NotReplaced}
 use Rattle.reading.specs.Faults.{lentFault, blockReadFault}
 use Rattle.demands.specs.Angles.{Answered, for-sector, by-list, by-table, Angled, BothAngled, Alike, InAnyGroups, butAngle, EachCall, Angles}
-use Rattle.demands.proofs.Determined.{spares-replace, spares-first-table, reading-data}
+use Rattle.demands.proofs.Determined.{spares-replace, spares-first-table, reading-data, scratch}
 
 -- an address that is answered is that of a sector number, on a drive whose shape passes
 record Found (shape : Shape) (address : Address) : Type 0 where
@@ -159,6 +159,7 @@ each-call =
           in-any-groups _
           (λ shape bad part given. rw bad at given)
           (λ shape g tracks offset one other first second here there. reading-data shape r t scratch b home spare first second here (rw one (rw other at there)));
+      scratch-left = λ r before. in-any-groups _ (λ shape bad after given. rw bad at given) (λ shape g tracks offset one other first second here there. scratch shape r before first second here (rw one (rw other at there)));
     }
 
 pub angles : Angles

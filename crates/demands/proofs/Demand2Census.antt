@@ -5,6 +5,7 @@ use mathlib.Core.Path.{_≡_, sym, _∙_, ap, refl}
 use mathlib.Core.List.{List, _∷_}
 use native.Mathlib.Omega.{arith}
 use lib.ListN.{length, take, replicate}
+use borrow.Author.Tests.{le-ltb}
 use Rattle.paper.proofs.Cases.{byFault}
 use Rattle.paper.proofs.Chain.{orElse-first}
 use Rattle.paper.proofs.Kept.{gives-number, fills-gives, fills-refused}
@@ -18,6 +19,7 @@ use Rattle.shape.specs.declared.Shape.{Shape}
 use Rattle.layout.specs.Layouts.{driveOf, driveFault}
 use Rattle.layout.specs.Descriptors.{free, unusable}
 use Rattle.layout.specs.declared.Drive.{Drive}
+use Rattle.layout.proofs.Exact.{drive-shows}
 use Rattle.table.specs.Rules.{Sound, tableFault}
 use Rattle.table.specs.Scratch.{Enough}
 use Rattle.table.specs.Places.{tableLength}
@@ -26,8 +28,6 @@ use Rattle.table.specs.Counting.{codeCount}
 use Rattle.table.specs.declared.Census.{Census}
 use Rattle.table.proofs.Exact.{table-sound, table-passes}
 use Rattle.table.proofs.Obeying.{obeys-unbroken}
-use Rattle.layout.proofs.Exact.{drive-shows}
-use borrow.Author.Tests.{le-ltb}
 use Rattle.first_table.specs.Marks.{isBadSpare, badSpares, badHomes}
 use Rattle.first_table.specs.Tables.{firstTable, firstTableFault}
 use Rattle.first_table.specs.Promises.{FirstTable}

@@ -9,7 +9,7 @@ use lib.ListN.{length, take}
 use Rattle.paper.specs.Limits.{dataSize, imageExtra}
 use Rattle.paper.specs.declared.Written.the-variants.{Length}
 use Rattle.paper.specs.Promise.{written}
-use Rattle.lists.proofs.Filling.{written-first, written-rest}
+use Rattle.paper.proofs.Writing.{written-first, written-rest}
 use Rattle.page.specs.Layout.{kindOf, unitsOf, entriesOf}
 use Rattle.page.specs.Pages.{readFault, writeFault, pageBytes}
 use Rattle.page.specs.Promises.{Reads, Writes}

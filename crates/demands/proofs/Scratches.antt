@@ -8,7 +8,7 @@ use lib.ListN.{length, replicate, length-replicate}
 use borrow.Author.Tests.{le-ltb}
 use Rattle.paper.specs.Promise.{written}
 use Rattle.paper.proofs.Chain.{orElse-first, answer-refused, answer-accepted}
-use Rattle.lists.proofs.Filling.{written-first, written-rest}
+use Rattle.paper.proofs.Writing.{written-first, written-rest}
 use Rattle.shape.specs.declared.Shape.{Shape}
 use Rattle.shape.specs.Shapes.{Shaped}
 use Rattle.layout.specs.Layouts.{Spared, driveFault}

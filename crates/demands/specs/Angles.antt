@@ -15,6 +15,7 @@ use Rattle.shape.specs.Shapes.{Grouped, ShapeJudged}
 use Rattle.shape.specs.Addresses.{groupOf, angleAt}
 use Rattle.shape.specs.Promises as Shapes
 use Rattle.skipped.specs.Promises as Skipped
+use Rattle.table.specs.Scratch.{Scratched}
 use Rattle.first_table.specs.Promises.{FirstTable}
 use Rattle.spares.specs.declared.Replaced.the-variants.{Refused as NotReplaced}
 use Rattle.spares.specs.declared.Shifted.the-variants.{Refused as NotShifted}
@@ -81,7 +82,7 @@ butAngle said = (said .0, said .1, said .2, said .3)
 abbrev pub SameButAngle : (Shape → Located → Type 0) → Type 0
 SameButAngle = InAnyGroups (λ located. butAngle (Shapes.saidLocated located)) (λ located. located ≡ NotLocated outOfRange)
 
--- the 15 calls that take a shape
+-- the 15 calls that take a shape, and what ten of them leave of their scratch
 pub record EachCall : Type 0 where
   pub shape-sector : (cylinder head sector : ℕ) → SameAnswer NotPlaced (λ shape. Shapes.SectorOf shape cylinder head sector)
   pub shape-address : (x : ℕ) → SameButAngle (λ shape. Shapes.AddressOf shape x)
@@ -100,6 +101,7 @@ pub record EachCall : Type 0 where
   pub read-data :
       (r : ℕ) (t scratch : List ℕ) (b : ℕ) (home spare : RefT (List ℕ)) →
       InAnyGroups partShown (Lends home 0 []) (λ shape. Reading.Data shape r t scratch b home spare)
+  pub scratch-left : (r : ℕ) (before : List ℕ) → InAnyGroups (λ after. after) (λ after. after ≡ before) (λ shape. Scratched shape r before)
 
 pub record Angles : Type 0 where
   -- An address that is answered has its angle, (sector + offset × group) mod S.

@@ -7,7 +7,7 @@ use Rattle.demands.specs.Demand3.{Demand3}
 use Rattle.demands.specs.Angles.{Angles}
 
 pub record Mission : Type 0 where
-  -- 1. Every call takes any input, ends, and answers or refuses by the paper's numbers; a refusal says its number and nothing else, and lent memory keeps its bytes; scratch alone may be written (Q-6, below).
+  -- 1. Every call takes any input, ends, and answers or refuses by the paper's numbers; a refusal says its number and nothing else, and lent memory keeps its bytes, all but scratch, of which Q-6 below speaks.
   pub answers : Demand1
   -- 2. On a skipped drive block b lies on the good sector that has exactly b good sectors before it, and that sector names the block again.
   pub skipped-lies : Demand2Skipped

@@ -6,7 +6,7 @@ use mathlib.Core.List.{List, [], _∷_, _++_, append-assoc, append-nil}
 use native.Mathlib.Omega.{arith}
 use native.Mathlib.Numerals.{add-one}
 use lib.ListN.{length, take, drop, set, length-set, take-append-drop}
-use lib.Seq.{take-at, drop-at, take-suc-set, drop-set-lt, length-take-le, drop-drop}
+use lib.Seq.{take-suc-set, drop-set-lt, length-take-le, drop-drop}
 use Rattle.paper.specs.Promise.{written}
 
 -- `count` places hold the list up to what is `left` of it
@@ -39,11 +39,3 @@ module _ {list left before room : List ℕ} {count : ℕ} where
       let whole : list ≡ take count room = filled .done ∙ rw (none, append-nil (take count room)) in
       let places : length list ≡ count = ap length whole ∙ length-take-le count room (omega (arith, filled .fits, filled .same-length)) in
       rw (places, ← filled .beyond, whole) (sym (take-append-drop count room))
-
--- a room that a list was written into: the list stands first, and what stood behind it stays
-module _ (list before : List ℕ) (long : ℕ) (is : long ≡ length list) where
-  pub written-first : take long (written list before) ≡ list
-  written-first = take-at list (drop (length list) before) long (sym is)
-
-  pub written-rest : drop long (written list before) ≡ drop long before
-  written-rest = rw (drop-at list (drop (length list) before) long (sym is), is)

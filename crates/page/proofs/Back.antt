@@ -21,7 +21,7 @@ use Rattle.paper.proofs.Chain.{orElse-first, orElse-next}
 use Rattle.paper.proofs.Rows.{size-passes}
 use Rattle.lists.specs.Proper.{Proper, lowestFault}
 use Rattle.lists.proofs.Exact.{list-passes, list-shows}
-use Rattle.lists.proofs.Filling.{written-first}
+use Rattle.paper.proofs.Writing.{written-first}
 use Rattle.words.specs.Words.{bytes32, bytesOf, word32At, Bytes}
 use Rattle.words.proofs.Fitting.{Fits32}
 use Rattle.words.proofs.Digits.{length-bytes32, word32-bytes32}

@@ -7,11 +7,12 @@ use mathlib.Core.List.{List}
 use native.Mathlib.Numerals.{add-one}
 use native.Mathlib.Omega.{arith}
 use lib.ListN.{length, getD, drop, replicate, length-set, length-replicate, getD-replicate, List·getD-append}
-use lib.Seq.{getD-set-same, getD-set-other, drop-set-lt, drop-at}
+use lib.Seq.{getD-set-same, getD-set-other, drop-set-lt}
 use borrow.Author.Tests.{le-leb, lt-ltb, ne-eqb}
 use Rattle.paper.specs.Checks.{pick}
 use Rattle.paper.specs.Promise.{written}
 use Rattle.paper.proofs.Cases.{byBool, byLt, byEq}
+use Rattle.paper.proofs.Writing.{written-rest}
 use Rattle.paper.proofs.Rows.{tells-le, tells-lt, tells-both, and-left, and-right}
 use Rattle.bits.specs.Steps.{numberBits, withBit}
 use Rattle.bits.proofs.Marks.{bit-on, bit-other, none-on}
@@ -33,30 +34,32 @@ slot-in-window from count b least most = rw (le-leb from (b / numberBits) least,
 
 -- a mark that is turned on is on
 module _ (scratch : List ℕ) (from count n : ℕ) (long : count ≤ length scratch) (in-n : inWindow from count n ≡ true) where
+  abbrev marked-number : ℕ
+  marked-number = withBit (getD scratch (n / numberBits - from) 0) (n % numberBits)
+
+  holds-mark : getD (withMark scratch from n) (n / numberBits - from) 0 ≡ marked-number
+  holds-mark = getD-set-same scratch (n / numberBits - from) marked-number 0 (omega (arith, long, window-slot from count n in-n .1))
+
   mark-on : isMarked (withMark scratch from n) from n ≡ true
-  mark-on =
-      rw (getD-set-same scratch (n / numberBits - from) (withBit (getD scratch (n / numberBits - from) 0) (n % numberBits)) 0 (omega (arith, long, window-slot from count n in-n .1)))
-      (bit-on (getD scratch (n / numberBits - from) 0) (n % numberBits))
+  mark-on = rw holds-mark (bit-on (getD scratch (n / numberBits - from) 0) (n % numberBits))
 
   -- and every other stays as it was
   mark-other : (b : ℕ) → inWindow from count b ≡ true → (b ≡ n → ⊥) → isMarked (withMark scratch from n) from b ≡ isMarked scratch from b
   mark-other b in-b other =
       byEq (b / numberBits - from) (n / numberBits - from)
       (λ same.
-      rw (same, getD-set-same scratch (n / numberBits - from) (withBit (getD scratch (n / numberBits - from) 0) (n % numberBits)) 0 (omega (arith, long, window-slot from count n in-n .1)))
+      rw (same, holds-mark)
       (bit-other (getD scratch (n / numberBits - from) 0) (n % numberBits) (b % numberBits)
       (λ bit. other (omega (arith, same, bit, window-slot from count b in-b .0, window-slot from count n in-n .0)))))
-      (λ apart.
-      rw (getD-set-other scratch (n / numberBits - from) (b / numberBits - from) (withBit (getD scratch (n / numberBits - from) 0) (n % numberBits)) 0 apart))
+      (λ apart. rw (getD-set-other scratch (n / numberBits - from) (b / numberBits - from) marked-number 0 apart))
 
   -- the numbers beyond the window too
   pub mark-beyond : drop count (withMark scratch from n) ≡ drop count scratch
-  mark-beyond = drop-set-lt count scratch (n / numberBits - from) (withBit (getD scratch (n / numberBits - from) 0) (n % numberBits)) (window-slot from count n in-n .1)
+  mark-beyond = drop-set-lt count scratch (n / numberBits - from) marked-number (window-slot from count n in-n .1)
 
 -- the first numbers of scratch are cleared: the rest stands
 pub cleared-beyond : (count : ℕ) (scratch : List ℕ) → drop count (written (replicate count 0) scratch) ≡ drop count scratch
-cleared-beyond count scratch =
-    drop-at (replicate count 0) (drop (length (replicate count 0)) scratch) count (length-replicate count 0) ∙ ap (λ (n : ℕ). drop n scratch) (length-replicate count 0)
+cleared-beyond count scratch = written-rest (replicate count 0) scratch count (sym (length-replicate count 0))
 
 -- after the places below a bound a mark of the window is on exactly where one of them names its block
 pub record Marked (from count : ℕ) (t : List ℕ) (place : ℕ) (scratch : List ℕ) : Type 0 where
@@ -80,6 +83,13 @@ module _ {from count : ℕ} {t : List ℕ} {place : ℕ} {scratch : List ℕ} (b
   abbrev word : ℕ
   word = getD t place 0
 
+  -- what it is for the place to name a block of the window
+  names-one : namesIn from count word ≡ true → isAllocated word ≡ true
+  names-one = and-left (isAllocated word) (inWindow from count (numberOf word))
+
+  names-inside : namesIn from count word ≡ true → inWindow from count (numberOf word) ≡ true
+  names-inside = and-right (isAllocated word) (inWindow from count (numberOf word))
+
   -- a block that the place does not name is marked as before
   not-named : (b : ℕ) → names word b ≡ false → allBelow (λ p. not (names (getD t p 0) b)) (place + 1) ≡ allBelow (λ p. not (names (getD t p 0) b)) place
   unfolding allBelow
@@ -94,23 +104,17 @@ module _ {from count : ℕ} {t : List ℕ} {place : ℕ} {scratch : List ℕ} (b
           to : left ≡ withMark scratch from (numberOf word)
           to = rw e at is
 
-          allocated : isAllocated word ≡ true
-          allocated = and-left (isAllocated word) (inWindow from count (numberOf word)) e
-
-          in-n : inWindow from count (numberOf word) ≡ true
-          in-n = and-right (isAllocated word) (inWindow from count (numberOf word)) e
-
           on : (b : ℕ) → inWindow from count b ≡ true → isMarked left from b ≡ not (allBelow (λ p. not (names (getD t p 0) b)) (place + 1))
           on b in-b =
               byEq b (numberOf word)
               (λ same.
               let found : allBelow (λ p. not (names (getD t p 0) (numberOf word))) (place + 1) ≡ false =
-              every-fails (λ p. not (names (getD t p 0) (numberOf word))) (place + 1) place (omega arith) (rw (tells-names word (numberOf word) .told (tells-allocated word .holds allocated, refl)))
+              every-fails (λ p. not (names (getD t p 0) (numberOf word))) (place + 1) place (omega arith) (rw (tells-names word (numberOf word) .told (tells-allocated word .holds (names-one e), refl)))
               in
-              rw (to, same, found) (mark-on scratch from count (numberOf word) (before .long) in-n))
+              rw (to, same, found) (mark-on scratch from count (numberOf word) (before .long) (names-inside e)))
               (λ other.
               rw to
-              (mark-other scratch from count (numberOf word) (before .long) in-n b in-b other
+              (mark-other scratch from count (numberOf word) (before .long) (names-inside e) b in-b other
               ∙ before .on b in-b
               ∙ ap not (sym (not-named b (rw (ne-eqb (numberOf word) b (λ same. other (sym same)), and-false))))))
 
@@ -133,7 +137,7 @@ module _ {from count : ℕ} {t : List ℕ} {place : ℕ} {scratch : List ℕ} (b
   pub beyond-next : {left : List ℕ} → left ≡ pick (namesIn from count word) (withMark scratch from (numberOf word)) scratch → drop count left ≡ drop count scratch
   beyond-next is =
       byBool (namesIn from count word)
-      (λ e. rw (is, e) (mark-beyond scratch from count (numberOf word) (before .long) (and-right (isAllocated word) (inWindow from count (numberOf word)) e)))
+      (λ e. rw (is, e) (mark-beyond scratch from count (numberOf word) (before .long) (names-inside e)))
       (λ e. rw (is, e))
 
   -- the place names its block first exactly where the block's mark was off
@@ -141,8 +145,7 @@ module _ {from count : ℕ} {t : List ℕ} {place : ℕ} {scratch : List ℕ} (b
   first-unmarked =
       byBool (namesIn from count word)
       (λ e.
-      let is-on = before .on (numberOf word) (and-right (isAllocated word) (inWindow from count (numberOf word)) e) in
-      rw (e, and-left (isAllocated word) (inWindow from count (numberOf word)) e, is-on) (Bool·not-not (allBelow (λ p. not (names (getD t p 0) (numberOf word))) place)))
+      rw (e, names-one e, before .on (numberOf word) (names-inside e)) (Bool·not-not (allBelow (λ p. not (names (getD t p 0) (numberOf word))) place)))
       (λ e. rw e)
 
 -- windows that follow one another: no block below the first number is named twice
