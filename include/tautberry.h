@@ -55,7 +55,7 @@ enum tb_refusal {
     TB_BAD_PAGE = 8,          /* the bytes are no list page, or there is no such kind of page */
     TB_STRAY_CURSOR = 9,      /* the cursor does not belong to this N and list */
     TB_BAD_OPTION = 10,       /* there is no such option or space, or the option takes no list and one came */
-    TB_BAD_TABLE = 11,        /* the descriptor table is not one of this drive, or a descriptor breaks a rule */
+    TB_BAD_TABLE = 11,        /* the table is not one of this drive, a descriptor breaks a rule, or a free place comes before a block in its search order */
     /* 12 is no longer given, and it never names another refusal. */
     TB_NO_SPARE = 13,         /* no spare is left, or too few for all bad home sectors */
     TB_WRONG_LENGTH = 14,     /* the data or an image is not as long as it must be */
@@ -274,7 +274,15 @@ tb_formatted tb_format(
 /* ---- A revectored drive: the last r sectors of each track are spares, and a table says what they hold ---- */
 
 /* The table has TB_TABLE_LENGTH(cylinders x heads x r) descriptors. Every call that is lent a table checks its rules, and takes scratch for
- * this check. The top of this header says how much, and what is left in it. */
+ * this check. The top of this header says how much, and what is left in it. The time of the check grows as the table's length does.
+ *
+ * The search order of a block begins at its primary place, which is that of the first spare of its home track. In the table block of this place
+ * it goes outward: one place up, one down, two up, two down and so on, passing over places outside the table block. Then come the table blocks
+ * after that one, and then those before it from the first of the table on, each rising.
+ *
+ * By the rules a block that lies on a spare has no free place before its own in its search order. An unusable place is not free, nor is a null
+ * one. tb_spare_first and tb_spare_replace make only such tables. So the look-up of a block goes along its search order no farther than to
+ * the first free place: a block that was not met by then lies at home. */
 
 /* The sector that a block lies on: its spare, or its home where it is not replaced.
  * Checks: TB_OUT_OF_RANGE (shape, r), TB_NO_ROOM (scratch), TB_BAD_TABLE, TB_NO_SUCH_BLOCK. Answers sector. Writes nothing but scratch. */

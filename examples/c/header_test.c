@@ -1,6 +1,7 @@
 /* Holds include/tautberry.h to libboard.a by what the calls do: the size and the fields of each struct, the angle of a sector, each limit at its
  * last number and one beyond, large drives, bad groups in each call that takes a shape, scratch in each call that takes it, blocks replaced until
- * no spare is left, each refusal number, and NULL for each slice of length 0. It is compiled as C and as C++. It returns 1 if anything differs. */
+ * no spare is left, free places before a block and after it, each refusal number, and NULL for each slice of length 0. It is compiled as C and as
+ * C++. It returns 1 if anything differs. */
 #include <inttypes.h>
 #include <stdio.h>
 #include <string.h>
@@ -668,9 +669,11 @@ static void replacements(void)
     replaced_to(6, 3, 6, 0x30000006);
     same("shift of a block replaced again", tb_spare_shift(replacing(), 2, words, 128, scratch, SPARES, 6).shift == 0, 1);
 
-    /* Block 7 lies elsewhere while its primary place is free. */
+    /* Block 7 lies elsewhere. While its primary place is free, the table is bad; where that place is unusable, the block goes on from its spare. */
     lay(elsewhere);
-    replaced_to(7, 5, 4, 0x20000007);
+    not_replaced(2, 128, 7, TB_BAD_TABLE);
+    words[4] = 0x40000000;
+    replaced_to(7, 5, 3, 0x30000007);
 
     /* The only spare that can be used has the block. At its primary place or elsewhere, it keeps its descriptor. */
     for (uint32_t own = 0; own < 8; own++) {
@@ -742,7 +745,7 @@ static void scratch_in_each_call(const uint32_t descriptors[8], asked what, give
 static void scratches(void)
 {
     const uint32_t good[8] = {0, 0, 0, 0, 0x20000007, 0, 0, 0};
-    const uint32_t twice[8] = {0, 0, 0, 0x30000007, 0x20000007, 0, 0, 0};
+    const uint32_t twice[8] = {0, 0, 0, 0x30000007, 0x20000007, 0x40000000, 0, 0};
     const uint32_t other_code[8] = {0, 0, 0, 0, 0x30000007, 0, 0, 0};
     const uint32_t full[8] = {0x40000000, 0x40000000, 0x40000000, 0x40000000, 0x20000007, 0x40000000, 0x40000000, 0x40000000};
 
@@ -793,6 +796,226 @@ static void scratches(void)
     what = well;
     what.r = 5;
     scratch_in_each_call(good, what, by_all(TB_OUT_OF_RANGE));
+}
+
+/* A table of the drive of the replacements, a block of it with the sector of its spare, and the number that each call gives. */
+typedef struct judged_table {
+    uint32_t descriptors[8];
+    uint32_t block;
+    uint32_t sector;
+    uint32_t number;
+} judged_table;
+
+/* Tables with a free place before a block, and the like of them without. The search order of track 2, which has blocks 6 to 8, is 4, 5, 3, 6, 2,
+ * 7, 1, 0. */
+static void judged_tables(void)
+{
+    const judged_table tables[] = {
+        {{0, 0, 0, 0, 0, 0x30000007, 0, 0}, 7, 14, TB_BAD_TABLE},
+        {{0, 0, 0, 0, 0x40000000, 0x30000007, 0, 0}, 7, 14, TB_ACCEPTED},
+        {{0, 0, 0, 0x30000008, 0x20000007, 0, 0, 0}, 8, 9, TB_BAD_TABLE},
+        {{0, 0, 0, 0x30000008, 0x20000007, 0x40000000, 0, 0}, 8, 9, TB_ACCEPTED},
+        {{0, 0, 0, 0x30000006, 0x20000007, 0x30000008, 0, 0}, 6, 9, TB_ACCEPTED},
+        /* The free place is above the primary one, and below it. */
+        {{0, 0, 0, 0x40000000, 0x20000007, 0, 0x30000008, 0}, 8, 18, TB_BAD_TABLE},
+        {{0, 0, 0, 0, 0x20000007, 0x40000000, 0x30000008, 0}, 8, 18, TB_BAD_TABLE},
+        {{0, 0, 0, 0x40000000, 0x20000007, 0x40000000, 0x30000008, 0}, 8, 18, TB_ACCEPTED},
+        /* It is the last place before the null ones. */
+        {{0, 0x30000008, 0x40000000, 0x40000000, 0x20000007, 0x40000000, 0x40000000, 0}, 8, 4, TB_BAD_TABLE},
+        {{0, 0x30000008, 0x40000000, 0x40000000, 0x20000007, 0x40000000, 0x40000000, 0x40000000}, 8, 4, TB_ACCEPTED},
+        /* It comes before one block, and another block occurs twice. */
+        {{0x20000000, 0x30000000, 0, 0x30000008, 0x20000007, 0, 0, 0}, 8, 9, TB_BAD_TABLE},
+        /* It comes before the second place of a block that occurs twice. */
+        {{0, 0, 0, 0x30000007, 0x20000007, 0, 0, 0}, 7, 13, TB_BAD_TABLE},
+    };
+
+    for (size_t i = 0; i < sizeof tables / sizeof tables[0]; i++) {
+        const uint32_t block = tables[i].block;
+        const uint32_t sector = tables[i].sector;
+        const bool good = tables[i].number == TB_ACCEPTED;
+        const asked what = {replacing(), 2, SPARES, block, sector, TB_TRACK_LENGTH(5)};
+        same("an image of a block on its spare",
+             tb_image_write(block, data, TB_DATA_SIZE, false, spare + sector % 5 * TB_IMAGE_SIZE, TB_IMAGE_SIZE).refusal, TB_ACCEPTED);
+        scratch_in_each_call(tables[i].descriptors, what, by_all(tables[i].number));
+        lay(tables[i].descriptors);
+        same("sector of a judged table", tb_spare_sector(replacing(), 2, words, 128, scratch, SPARES, block).sector, good ? sector : 0);
+        same("block of a judged table", tb_spare_block(replacing(), 2, words, 128, scratch, SPARES, sector).block, good ? block : 0);
+    }
+
+    /* A free place before a block, with faults that are refused before it and behind it. */
+    asked what = {replacing(), 2, SPARES + 3, 12, 20, TB_TRACK_LENGTH(5) - 1};
+    scratch_in_each_call(tables[0].descriptors, what, by_all(TB_BAD_TABLE));
+    what.scratch_length = SPARES - 1;
+    scratch_in_each_call(tables[0].descriptors, what, by_all(TB_NO_ROOM));
+    what.r = 5;
+    scratch_in_each_call(tables[0].descriptors, what, by_all(TB_OUT_OF_RANGE));
+}
+
+/* Each place as that of block 7, each other one as the only free place, and the rest unusable. */
+static void free_places(void)
+{
+    const uint32_t order[8] = {4, 5, 3, 6, 2, 7, 1, 0};
+
+    for (uint32_t own = 0; own < 8; own++) {
+        for (uint32_t hole = 0; hole < 8; hole++) {
+            uint32_t descriptors[8];
+            if (hole == own) {
+                continue;
+            }
+            for (uint32_t i = 0; i < 8; i++) {
+                descriptors[order[i]] = i == hole ? 0 : i != own ? 0x40000000 : own == 0 ? 0x20000007 : 0x30000007;
+            }
+            lay(descriptors);
+            if (hole < own) {
+                SCRATCHED(tb_placed, tb_spare_sector(replacing(), 2, words, 128, scratch, SPARES, 7), TB_BAD_TABLE, SPARES);
+                not_replaced(2, 128, 7, TB_BAD_TABLE);
+            } else {
+                const uint32_t sector = order[own] / 2 * 5 + 3 + order[own] % 2;
+                same("sector before the free place", tb_spare_sector(replacing(), 2, words, 128, scratch, SPARES, 7).sector, sector);
+                same("sector of a block at home", tb_spare_sector(replacing(), 2, words, 128, scratch, SPARES, 8).sector, 12);
+                replaced_to(7, order[own], order[hole], 0x30000007);
+            }
+        }
+    }
+}
+
+/* The free place of a table that has none. */
+#define NONE TB_SPARES_MOST
+
+/* A drive with one spare to a track. A block lies at a place, another place is free or none is, and the rest are unusable. */
+static void one_free_place(tb_shape shape, uint32_t block, uint32_t place, uint32_t hole, uint32_t number)
+{
+    const uint32_t spares = shape.cylinders * shape.heads;
+    const size_t length = TB_TABLE_LENGTH(spares);
+    const uint32_t homes = shape.sectors - 1;
+    const uint32_t track = block / homes;
+    const uint32_t neighbour = block % homes == 0 ? block + 1 : block - 1;
+
+    for (uint32_t i = 0; i < length; i++) {
+        words[i] = i >= spares ? 0x80000000 : i == hole ? 0 : i != place ? 0x40000000 : (i == track ? 0x20000000 : 0x30000000) + block;
+    }
+    memcpy(more_words, words, sizeof words);
+    SCRATCHED(tb_placed, tb_spare_sector(shape, 1, words, length, scratch, spares, block), number, spares);
+    SCRATCHED(tb_counted, tb_spare_census(shape, 1, words, length, scratch, spares), number, spares);
+    SCRATCHED(tb_counted, tb_spare_census(shape, 1, words, length, scratch, spares - 1), TB_NO_ROOM, spares);
+    if (number != TB_ACCEPTED) {
+        SCRATCHED(tb_replaced, tb_spare_replace(shape, 1, words, length, scratch, spares, block), number, spares);
+        same("words of a bad table that changed", differing(), 0);
+        return;
+    }
+    same("sector of a block on a spare", tb_spare_sector(shape, 1, words, length, scratch, spares, block).sector, place * shape.sectors + homes);
+    same("block on its spare", tb_spare_block(shape, 1, words, length, scratch, spares, place * shape.sectors + homes).block, block);
+    same("block on its home", tb_spare_block(shape, 1, words, length, scratch, spares, track * shape.sectors + block % homes).found, 0);
+    same("sector of its neighbour at home",
+         tb_spare_sector(shape, 1, words, length, scratch, spares, neighbour).sector, track * shape.sectors + neighbour % homes);
+    same("free places", tb_spare_census(shape, 1, words, length, scratch, spares).free, hole == NONE ? 0 : 1);
+    if (hole == NONE) {
+        SCRATCHED(tb_replaced, tb_spare_replace(shape, 1, words, length, scratch, spares, block), TB_NO_SPARE, spares);
+    } else {
+        SCRATCHED(tb_replaced, tb_spare_replace(shape, 1, words, length, scratch, spares, block), TB_ACCEPTED, spares);
+        more_words[place] = 0x40000000;
+        more_words[hole] = 0x30000000 + block;
+        same("sector on the free spare", tb_spare_sector(shape, 1, words, length, scratch, spares, block).sector, hole * shape.sectors + homes);
+    }
+    same("words that are not as they must be after it", differing(), 0);
+}
+
+/* A block, its place and the free place of a table, and the number that the table gets. */
+typedef struct free_place {
+    uint32_t block;
+    uint32_t place;
+    uint32_t hole;
+    uint32_t number;
+} free_place;
+
+/* Free places before a block and after it, in a table of three table blocks and in the longest one. */
+static void far_free_places(void)
+{
+    /* 260 spares, which are two table blocks and four places of a third, and two blocks to each. */
+    const free_place long_table[] = {
+        {0, 256, NONE, TB_ACCEPTED},
+        {0, 256, 200, TB_BAD_TABLE},
+        {400, 5, NONE, TB_ACCEPTED},
+        {400, 5, 259, TB_BAD_TABLE},
+        {400, 5, 4, TB_BAD_TABLE},
+        {400, 5, 6, TB_ACCEPTED},
+        /* In the table block of the primary place, 200: at that place, and on either side of it. */
+        {400, 200, 201, TB_ACCEPTED},
+        {400, 201, 200, TB_BAD_TABLE},
+        {400, 201, 199, TB_ACCEPTED},
+        {400, 199, 201, TB_BAD_TABLE},
+        {400, 202, 201, TB_BAD_TABLE},
+        {400, 202, 199, TB_BAD_TABLE},
+        {400, 202, 198, TB_ACCEPTED},
+        {400, 198, 199, TB_BAD_TABLE},
+        {400, 198, 202, TB_BAD_TABLE},
+        {400, 198, 203, TB_ACCEPTED},
+        /* Where the other side has left the table block: above 255, and below 128 for the primary place 130. */
+        {400, 140, 255, TB_BAD_TABLE},
+        {400, 140, 141, TB_BAD_TABLE},
+        {400, 140, 139, TB_ACCEPTED},
+        {400, 140, 256, TB_ACCEPTED},
+        {260, 200, 128, TB_BAD_TABLE},
+        {260, 200, 199, TB_BAD_TABLE},
+        {260, 200, 201, TB_ACCEPTED},
+        {260, 200, 127, TB_ACCEPTED},
+        /* At the distance 127, up from the primary place 128, and down from 255. */
+        {256, 255, NONE, TB_ACCEPTED},
+        {256, 255, 254, TB_BAD_TABLE},
+        {256, 255, 256, TB_ACCEPTED},
+        {256, 256, 255, TB_BAD_TABLE},
+        {510, 128, NONE, TB_ACCEPTED},
+        {510, 128, 129, TB_BAD_TABLE},
+        {510, 128, 127, TB_ACCEPTED},
+        {510, 256, 128, TB_BAD_TABLE},
+        /* In a later table block, and between later ones. */
+        {400, 256, 255, TB_BAD_TABLE},
+        {400, 258, 257, TB_BAD_TABLE},
+        {400, 258, 259, TB_ACCEPTED},
+        {400, 258, 0, TB_ACCEPTED},
+        {0, 128, 127, TB_BAD_TABLE},
+        {0, 128, 129, TB_ACCEPTED},
+        {0, 259, 128, TB_BAD_TABLE},
+        {0, 259, 258, TB_BAD_TABLE},
+        /* In an earlier one, also where the primary place is in the last table block. */
+        {400, 0, 256, TB_BAD_TABLE},
+        {400, 127, 126, TB_BAD_TABLE},
+        {400, 126, 127, TB_ACCEPTED},
+        {512, 130, 259, TB_BAD_TABLE},
+        {512, 130, 0, TB_BAD_TABLE},
+        {512, 130, 127, TB_BAD_TABLE},
+        {512, 130, 129, TB_BAD_TABLE},
+        {512, 130, 131, TB_ACCEPTED},
+        {512, 255, NONE, TB_ACCEPTED},
+        /* The last place before the null ones. */
+        {512, 258, 259, TB_ACCEPTED},
+        {512, 0, 259, TB_BAD_TABLE},
+        {518, 256, 259, TB_BAD_TABLE},
+        {518, 259, 258, TB_ACCEPTED},
+    };
+    /* As many spares as there may be. The last block has its primary place in the last of 512 table blocks, which begins at 65,408. */
+    const uint32_t last = 63 * TB_SPARES_MOST - 1;
+    const free_place longest_table[] = {
+        {last, 65407, NONE, TB_ACCEPTED},
+        {last, 65407, 65408, TB_BAD_TABLE},
+        {last, 65407, 65406, TB_BAD_TABLE},
+        {last, 65407, 0, TB_BAD_TABLE},
+        {last, 65406, 65407, TB_ACCEPTED},
+        {last, 65408, 0, TB_ACCEPTED},
+        {0, 65535, NONE, TB_ACCEPTED},
+        {0, 65535, 65534, TB_BAD_TABLE},
+        {0, 65535, 0, TB_BAD_TABLE},
+        {0, 65534, 65535, TB_ACCEPTED},
+    };
+
+    for (size_t i = 0; i < sizeof long_table / sizeof long_table[0]; i++) {
+        one_free_place(shaped(260, 1, 3), long_table[i].block, long_table[i].place, long_table[i].hole, long_table[i].number);
+    }
+    for (size_t i = 0; i < sizeof longest_table / sizeof longest_table[0]; i++) {
+        one_free_place(
+            shaped(TB_CYLINDERS_MOST, 16, TB_SECTORS_MOST), longest_table[i].block, longest_table[i].place, longest_table[i].hole,
+            longest_table[i].number);
+    }
 }
 
 /* Each refusal number once, by its name and by its number. */
@@ -912,6 +1135,9 @@ int main(void)
     groups();
     replacements();
     scratches();
+    judged_tables();
+    free_places();
+    far_free_places();
     refusals();
     nothing_lent();
 #ifdef __cplusplus

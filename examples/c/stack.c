@@ -19,9 +19,13 @@ enum { SECTORS = TB_SECTORS_MOST, HOMES = SECTORS - 1 };
 /* A block on the last spare. Each spare but one has a block of its own track. */
 enum { ON_SPARE = HOMES * (TRACKS - 1) + 1 };
 
-/* A block at home, whose search begins in the second table block and ends at the last place of the first, where the free spare is. The block
- * after it lies on the spare of their track, and has the same search. */
+/* A block at home, whose search order begins in the second table block and ends at the last place of the first, where the free spare is. So its
+ * look-up and the search for its spare go through every table block. The block after it lies on the spare of their track, and has the same
+ * order. */
 enum { AT_HOME = HOMES * TB_TABLE_BLOCK, FREE_PLACE = TB_TABLE_BLOCK - 1 };
+
+/* The last place in the search order of the last track. The free place comes before it. */
+enum { LAST_PLACE = TRACKS - TB_TABLE_BLOCK - 1 };
 
 /* What is lent. */
 static uint32_t list[TB_LIST_MOST + 1], bad[TB_LIST_MOST + 1], p[TB_LIST_MOST + 1], g[TB_LIST_MOST + 1], d[TB_LIST_MOST + 1];
@@ -124,6 +128,13 @@ static bool lay(unsigned situation)
     case 45: shape.offset = SECTORS; return true;
     case 46: table[FREE_PLACE] = 0x40000000u, replaced = AT_HOME + 1; return true; /* no spare is left for a block that lies on one */
     case 47: shape.cylinders--, memcpy(bad, list, sizeof bad); return true; /* more bad homes than spares */
+    case 48: table[LAST_PLACE] = 0x30000000u + ON_SPARE + 1; return true; /* a free place before a block */
+    case 49: /* a block that lies at the last place of its search order */
+        table[FREE_PLACE] = 0x30000000u + AT_HOME, block = AT_HOME;
+        tb_image_write(AT_HOME, data, sizeof data, false, image, TB_IMAGE_SIZE); return true;
+    case 50: /* the home of that block */
+        table[FREE_PLACE] = 0x30000000u + AT_HOME, sector = SECTORS * TB_TABLE_BLOCK;
+        cylinder = TB_TABLE_BLOCK / HEADS, head = TB_TABLE_BLOCK % HEADS; return true;
     default: return false;
     }
 }

@@ -12,7 +12,7 @@ use std::process::exit;
 use std::time::{Duration, Instant};
 
 use tautberry::{
-    format, image, page, page_length, spares, table_length, Cursor, Shape, UNITS_MOST,
+    format, image, page, page_length, spares, table_length, Cursor, Refusal, Shape, UNITS_MOST,
 };
 
 #[path = "../plain/mod.rs"]
@@ -36,6 +36,8 @@ fn main() {
     );
     steps();
     look_ups();
+    long_look_ups();
+    checks();
     verdicts();
     pages_read();
     pages_written();
@@ -122,8 +124,18 @@ fn steps() {
     compare("step by cursor, list of 4,096", "step", steps, library, plain);
 }
 
+/// A drive, its r, and the number of its spares in words.
+type Drive = (Shape, u32, &'static str);
+
+/// Drives from the fewest spares to the most.
+const DRIVES: [Drive; 3] = [
+    (Shape::ungrouped(64, 4, 32), 4, "1,024"),
+    (Shape::ungrouped(880, 16, 53), 1, "14,080"),
+    (Shape::ungrouped(4_096, 16, 64), 1, "65,536"),
+];
+
 /// The table of a drive with all but eight of its spares used, by blocks of their own track and of others.
-fn nearly_full(shape: Shape, r: u32) -> Vec<u32> {
+fn nearly_full((shape, r, _): Drive) -> Vec<u32> {
     let tracks = shape.cylinders * shape.heads;
     let homes = shape.sectors - r;
     // The step has no divisor in common with the number of blocks, so no block comes twice.
@@ -137,44 +149,98 @@ fn nearly_full(shape: Shape, r: u32) -> Vec<u32> {
     table
 }
 
-/// Look-ups of blocks at home and on spares; each checks the whole table. Plain Rust keeps a bit for each
-/// block in the scratch, as the library does.
+/// The table of a drive whose first spare is unusable and whose last eight are free. Each spare between them
+/// holds a block of the track of the spare before it, so that no block lies at its primary place.
+fn full_but_its_end((shape, r, _): Drive) -> Vec<u32> {
+    let spares = shape.cylinders * shape.heads * r;
+    let homes = shape.sectors - r;
+    let mut table = vec![0; table_length(spares as usize)];
+    table[spares as usize..].fill(8 << 28);
+    table[0] = 4 << 28;
+    for before in 0..spares - 9 {
+        table[before as usize + 1] = 3 << 28 | (before / r * homes + before % r);
+    }
+    table
+}
+
+/// Times the look-ups of these blocks in a table; each checks the whole table, and must give this number, 0 for
+/// accepted. Plain Rust keeps a bit for each block in the scratch, then for each place the next free one.
+fn compare_on_table(
+    (job, unit): (&str, &str),
+    (shape, r, _): Drive,
+    table: &[u32],
+    asked: &[u32],
+    number: u32,
+) {
+    let scratch = || vec![0; (shape.cylinders * shape.heads * r) as usize];
+    let (mut our_scratch, mut plain_scratch) = (scratch(), scratch());
+    let library = || {
+        let mut look_up = |block: &u32| {
+            let scratch = black_box(&mut our_scratch);
+            let answer = spares::sector_of(shape, r, black_box(table), scratch, *block);
+            answer.map_err(Refusal::number)
+        };
+        sum(asked.iter().map(&mut look_up), number)
+    };
+    let plain_shape = plain::Shape::from(shape);
+    let plain = || {
+        let mut look_up = |block: &u32| {
+            let scratch = black_box(&mut plain_scratch);
+            plain::spare_sector(plain_shape, r, black_box(table), scratch, *block)
+        };
+        sum(asked.iter().map(&mut look_up), number)
+    };
+    compare(job, unit, asked.len() as u64, library, plain);
+}
+
+/// The sum of the sectors that were answered; every call must have given this number, 0 for accepted.
+fn sum(answers: impl Iterator<Item = Result<u32, u32>>, number: u32) -> u64 {
+    let sectors = answers.map(|answer| {
+        assert_eq!(answer.err().unwrap_or(0), number);
+        u64::from(answer.unwrap_or(0))
+    });
+    sectors.sum()
+}
+
+/// Look-ups of blocks at home and on spares all over the drive.
 fn look_ups() {
-    let drives = [
-        ("look-up, 1,016 of 1,024 spares used", Shape::ungrouped(64, 4, 32), 4),
-        ("look-up, 14,072 of 14,080 spares used", Shape::ungrouped(880, 16, 53), 1),
-        ("look-up, 65,528 of 65,536 spares used", Shape::ungrouped(4_096, 16, 64), 1),
+    let jobs = [
+        "look-up, 1,016 of 1,024 spares used",
+        "look-up, 14,072 of 14,080 spares used",
+        "look-up, 65,528 of 65,536 spares used",
     ];
-    for (job, shape, r) in drives {
-        let table = nearly_full(shape, r);
-        let tracks = shape.cylinders * shape.heads;
-        let scratch = || vec![0; (tracks * r) as usize];
-        let (mut our_scratch, mut plain_scratch) = (scratch(), scratch());
-        let look_ups = 512;
-        let blocks = tracks * (shape.sectors - r);
-        let asked: Vec<u32> = (0..look_ups as u32).map(|ask| ask * 8_009 % blocks).collect();
-        let library = || {
-            let mut look_up = |block: &u32| {
-                let scratch = black_box(&mut our_scratch);
-                spares::sector_of(shape, r, black_box(&table), scratch, *block).ok()
-            };
-            sum(asked.iter().map(&mut look_up))
-        };
-        let plain_shape = plain::Shape::from(shape);
-        let plain = || {
-            let mut look_up = |block: &u32| {
-                let scratch = black_box(&mut plain_scratch);
-                plain::spare_sector(plain_shape, r, black_box(&table), scratch, *block).ok()
-            };
-            sum(asked.iter().map(&mut look_up))
-        };
-        compare(job, "look-up", look_ups, library, plain);
+    for (job, drive) in jobs.into_iter().zip(DRIVES) {
+        let (shape, r, _) = drive;
+        let blocks = shape.cylinders * shape.heads * (shape.sectors - r);
+        let asked: Vec<u32> = (0..512).map(|ask| ask * 8_009 % blocks).collect();
+        compare_on_table((job, "look-up"), drive, &nearly_full(drive), &asked, 0);
     }
 }
 
-/// The sum of what was answered; every call must have been accepted.
-fn sum(sectors: impl Iterator<Item = Option<u32>>) -> u64 {
-    sectors.map(|sector| u64::from(sector.expect("an answer"))).sum()
+/// Look-ups of blocks at home on the first tracks of the largest drive. Its free places lie in the last table
+/// block, so that each look-up goes through all 512.
+fn long_look_ups() {
+    let drive = DRIVES[2];
+    let (shape, r, _) = drive;
+    let asked: Vec<u32> =
+        (0..512).map(|ask| ask % 128 * (shape.sectors - r) + 1 + ask / 128).collect();
+    let job = ("look-up through 512 table blocks", "look-up");
+    compare_on_table(job, drive, &full_but_its_end(drive), &asked, 0);
+}
+
+/// Checks of a table without holes, where the look-up of block 0 then ends at its second place, and of one with
+/// a hole before its last block alone.
+fn checks() {
+    for drive in DRIVES {
+        let (shape, r, spares) = drive;
+        let mut table = full_but_its_end(drive);
+        let job = format!("check, {spares} spares, no hole");
+        compare_on_table((&job, "check"), drive, &table, &[0; 512], 0);
+        let last = (shape.cylinders * shape.heads * r - 9) as usize;
+        table[last - 1] = 0;
+        let job = format!("check, {spares} spares, a hole");
+        compare_on_table((&job, "check"), drive, &table, &[0; 512], 11);
+    }
 }
 
 /// Verdicts on 64 MiB of data, in 131,072 images one after the other.

@@ -1,6 +1,7 @@
 //! Descriptors and spares of a revectored drive.
 
 use std::collections::BTreeSet;
+use std::iter::once;
 
 use super::numbers::{check_list, fill, refuse, Answer, SPARES_MOST};
 use super::shape::{self, Shape};
@@ -122,8 +123,9 @@ fn take_scratch(drive: Drive, scratch: &mut [u32]) -> Answer<()> {
     Ok(())
 }
 
-/// Check 11: the length, each descriptor, and that no block is named twice.
-fn check_table(drive: Drive, table: &[u32]) -> Answer<()> {
+/// The rules of a table that look at no search order: the length, each descriptor, and that no block is
+/// named twice.
+pub fn check_descriptors(drive: Drive, table: &[u32]) -> Answer<()> {
     refuse(table.len() != drive.table_length(), 11)?;
     for (place, word) in table.iter().enumerate() {
         refuse(!obeys(drive, place, *word), 11)?;
@@ -131,6 +133,29 @@ fn check_table(drive: Drive, table: &[u32]) -> Answer<()> {
     let mut named = BTreeSet::new();
     for block in table.iter().filter_map(|word| allocated(*word)) {
         refuse(!named.insert(block), 11)?;
+    }
+    Ok(())
+}
+
+/// The free places that come before a block's place in the block's search order.
+pub fn holes(
+    drive: Drive,
+    table: &[u32],
+    place: usize,
+    block: u32,
+) -> impl Iterator<Item = usize> + '_ {
+    let order = search_order(table.len(), drive.primary(block));
+    let before = order.take_while(move |at| *at != place);
+    before.filter(|at| table[*at] == word(FREE, 0))
+}
+
+/// Check 11: those rules, and that no allocated block has a hole before it.
+pub fn check_table(drive: Drive, table: &[u32]) -> Answer<()> {
+    check_descriptors(drive, table)?;
+    for (place, word) in table.iter().enumerate() {
+        if let Some(block) = allocated(*word) {
+            refuse(holes(drive, table, place, block).next().is_some(), 11)?;
+        }
     }
     Ok(())
 }
@@ -226,16 +251,11 @@ pub fn block_at(
 pub fn search_order(length: usize, primary: usize) -> impl Iterator<Item = usize> {
     let own = primary / 128;
     let offset = (primary % 128) as i32;
-    let mut outward = vec![primary];
-    for away in 1..128 {
-        for beside in [offset + away, offset - away] {
-            if (0..128).contains(&beside) {
-                outward.push(own * 128 + beside as usize);
-            }
-        }
-    }
+    let beside = (1..128).flat_map(move |away| [offset + away, offset - away]);
+    let inside = once(offset).chain(beside).filter(|at| (0..128).contains(at));
+    let outward = inside.map(move |at| own * 128 + at as usize);
     let others = (own + 1..length / 128).chain(0..own);
-    outward.into_iter().chain(others.flat_map(|block| block * 128..block * 128 + 128))
+    outward.chain(others.flat_map(|block| block * 128..block * 128 + 128))
 }
 
 /// Writes the block's descriptor at its first free place and answers the place; with none free it
@@ -252,7 +272,17 @@ fn allocate(drive: Drive, table: &mut [u32], block: u32) -> Answer<u32> {
     Err(13)
 }
 
-/// The block's new place; the spare that it lay on, if it did, is unusable from then on.
+/// Sends a block to its first free place and answers the place; the spare that it lay on, if it did, is
+/// unusable from then on.
+pub fn send(drive: Drive, table: &mut [u32], block: u32, old: Option<u32>) -> Answer<u32> {
+    let new = allocate(drive, table, block)?;
+    if let Some(old) = old {
+        table[old as usize] = word(UNUSABLE, 0);
+    }
+    Ok(new)
+}
+
+/// The block's new place.
 pub fn replace(
     shape: Shape,
     r: u32,
@@ -262,11 +292,7 @@ pub fn replace(
 ) -> Answer<u32> {
     let drive = checked_block(shape, r, table, scratch, block)?;
     let old = drive.place_of(table, block);
-    let new = allocate(drive, table, block)?;
-    if let Some(old) = old {
-        table[old as usize] = word(UNUSABLE, 0);
-    }
-    Ok(new)
+    send(drive, table, block, old)
 }
 
 /// How many descriptors have code 0, 2, 3, 4 and 8.

@@ -157,7 +157,50 @@ fn named_twice(drive: &Drive, table: &[u32], marks: &mut [u32]) -> bool {
     })
 }
 
-fn check_table(drive: &Drive, table: &[u32], marks: &mut [u32]) -> Answer<()> {
+/// The primary place of a block.
+fn primary_of(drive: &Drive, block: u32) -> usize {
+    (block / drive.homes_of_track * drive.spares_of_track) as usize
+}
+
+/// Where the table block of a place starts.
+fn block_start(place: usize) -> usize {
+    place / TABLE_BLOCK * TABLE_BLOCK
+}
+
+/// Whether a free place comes before a block's place in the block's search order: `next` gets for each place
+/// the first free one from there on, or the table's length where none is.
+fn has_hole(drive: &Drive, table: &[u32], next: &mut [u32]) -> bool {
+    let used = &table[..next.len()];
+    let mut free = table.len() as u32;
+    for (place, &word) in used.iter().enumerate().rev() {
+        if word == 0 {
+            free = place as u32;
+        }
+        next[place] = free;
+    }
+    let free_within = |from: usize, to: usize| (next[from] as usize) < to;
+    used.iter().enumerate().any(|(place, &word)| {
+        if word >> 28 != 3 {
+            return false;
+        }
+        let primary = primary_of(drive, word & NUMBER);
+        let start = block_start(primary);
+        let end = start + TABLE_BLOCK;
+        if place >= end {
+            free_within(start, place)
+        } else if place < start {
+            free_within(start, table.len()) || free_within(0, place)
+        } else if place > primary {
+            let below = (primary + 1).saturating_sub(place - primary);
+            free_within(below.max(start), place)
+        } else {
+            let above = primary + (primary - place) + 1;
+            free_within(place + 1, above.min(end))
+        }
+    })
+}
+
+fn check_table(drive: &Drive, table: &[u32], scratch: &mut [u32]) -> Answer<()> {
     let spares = drive.spares as usize;
     refuse(table.len() != spares.next_multiple_of(TABLE_BLOCK), 11)?;
     let (used, tail) = table.split_at(spares);
@@ -165,14 +208,44 @@ fn check_table(drive: &Drive, table: &[u32], marks: &mut [u32]) -> Answer<()> {
         if names_block(word) {
             let block = word & NUMBER;
             refuse(block >= drive.blocks, 11)?;
-            let primary = block / drive.homes_of_track * drive.spares_of_track;
-            refuse((word >> 28 == 2) != (primary as usize == place), 11)?;
+            refuse((word >> 28 == 2) != (primary_of(drive, block) == place), 11)?;
         } else {
             refuse(word != 0 && word != 4 << 28, 11)?;
         }
     }
     refuse(tail.iter().any(|&word| word != 8 << 28), 11)?;
-    refuse(named_twice(drive, used, marks), 11)
+    refuse(named_twice(drive, used, scratch), 11)?;
+    refuse(has_hole(drive, table, scratch), 11)
+}
+
+/// The place that names a block, in a table without holes: the search ends at the first free place.
+fn place_of(drive: &Drive, table: &[u32], block: u32) -> Option<usize> {
+    let primary = primary_of(drive, block);
+    let start = block_start(primary);
+    let end = start + TABLE_BLOCK;
+    let ends = |&word: &u32| word == 0 || names_block(word) && word & NUMBER == block;
+    let place = outward(&table[start..end], primary - start, ends)
+        .map(|at| start + at)
+        .or_else(|| table[end..].iter().position(ends).map(|at| end + at))
+        .or_else(|| table[..start].iter().position(ends))?;
+    (table[place] != 0).then_some(place)
+}
+
+/// The first place of a table block that passes, outward from an offset and above before below.
+fn outward(block: &[u32], offset: usize, passes: impl Fn(&u32) -> bool) -> Option<usize> {
+    if passes(&block[offset]) {
+        return Some(offset);
+    }
+    for away in 1..TABLE_BLOCK {
+        let above = offset + away;
+        if block.get(above).is_some_and(&passes) {
+            return Some(above);
+        }
+        if away <= offset && passes(&block[offset - away]) {
+            return Some(offset - away);
+        }
+    }
+    None
 }
 
 /// The sector that a block of a revectored drive lies on.
@@ -184,13 +257,12 @@ pub fn spare_sector(
     block: u32,
 ) -> Answer<u32> {
     let drive = check_drive(shape, r)?;
-    let marks = scratch.get_mut(..drive.spares as usize).ok_or(7u32)?;
-    let checked = check_table(&drive, table, marks);
-    marks.fill(0);
+    let scratch = scratch.get_mut(..drive.spares as usize).ok_or(7u32)?;
+    let checked = check_table(&drive, table, scratch);
+    scratch.fill(0);
     checked?;
     refuse(block >= drive.blocks, 5)?;
-    let found = |&word: &u32| names_block(word) && word & NUMBER == block;
-    let (track, sector) = match table.iter().position(found) {
+    let (track, sector) = match place_of(&drive, table, block) {
         Some(place) => {
             let spare = place as u32;
             (spare / r, drive.homes_of_track + spare % r)

@@ -28,7 +28,8 @@ pub enum Refusal {
     StrayCursor = 9,
     /// Format's option is above 7, its space above 3, or a list comes with an option that takes none.
     BadOption = 10,
-    /// The table is not one of this drive, or a descriptor breaks a rule.
+    /// The table is not one of this drive, a descriptor breaks a rule, or a free place comes before a
+    /// block's own in its search order.
     BadTable = 11,
     // 12 is no longer given, and no other refusal takes it.
     /// No spare is free, or a first table would need more good spares than there are.

@@ -7,6 +7,13 @@
 //!
 //! A call that is refused by one of the first two checks leaves all of `scratch` as it was. After any
 //! other, accepted or refused, a number for each spare is 0, and the rest is as it was.
+//!
+//! The search order of a block begins at its primary place, that of the first spare of its home track. In
+//! the table block of this place it goes outward: one place up, one down, two up, two down and so on. Then
+//! come the table blocks after that one, then those before it, each rising. A table in which a free place
+//! comes before a block's own in this order is [`BadTable`](Refusal::BadTable). [`first_table`] and
+//! [`replace`] make no such table. So a look-up ends at the block or at the first free place, and a block
+//! that was not met by then lies at home.
 
 use crate::ffi;
 use crate::refusal::{answered, named, Refusal};

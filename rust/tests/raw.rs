@@ -205,6 +205,13 @@ fn table() -> Vec<u32> {
     table
 }
 
+/// The same with block 8 at place 3, although place 5 is free and comes first in its search order.
+fn table_with_a_hole() -> Vec<u32> {
+    let mut table = table();
+    table[3] = 0x3000_0008;
+    table
+}
+
 /// The drive's table with every place taken or unusable.
 fn full_table() -> Vec<u32> {
     let mut table = table();
@@ -226,7 +233,7 @@ fn left(number: u32) -> [u32; 10] {
 
 #[test]
 fn refused_spares_answer_zeros() {
-    let mut bad = table();
+    let (mut bad, holed) = (table(), table_with_a_hole());
     bad[0] = 0x1000_0000;
     // The number by block, the number by sector, r, the table, how much of the scratch is lent, and what
     // is asked for.
@@ -234,7 +241,9 @@ fn refused_spares_answer_zeros() {
         (1, 1, 5, table(), 10, 3),
         (1, 1, 5, table(), 0, 3),
         (7, 7, R, bad.clone(), 7, 900),
+        (7, 7, R, holed.clone(), 7, 3),
         (11, 11, R, bad, 10, 900),
+        (11, 11, R, holed, 10, 3),
         (5, 6, R, table(), 10, 900),
     ];
     for (by_block, by_sector, r, mut table, lent, asked) in cases {
@@ -462,6 +471,7 @@ fn refused_reads_answer_zeros() {
     read(1, 5, &table, 0, 7, &spare);
     read(7, R, &table[1..], 7, 12, &spare[1..]);
     read(11, R, &table[1..], 10, 12, &spare[1..]);
+    read(11, R, &table_with_a_hole(), 10, 7, &spare);
     read(5, R, &table, 10, 12, &spare[1..]);
     read(14, R, &table, 10, 7, &spare[1..]);
     for (number, image) in bad_images().into_iter().skip(1) {

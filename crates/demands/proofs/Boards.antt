@@ -1,7 +1,7 @@
 -- Wrong boards, each wrong in one respect, with the inputs that they are tried at.
 use Prim.Native.Nat.{ℕ, zero, suc, _+_, _-_, _*_, _%_, _^_}
 use mathlib.Core.Path.{_≡_}
-use mathlib.Core.Bool.{Bool, false, not}
+use mathlib.Core.Bool.{Bool, false, not, _&&_, _||_}
 use mathlib.Core.List.{List, [], _∷_, _++_, map}
 use lib.Dec.{eqb, ltb, leb}
 use lib.IntN.{pos, _+ℤ_}
@@ -10,10 +10,12 @@ use lib.Seq.{sets}
 use denote.Ref.{RefT}
 use Rattle.paper.specs.Checks.{pick, refuse, _orElse_, answer}
 use Rattle.paper.specs.Limits.{tableBlock, dataSize, headerSize, imageExtra}
-use Rattle.paper.specs.Refusals.{noRoom, badTable, noSpare, otherBlock, forcedError}
+use Rattle.paper.specs.Refusals.{noSuchBlock, noRoom, badTable, noSpare, otherBlock, forcedError}
 use Rattle.paper.specs.declared.Placed.{Placed}
 use Rattle.paper.specs.declared.Placed.the-variants.{At, Refused as NotPlaced}
 use Rattle.seek.specs.Search.{firstOr, rising}
+use Rattle.seek.specs.Lowest.{firstBelow}
+use Rattle.seek.specs.Every.{allBelow}
 use Rattle.words.specs.Words.{bytesOf}
 use Rattle.lists.specs.Union.{isIn, union}
 use Rattle.paper.specs.Promise.{written}
@@ -38,13 +40,15 @@ use Rattle.format.specs.Spaces.{listOf, newGrown, newList, newSpace, formatFaul
 use Rattle.format.specs.declared.Formatted.{Formatted}
 use Rattle.format.specs.declared.Formatted.the-variants.{Done, Refused as NotFormatted}
 use Rattle.layout.specs.declared.Drive.{Drive}
-use Rattle.layout.specs.Layouts.{driveOf, driveFault, homeCylinder, spareCylinder}
-use Rattle.layout.specs.Descriptors.{free, wordOf, numberOf, primary}
+use Rattle.layout.specs.Layouts.{driveOf, driveFault, homeSector, spareSector, homeCylinder, spareCylinder}
+use Rattle.layout.specs.Descriptors.{free, unusable, wordOf, numberOf, primary, isAllocated, names}
 use Rattle.table.specs.Rules.{tableFault, blockFault as spareBlockFault}
 use Rattle.table.specs.Scratch.{scratchFault}
-use Rattle.table.specs.Steps.{obeys, withMark}
-use Rattle.table.specs.Lookup.{placeOf, isReplaced}
-use Rattle.order.specs.Order.{inBlock, outward, blockStart, freeAt}
+use Rattle.table.specs.Places.{tableLength}
+use Rattle.table.specs.Steps.{mayStand, namedFirst, obeys, withMark}
+use Rattle.table.specs.Lookup.{placeOf, isReplaced, liesOn}
+use Rattle.order.specs.Order.{inBlock, outward, blockStart, order, freeAt}
+use Rattle.holes.specs.Steps.{noneFree, clearBefore}
 use Rattle.table.specs.declared.Census.{Census}
 use Rattle.replacing.specs.Replacing.{spareFor, descriptorAt, replacedIn, killedIn, movedIn}
 use Rattle.spares.specs.Spares.{replaceFault}
@@ -307,6 +311,53 @@ rulesFirst shape r t scratch =
     driveFault shape r
     orElse (refuse (not (obeys (driveOf shape r) t)) badTable
     orElse refuse (ltb (length scratch) (driveOf shape r .spares)) noRoom)
+
+-- Boards for holes.
+
+-- no free place of the primary's table block comes before a place; the other table blocks are not looked at
+abbrev pub clearNear : List ℕ → ℕ → ℕ → Bool
+clearNear t p q = pick (eqb (blockStart q) (blockStart p)) (clearBefore t p q) (noneFree t (blockStart p) (blockStart p + tableBlock))
+
+-- the test that a table breaks no rule, with it
+abbrev pub obeysNear : Drive → List ℕ → Bool
+obeysNear g t =
+    eqb (length t) (tableLength g)
+    && (allBelow (λ q. mayStand g q (getD t q 0)) (length t)
+    && (allBelow (namedFirst t) (length t)
+    && allBelow (λ q. not (isAllocated (getD t q 0)) || clearNear t (primary g (numberOf (getD t q 0))) q) (length t)))
+
+-- spares::sector_of: looks for holes so
+abbrev pub holesNear : Shape → ℕ → List ℕ → List ℕ → ℕ → Placed
+holesNear shape r t scratch b =
+    answer
+    (scratchFault shape r scratch
+    orElse (refuse (not (obeysNear (driveOf shape r) t)) badTable
+    orElse refuse (leb (driveOf shape r .blocks) b) noSuchBlock))
+    NotPlaced (At (liesOn (driveOf shape r) t b))
+
+-- where a search stops that takes an unusable place for the end of the blocks
+abbrev pub unusableStop : Drive → List ℕ → ℕ → ℕ
+unusableStop g t b = firstOr (length t) (λ q. eqb (getD t q 0) (wordOf unusable 0) || names (getD t q 0) b) (order (length t) (primary g b))
+
+-- spares::sector_of: looks a block up so
+abbrev pub stopsUnusable : Shape → ℕ → List ℕ → List ℕ → ℕ → Placed
+stopsUnusable shape r t scratch b =
+    answer (spareBlockFault shape r t scratch b) NotPlaced
+    (At
+    (pick (names (getD t (unusableStop (driveOf shape r) t b) 0) b)
+    (spareSector (driveOf shape r) (unusableStop (driveOf shape r) t b))
+    (homeSector (driveOf shape r) b)))
+
+-- the lowest free place of all
+abbrev pub lowestFree : List ℕ → ℕ
+lowestFree t = firstBelow (freeAt t) (length t)
+
+-- spares::replace: takes it
+abbrev pub takesLowest : Shape → ℕ → List ℕ → List ℕ → ℕ → Replaced × List ℕ
+takesLowest shape r t scratch b = (
+  answer (replaceFault shape r t scratch b) NotReplaced (Place (lowestFree t)),
+  answer (replaceFault shape r t scratch b) (λ fault. t) (set (killedIn t b) (lowestFree t) (descriptorAt (driveOf shape r) (lowestFree t) b)),
+)
 
 -- Boards for images.
 

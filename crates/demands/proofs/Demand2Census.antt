@@ -27,6 +27,7 @@ use Rattle.table.specs.Lookup.{placeOf}
 use Rattle.table.specs.Counting.{codeCount}
 use Rattle.table.specs.declared.Census.{Census}
 use Rattle.table.proofs.Exact.{table-sound, table-passes}
+use Rattle.layout.proofs.Layings.{laid}
 use Rattle.table.proofs.Obeying.{obeys-unbroken}
 use Rattle.first_table.specs.Marks.{isBadSpare, badSpares, badHomes}
 use Rattle.first_table.specs.Tables.{firstTable, firstTableFault}
@@ -79,10 +80,10 @@ module _ (shape : Shape) (r : ℕ) (list room : List ℕ) (long : ℕ) (after : 
   first-is : take long after ≡ firstTable (driveOf shape r) list
   first-is = first-table-hands shape r list room long after first .0 .first
 
-  first-sound : Sound shape r (take long after)
+  pub first-sound : Sound shape r (take long after)
   first-sound =
       let drive = drive-shows shape r (orElse-first (driveFault shape r) _ first-fault) in
-      rw first-is (record { shaped = drive .0; spared = drive .1; unbroken = obeys-unbroken (first-obeys shape r list room first-fault) })
+      rw first-is (record { shaped = drive .0; spared = drive .1; unbroken = obeys-unbroken (first-obeys shape r list room first-fault) (laid (drive .0) (drive .1)) })
 
   first-frees : codeCount (take long after) free + (length (badHomes (driveOf shape r) list) + badSpares (driveOf shape r) list) ≡ driveOf shape r .spares
   first-frees =
@@ -115,7 +116,7 @@ module _ (shape : Shape) (r : ℕ) (t scratch : List ℕ) (b : ℕ) (after : Lis
       (λ some. fills-refused step some)
 
 module _ {shape : Shape} {r : ℕ} {list : List ℕ} where
-  history-sound : {k killed : ℕ} {last : Shape} {last-r : ℕ} {t : List ℕ} → History shape r list k killed last last-r t → Sound last last-r t
+  pub history-sound : {k killed : ℕ} {last : Shape} {last-r : ℕ} {t : List ℕ} → History shape r list k killed last last-r t → Sound last last-r t
   history-sound (made room after long first) = first-sound shape r list room long after first
   history-sound (replaced {t} history asked asked-r scratch b q after step) = taken-after asked asked-r t scratch b q after step
   history-sound (refused {t} history asked asked-r scratch b fault after step) = rw (step-leaves asked asked-r t scratch b after fault step) (history-sound history)

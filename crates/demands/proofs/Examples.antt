@@ -7,7 +7,7 @@ use mathlib.Core.List.{List, [], _∷_}
 use native.Mathlib.Omega.{arith}
 use lib.Dec.{eqb}
 use lib.IntN.{ℤ, pos}
-use lib.ListN.{length, getD, replicate, length-replicate}
+use lib.ListN.{length, getD, set, replicate, length-replicate}
 use borrow.Author.Tests.{lt-ltb, le-ltb}
 use Rattle.paper.specs.Answers.{saidNamed}
 use Rattle.paper.specs.Limits.{dataSize, imageExtra}
@@ -58,7 +58,7 @@ use Rattle.image.specs.Code.{wordsOf, rotated, codeAfter, codeFrom, dataCode, c
 use Rattle.image.specs.Image.{storedIn, imageOf, writeFault}
 use Rattle.image.proofs.Exact.{length-passes}
 use Rattle.demands.specs.Relations.{AllowsOnly}
-use Rattle.demands.specs.Inputs.{chart, small, eight, holding, noneReplaced, afterSeven, afterEight, afterSix, sevenOnFive, eightOnThree, sevenOnSix, sixOnTwo, sevenOnSeven, zeroOnZero, sevenOnOne}
+use Rattle.demands.specs.Inputs.{chart, small, eight, holding, noneReplaced, afterSeven, afterEight, afterSix, sevenOnFive, eightOnThree, sevenOnSix, sixOnTwo, sevenOnSeven, zeroOnZero, sevenOnOne, sevenPastFour, tall, tallWith}
 use Rattle.demands.specs.Rows.{skip-sector, skip-block, format, spare-first, spare-replace, spare-full, spare-shift, spare-address, spare-sector, spare-block, spare-census, spare-short, image-write, Holds, AllHold, done, _also_, zeros, firstOne, lastOne, paperRows}
 
 module _ {Answer Said : Type 0} {said : Answer → Said} {nothing : ℕ → Said} {refused : ℕ → Answer} {fault : ℕ} {accepted : Answer} (alone : (k : ℕ) → said (refused k) ≡ nothing k) where
@@ -255,8 +255,18 @@ numbers-to-try =
     also shift-told small 2 sevenOnOne 7 refl
     also spare-taken small 2 afterSix 6 refl refl refl
     also shift-told small 2 (eight 0 0 0 0x40000000 0x20000007 0x30000008 0x30000006 0) 6 refl
-    also spare-taken small 2 _ 7 refl refl refl
     also spare-wanting small 2 _ refl refl
     also scratch-short small 2 afterSix refl
     also scratch-short small 2 (holding 0x30000007 0x20000007 0) refl
+    also lies-told small 2 sevenPastFour 7 refl
+    also lies-told small 2 sevenOnFive 7 refl
+    also census-told small 2 (holding 0x30000008 0x20000007 0) refl
+    also lies-told small 2 (holding 0x30000008 0x20000007 0x40000000) 8 refl
+    also scratch-short small 2 sevenPastFour refl
+    also lies-told tall 1 (tallWith 256 0x30000000) 0 refl
+    also lies-told tall 1 (set (tallWith 256 0x30000000) 200 0) 0 refl
+    also lies-told tall 1 (tallWith 5 0x30000190) 400 refl
+    also lies-told tall 1 (set (tallWith 5 0x30000190) 259 0) 400 refl
+    also lies-told tall 1 (set (tallWith 5 0x30000190) 4 0) 400 refl
+    also lies-told tall 1 (set (tallWith 5 0x30000190) 6 0) 400 refl
     also done

@@ -8,6 +8,7 @@ pub mod Jobs
 pub mod Demand2Skipped
 pub mod Demand2Revectored
 pub mod Demand2Census
+pub mod NoHoles
 pub mod ReadsInPlace
 pub mod Demand3
 pub mod Angles

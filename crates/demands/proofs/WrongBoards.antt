@@ -4,7 +4,7 @@ use Prim.Native.Nat.{ℕ, zero, suc, _+_, _-_, _<_}
 use mathlib.Core.Path.{_≡_, refl, sym, _∙_, ap}
 use mathlib.Core.Bool.{Bool, true, false, true≢false}
 use mathlib.Core.Logic.{inl, inr, ⊎-elim}
-use mathlib.Core.List.{List, [], _∷_}
+use mathlib.Core.List.{List, [], _∷_, List·Memᴰ·head}
 use native.Mathlib.Omega.{arith}
 use lib.IntN.{pos}
 use lib.ListN.{length, take, drop, getD, set, replicate, length-replicate}
@@ -45,9 +45,9 @@ use Rattle.shape.proofs.Exact.{shape-shows}
 use Rattle.layout.specs.Layouts.{Spared, driveOf}
 use Rattle.layout.proofs.Exact.{drive-shows}
 use Rattle.layout.specs.Descriptors.{free, codeOf}
-use Rattle.table.specs.Rules.{Breaks, named-twice, tableFault, TableJudged}
+use Rattle.table.specs.Rules.{Holed, Breaks, named-twice, Sound, tableFault, TableJudged, BlockJudged}
 use Rattle.table.specs.Lookup as Table
-use Rattle.table.specs.Lookup.{placeOf}
+use Rattle.table.specs.Lookup.{placeOf, Resides, liesOn}
 use Rattle.table.proofs.Lookups.{lies-only, lies-apart}
 use Rattle.order.specs.Order.{outward, order}
 use Rattle.table.specs.declared.Census.{Census}
@@ -58,7 +58,7 @@ use Rattle.spares.specs.declared.Replaced.the-variants.{Place, Refused as NotRe
 use Rattle.spares.specs.declared.Shifted.the-variants.{By}
 use Rattle.spares.specs.declared.Counted.the-variants.{Counts as CountedAs}
 use Rattle.spares.proofs.Exact.{replace-exactly}
-use Rattle.table.proofs.Exact.{sound-laid, sound-obeys, table-sound, table-exactly}
+use Rattle.table.proofs.Exact.{sound-laid, sound-obeys, table-sound, table-exactly, block-exactly}
 use Rattle.image.specs.Code as Code
 use Rattle.image.specs.Code.{wordsOf, rotated, codeFrom}
 use Rattle.image.specs.Image.{copies, headerOf, storedIn, foundIn, dataOf, imageOf, copiesFault, contentsFault, imageFault}
@@ -80,8 +80,8 @@ use Rattle.demands.specs.Histories.{killedBy}
 use Rattle.demands.specs.Numbered.{PlacedBy}
 use Rattle.demands.specs.Angles.{Angled, BothAngled}
 use Rattle.demands.specs.Scratches.{LeavesScratch}
-use Rattle.demands.specs.Inputs.{few, chart, small, eight, eightZeros, holding, noneReplaced, afterSeven, afterSix, sevenOnOne, twoGroups}
-use Rattle.demands.proofs.Boards.{made, scan, lent, pageWith, begun, damaged, older, newer, blank, trackWith, refusesAll, sameSector, addsOnce, skipsNothing, opened, runsAhead, cursorAfter, sectorsAfter, madeUpEntries, writesEarly, madeUpLengths, takesSectors, Composes, sameSpare, sparesNone, leavesTable, groupByRemainder, offsetOnce, neverRound, stoppedOrder, stopsSearch, leavesOld, freesOld, killsEarly, madeUpCensus, censusWith, truncatedShift, wrappedShift, everyForced, homeImage, readsHome, leavesMark, clearsAccepted, clearsAll, rulesFirst}
+use Rattle.demands.specs.Inputs.{few, chart, small, eight, eightZeros, holding, noneReplaced, afterSeven, afterSix, sevenOnFive, sevenOnOne, twoGroups, tall, tallWith}
+use Rattle.demands.proofs.Boards.{made, scan, lent, pageWith, begun, damaged, older, newer, blank, trackWith, refusesAll, sameSector, addsOnce, skipsNothing, opened, runsAhead, cursorAfter, sectorsAfter, madeUpEntries, writesEarly, madeUpLengths, takesSectors, Composes, sameSpare, sparesNone, leavesTable, groupByRemainder, offsetOnce, neverRound, stoppedOrder, stopsSearch, leavesOld, freesOld, killsEarly, madeUpCensus, censusWith, truncatedShift, wrappedShift, everyForced, homeImage, readsHome, leavesMark, clearsAccepted, clearsAll, rulesFirst, holesNear, stopsUnusable, takesLowest}
 
 -- a number that is given exactly is the only one
 no-other : {Rows : ℕ → Type 0} {number k : ℕ} → Exactly Rows number → (number ≡ k → ⊥) → Rows k → ⊥
@@ -249,7 +249,7 @@ counts-one one other =
 -- and any other census does not count the codes
 pub made-up-census :
     (census : Census) → (census ≡ censusWith 5 1 2 0 120 → ⊥) → (madeUpCensus census small 2 afterSix eightZeros ≡ CountedAs census) × (Counts afterSix census → ⊥)
-unfolding allBelow
+unfolding allBelow firstOr rising
 made-up-census census other = (refl, λ counts. other (counts-one counts after-six-counts))
 
 -- all zeros; one free place too many; the right sum with two codes exchanged
@@ -317,12 +317,12 @@ never-round-beyond = (refl, λ angled. omega (arith, angled .below))
 
 -- a shift kept unsigned: block 6 lies one cylinder nearer to cylinder 0, and 0 does not lead there
 pub truncated-shift-leads-not : (truncatedShift small 2 afterSix eightZeros 6 ≡ By (pos 0)) × (ShiftLeads small 2 afterSix 6 (pos 0) → ⊥)
-unfolding allBelow placeOf firstBelow
+unfolding allBelow placeOf firstBelow firstOr rising
 truncated-shift-leads-not = (refl, λ shift. let same : pos 1 ≡ pos 0 = shift .leads eightZeros (record { cylinder = 0; head = 1; sector = 4; angle = 1 }) (accepts (λ k. refl) refl refl) in let clash : _≡_ {A = ℕ} 0 1 = cc in omega arith)
 
 -- and 2 to the 32 less 1 is not within 1 − C to C − 1
 pub wrapped-shift-not-within : (wrappedShift small 2 afterSix eightZeros 6 ≡ By (pos 4294967295)) × (ShiftLeads small 2 afterSix 6 (pos 4294967295) → ⊥)
-unfolding allBelow placeOf firstBelow
+unfolding allBelow placeOf firstBelow firstOr rising
 wrapped-shift-not-within = (refl, λ shift. omega (arith, shift .within))
 
 -- the ± search that stops: at offset 0 it does not have place 2, which the search order has
@@ -385,7 +385,7 @@ in-spare-holds (in-spare lends) = lends .holds
 
 module _ (home spare : RefT (List ℕ)) (home-is : home .now ≡ trackWith 0 older) (spare-is : spare .now ≡ trackWith 4 newer) where
   lent-passes : lentFault dataSize small 2 afterSix eightZeros 6 (home .now) (spare .now) ≡ 0
-  unfolding lentFault allBelow
+  unfolding lentFault allBelow firstOr rising
   lent-passes = rw (home-is, spare-is, track-long 0 older, track-long 4 newer)
 
   home-holds : homeImage small 2 6 (home .now) ≡ imageOf 6 older false
@@ -460,3 +460,41 @@ clears-all-beyond =
 pub rules-first-unjudged : (rulesFirst small 2 twice [] ≡ badTable) × (TableJudged small 2 twice [] badTable → ⊥)
 unfolding allBelow
 rules-first-unjudged = (refl, no-other (table-exactly small 2 twice []) (λ same. omega arith))
+
+-- holes looked for in the primary's table block alone: block 0 is answered on sector 770, place 200 is free and comes before its place, and no row accepts the table
+abbrev holedLater : List ℕ
+holedLater = set (tallWith 256 0x30000000) 200 0
+
+abbrev tallZeros : List ℕ
+tallZeros = replicate 260 0
+
+pub holes-near-unjudged : (holesNear tall 1 holedLater tallZeros 0 ≡ At 770) × (BlockJudged tall 1 holedLater tallZeros 0 0 → ⊥)
+unfolding allBelow placeOf firstBelow firstOr rising
+holes-near-unjudged = (refl, no-other (block-exactly tall 1 holedLater tallZeros 0) (λ same. omega arith))
+
+-- a look-up that stops at an unusable place: block 7, on place 5 beside the unusable place 4, is answered at home, sector 11, and does not lie there
+pub stops-unusable-strays : (stopsUnusable small 2 sevenOnFive eightZeros 7 ≡ At 11) × (Resides (driveOf small 2) sevenOnFive 7 11 → ⊥)
+unfolding allBelow placeOf firstBelow firstOr rising outward
+stops-unusable-strays = (
+  refl,
+  λ there.
+      let sound : Sound small 2 sevenOnFive = table-sound small 2 sevenOnFive eightZeros refl in
+      let same : liesOn (driveOf small 2) sevenOnFive 7 ≡ 11 = lies-only (driveOf small 2) sevenOnFive 7 (sound-obeys sound) there in
+      omega (arith, same),
+)
+
+-- the lowest free place taken: block 7 goes to place 0, and its primary, place 4, is free
+pub takes-lowest-holes :
+    (takesLowest small 2 noneReplaced eightZeros 7 ≡ (Place 0, eight 0x30000007 0 0 0 0 0 0 0)) × Holed (driveOf small 2) (eight 0x30000007 0 0 0 0 0 0 0)
+unfolding allBelow placeOf firstBelow firstOr rising outward
+takes-lowest-holes = (
+  refl,
+  record {
+    place = 0;
+    in-table = omega arith;
+    allocated = inr refl;
+    hole = 4;
+    is-free = refl;
+    comes-before = record { front = take 8 (order 128 4); back = drop 9 (order 128 4); splits = refl; ahead = List·Memᴰ·head refl };
+  },
+)

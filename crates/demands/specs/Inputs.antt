@@ -1,7 +1,7 @@
--- The paper's small inputs and those of requests Q-9, Q-3 and Q-6, which the rows of the table and the wrong boards share.
+-- The paper's small inputs and those of requests Q-9, Q-3, Q-6 and Q-7, which the rows of the table and the wrong boards share.
 use Prim.Native.Nat.{ℕ}
-use mathlib.Core.List.{List, [], _∷_}
-use lib.ListN.{replicate}
+use mathlib.Core.List.{List, [], _∷_, _++_}
+use lib.ListN.{replicate, set}
 use Rattle.shape.specs.declared.Shape.{Shape}
 
 -- N 6: the first three sectors are bad, and three blocks are left
@@ -63,6 +63,10 @@ zeroOnZero = eight 0x20000000 0 0x30000006 0x30000008 0x40000000 0x40000000 0x40
 abbrev pub sevenOnOne : List ℕ
 sevenOnOne = eight 0x20000000 0x30000007 0x30000006 0x30000008 0x40000000 0x40000000 0x40000000 0x40000000
 
+-- block 7 on place 5 with its primary, place 4, free
+abbrev pub sevenPastFour : List ℕ
+sevenPastFour = eight 0 0 0 0 0 0x30000007 0 0
+
 -- C 2, H 4, S 5, with these groups, tracks of a group and offset
 abbrev pub fourHeads : ℕ → ℕ → ℕ → Shape
 fourHeads groups tracks offset = record { cylinders = 2; heads = 4; sectors = 5; groups = groups; tracks = tracks; offset = offset }
@@ -74,3 +78,11 @@ twoGroups = fourHeads 2 2 3
 -- the largest drive, each head a group, with the largest offset
 abbrev pub largest : Shape
 largest = record { cylinders = 4096; heads = 64; sectors = 64; groups = 64; tracks = 1; offset = 63 }
+
+-- C 260, H 1, S 3
+abbrev pub tall : Shape
+tall = record { cylinders = 260; heads = 1; sectors = 3; groups = 1; tracks = 1; offset = 0 }
+
+-- its table at r 1, of three table blocks: 260 spares, all unusable but one place, which holds this word
+abbrev pub tallWith : ℕ → ℕ → List ℕ
+tallWith place word = set (replicate 260 0x40000000 ++ replicate 124 0x80000000) place word

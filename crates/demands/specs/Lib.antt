@@ -5,6 +5,7 @@ pub mod Demand2Skipped
 pub mod Demand2Revectored
 pub mod Reads
 pub mod Histories
+pub mod NoHoles
 pub mod Demand3
 pub mod Angles
 pub mod Relations

@@ -3,6 +3,7 @@ use Rattle.demands.specs.Demand1.{Demand1}
 use Rattle.demands.specs.Scratches.{Scratches}
 use Rattle.demands.specs.Demand2Skipped.{Demand2Skipped}
 use Rattle.demands.specs.Demand2Revectored.{Demand2Revectored}
+use Rattle.demands.specs.NoHoles.{NoHoles}
 use Rattle.demands.specs.Demand3.{Demand3}
 use Rattle.demands.specs.Angles.{Angles}
 
@@ -17,5 +18,7 @@ pub record Mission : Type 0 where
   pub nights : Demand3
   -- Q-6. The scratch that a call is lent with a table is as it was where the shape or r is out of range or the scratch is too short; else its first T × r numbers are zeros after the call, accepted or refused, and the rest is as it was.
   pub scratch : Scratches
+  -- Q-7. A table passes only where no free place comes before an allocated block's place in that block's search order, and so the look-up stops at the first free place and answers what it answered; no first table and no replacement, accepted or refused, leaves such a place.
+  pub unholed : NoHoles
   -- Q-9. An address has its angle, (sector + offset × group) mod S; a bad g, t or offset is refusal 1; and the groups change nothing else.
   pub angles : Angles

@@ -1,10 +1,10 @@
--- Document 01, "Numbers to try": those that are marked P, and some of ours beside them; document 02, Q-9: angles, Q-3: spares that die, and Q-6: scratch; all as the rows of one table, and what it is for a row to hold.
+-- Document 01, "Numbers to try": those that are marked P, and some of ours beside them; document 02, Q-9: angles, Q-3: spares that die, Q-6: scratch, and Q-7: holes; all as the rows of one table, and what it is for a row to hold.
 use Prim.Native.Nat.{ℕ, _+_, _<_, _≤_}
 use mathlib.Core.Path.{_≡_}
 use mathlib.Core.Bool.{Bool, true, false}
 use mathlib.Core.List.{List, [], _∷_, _++_}
 use lib.IntN.{ℤ, pos, negsuc}
-use lib.ListN.{length, replicate}
+use lib.ListN.{length, replicate, set}
 use Rattle.paper.specs.Answers.{saidPlaced, saidNamed, saidWritten}
 use Rattle.paper.specs.Limits.{dataSize, imageExtra}
 use Rattle.paper.specs.declared.Written.{Written}
@@ -22,7 +22,7 @@ use Rattle.spares.specs.Promises as Spares
 use Rattle.image.specs.Image.{storedIn}
 use Rattle.image.specs.Promises.{Write}
 use Rattle.demands.specs.Relations.{AllowsOnly}
-use Rattle.demands.specs.Inputs.{few, chart, small, eight, noneReplaced, afterSeven, afterEight, afterSix, sevenOnFive, eightOnThree, sevenOnSix, sixOnTwo, sevenOnSeven, zeroOnZero, sevenOnOne, fourHeads, twoGroups, largest, holding}
+use Rattle.demands.specs.Inputs.{few, chart, small, eight, noneReplaced, afterSeven, afterEight, afterSix, sevenOnFive, eightOnThree, sevenOnSix, sixOnTwo, sevenOnSeven, zeroOnZero, sevenOnOne, sevenPastFour, fourHeads, twoGroups, largest, tall, tallWith, holding}
 
 -- a row: a call, what goes into it, and the paper's figures for what comes out; the refusal comes first, 0 where the call accepts
 pub data Row : Type 0 where
@@ -120,7 +120,7 @@ firstOne = 0 ∷ 1 ∷ replicate 510 0
 abbrev pub lastOne : List ℕ
 lastOne = replicate 511 0 ++ (1 ∷ [])
 
--- the table, in the paper's order, and then the rows of requests Q-9, Q-3 and Q-6; what the paper does not mark P is said to be ours
+-- the table, in the paper's order, and then the rows of requests Q-9, Q-3, Q-6 and Q-7; what the paper does not mark P is said to be ours
 abbrev pub paperRows : List Row
 paperRows =
     -- the chart's blocks 3, 57, 58 and 843
@@ -209,11 +209,25 @@ paperRows =
     -- block 6, which lies on place 3 beside blocks 7 and 8, goes to place 6, in its own cylinder
     ∷ spare-replace small 2 afterSix 6 6 (eight 0 0 0 0x40000000 0x20000007 0x30000008 0x30000006 0)
     ∷ spare-shift small 2 (eight 0 0 0 0x40000000 0x20000007 0x30000008 0x30000006 0) 6 (0, pos 0)
-    -- block 7 on place 5, with its primary free, goes to its primary
-    ∷ spare-replace small 2 (eight 0 0 0 0 0 0x30000007 0 0) 7 4 (eight 0 0 0 0 0x20000007 0x40000000 0 0)
     -- block 0 on its spare, with every other spare unusable, keeps it
     ∷ spare-full small 2 (eight 0x20000000 0x40000000 0x40000000 0x40000000 0x40000000 0x40000000 0x40000000 0x40000000)
     -- Q-6: scratch that is too short is refused 7, also where the table breaks a rule, or no such block is
     ∷ spare-short small 2 afterSix
     ∷ spare-short small 2 (holding 0x30000007 0x20000007 0)
+    -- Q-7: block 7 on place 5 with its primary, place 4, free is refused 11; with place 4 unusable it lies on sector 14
+    ∷ spare-sector small 2 sevenPastFour 7 (11, 0)
+    ∷ spare-sector small 2 sevenOnFive 7 (0, 14)
+    -- block 8 on place 3, with place 4 taken: place 5 comes before 3, and must not be free
+    ∷ spare-census small 2 (holding 0x30000008 0x20000007 0) (11, 0, 0, 0, 0, 0)
+    ∷ spare-sector small 2 (holding 0x30000008 0x20000007 0x40000000) 8 (0, 9)
+    -- scratch is looked at before holes
+    ∷ spare-short small 2 sevenPastFour
+    -- block 0 in the last table block: every place before place 256 comes before it
+    ∷ spare-sector tall 1 (tallWith 256 0x30000000) 0 (0, 770)
+    ∷ spare-sector tall 1 (set (tallWith 256 0x30000000) 200 0) 0 (11, 0)
+    -- block 400, whose primary is place 200, in the first table block: the last place before null and place 4 come before place 5, and place 6 does not
+    ∷ spare-sector tall 1 (tallWith 5 0x30000190) 400 (0, 17)
+    ∷ spare-sector tall 1 (set (tallWith 5 0x30000190) 259 0) 400 (11, 0)
+    ∷ spare-sector tall 1 (set (tallWith 5 0x30000190) 4 0) 400 (11, 0)
+    ∷ spare-sector tall 1 (set (tallWith 5 0x30000190) 6 0) 400 (0, 17)
     ∷ []

@@ -102,6 +102,7 @@ module _ (drive : Drive) (list : List ℕ) where
             let in-table : q < tableLength drive = omega (arith, marked-length) in
             rw (marked-at q in-table) (tells-standing drive q (markedWord drive list q) .told (word-stands q));
         once = λ p q b in-p in-q names-p names-q. absurd (true≢false (sym names-p ∙ marked-names-none p b in-p));
+        no-holes = λ p q b in-p named before. absurd (true≢false (sym named ∙ marked-names-none p b in-p));
       }
 
   -- and so no block is replaced

@@ -20,8 +20,9 @@ use Rattle.layout.specs.Descriptors.{free, unusable, codeOf, numberOf}
 use Rattle.table.specs.Steps.{Obeys}
 use Rattle.table.specs.Lookup.{Replaced, liesOn}
 use Rattle.table.specs.Counting.{codedAt, codeCount}
+use Rattle.table.proofs.Obeying.{free-spare}
 use Rattle.replacing.specs.Replacing.{spareFor, replacedIn, Altered}
-use Rattle.replacing.proofs.Replacements.{tells-none-free, free-spare, spare-free, stored-obeys, replacement-alters}
+use Rattle.replacing.proofs.Replacements.{tells-none-free, spare-free, spare-clear, stored-obeys, replacement-alters}
 use Rattle.replacing.proofs.Censuses.{free-less}
 use Rattle.first_table.specs.Tables.{replacedAll}
 use Rattle.first_table.specs.Steps.{Replaceable}
@@ -105,7 +106,7 @@ module _ {drive : Drive} (laid : Laid drive) {t : List ℕ} {b : ℕ} {blocks : 
 
   pub ready-next : Replaceable drive (replacedIn drive t b) blocks
   ready-next =
-      ready-after first-alters (stored-obeys laid (ready .obeys) first-home first-found first-free (ready .unnamed b (in-here b blocks))) first-fewer ready
+      ready-after first-alters (stored-obeys laid (ready .obeys) first-home first-found first-free (spare-clear laid (ready .obeys) first-home first-found) (ready .unnamed b (in-here b blocks))) first-fewer ready
 
 -- a block that lies on a spare which was free
 pub record OnFreeSpare (drive : Drive) (before after : List ℕ) (b : ℕ) : Type 0 where

@@ -7,7 +7,7 @@ use mathlib.Core.List.{List, _++_}
 use native.Mathlib.Omega.{arith}
 use lib.ListN.{length, getD, take, drop}
 use lib.Seq.{take-at, drop-at}
-use borrow.Author.Tests.{eqb-true, eq-eqb, not-true}
+use borrow.Author.Tests.{eqb-true, eq-eqb}
 use Rattle.paper.specs.Promise.{written}
 use Rattle.paper.proofs.Cases.{byBool, byLt}
 use Rattle.paper.proofs.Rows.{tells-false}
@@ -20,9 +20,9 @@ use Rattle.layout.specs.Steps.{Laid}
 use Rattle.layout.specs.Descriptors.{unusable, codeOf}
 use Rattle.table.specs.Rules.{Breaks}
 use Rattle.table.specs.Places.{tableLength}
-use Rattle.table.specs.Steps.{obeys, Obeys}
+use Rattle.table.specs.Steps.{Obeys}
 use Rattle.table.specs.Counting.{codedAt}
-use Rattle.table.proofs.Obeying.{tells-obeys, tells-breaks}
+use Rattle.table.proofs.Obeying.{obeys-unbroken}
 use Rattle.table.proofs.Lookups.{tells-replaced}
 use Rattle.first_table.specs.Marks.{isBadSpare, isBadHome, badHomes, goodSpares, marked}
 use Rattle.first_table.specs.Tables.{replacedAll, firstTable, OnGoodSpare, IsFirstTable}
@@ -51,9 +51,7 @@ module _ (drive : Drive) (list : List ℕ) (enough : length (badHomes drive list
 
     -- and so it breaks none of the rules
     table-breaks-none : Breaks drive (firstTable drive list) → ⊥
-    table-breaks-none breaks =
-        let passes : obeys drive (firstTable drive list) ≡ true = tells-obeys drive (firstTable drive list) .told table-obeys in
-        true≢false (sym passes ∙ not-true (obeys drive (firstTable drive list)) (tells-breaks drive (firstTable drive list) .told breaks))
+    table-breaks-none = obeys-unbroken table-obeys laid
 
     pub first-length : length (firstTable drive list) ≡ tableLength drive
     first-length = table-obeys .long

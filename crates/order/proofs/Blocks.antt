@@ -1,93 +1,111 @@
--- What the search of a held table block says of the table, for any test: the place that it finds, moved to where the block starts, is the first of the block's places that passes in the table, and where it finds none there is none. Blocks that rise are searched one after another.
+-- What the search of a held table block says of the table, for any test and any order of the block's places: the place that it finds, moved to where the block starts, is the first of these places that passes in the table, and where it finds none there is none. Blocks that rise are searched one after another.
 -- Assumes nothing.
-use Prim.Native.Nat.{ℕ, _+_, _-_, _<_, _≤_}
+use Prim.Native.Nat.{ℕ, suc, _+_, _-_, _<_, _≤_}
 use mathlib.Core.Path.{_≡_, sym, _∙_, ap}
-use mathlib.Core.Bool.{Bool}
-use mathlib.Core.List.{List, _++_, map, List·Memᴰ}
+use mathlib.Core.Bool.{Bool, true, false}
+use mathlib.Core.List.{List, _∷_, _++_, map, List·Memᴰ}
 use native.Mathlib.Omega.{arith}
+use native.Mathlib.Numerals.{add-one}
 use native.Mathlib.Nat.{add-zero}
 use lib.ListN.{length, getD, take, drop}
 use lib.Seq.{getD-take, getD-drop}
 use Rattle.paper.specs.Limits.{tableBlock}
 use Rattle.seek.specs.Search.{firstOr, rising}
-use Rattle.seek.proofs.Searches.{firstOr-alike, firstOr-default, firstOr-map, firstOr-map-none, firstOr-past, firstOr-early, firstOr-late, rising-map, rising-append, rising-inside}
-use Rattle.order.specs.Order.{blockOrder}
-use Rattle.order.proofs.Once.{block-inside, block-rises}
+use Rattle.seek.proofs.Searches.{firstOr-here, firstOr-next, firstOr-alike, firstOr-default, firstOr-map, firstOr-map-none, firstOr-past, firstOr-early, firstOr-late, rising-map, rising-append, rising-inside}
 
 -- the descriptor at a place of a table, or of a block of it, passes a test
-abbrev pub stopsAt : (ℕ → Bool) → List ℕ → ℕ → Bool
-stopsAt stops t q = stops (getD t q 0)
+abbrev pub passesAt : (ℕ → Bool) → List ℕ → ℕ → Bool
+passesAt passes t q = passes (getD t q 0)
 
--- the places of the table block that starts at a place, outward from offset o
-abbrev blockAt : ℕ → ℕ → List ℕ
-blockAt start o = map (λ (k : ℕ). start + k) (blockOrder o)
+-- places of a table block, moved to where the block starts
+abbrev movedTo : ℕ → List ℕ → List ℕ
+movedTo start places = map (λ (k : ℕ). start + k) places
 
-module _ (stops : ℕ → Bool) (t : List ℕ) (start o : ℕ) where
+module _ (passes : ℕ → Bool) (t : List ℕ) (start : ℕ) (places : List ℕ) (inside : (k : ℕ) → List·Memᴰ k places → k < tableBlock) where
   -- the test at an offset, asked in the table
   abbrev moved : ℕ → Bool
-  moved offset = stopsAt stops t (start + offset)
+  moved offset = passesAt passes t (start + offset)
 
   held-alike :
       (held : List ℕ) → held ≡ take tableBlock (drop start t) →
-      firstOr tableBlock (stopsAt stops held) (blockOrder o) ≡ firstOr tableBlock moved (blockOrder o)
-  held-alike held holds = firstOr-alike (stopsAt stops held) moved tableBlock (blockOrder o) alike
+      firstOr tableBlock (passesAt passes held) places ≡ firstOr tableBlock moved places
+  held-alike held holds = firstOr-alike (passesAt passes held) moved tableBlock places alike
     where
-      alike : (offset : ℕ) → List·Memᴰ offset (blockOrder o) → stopsAt stops held offset ≡ moved offset
+      alike : (offset : ℕ) → List·Memᴰ offset places → passesAt passes held offset ≡ moved offset
       alike offset m =
-          ap stops
+          ap passes
           (ap (λ (l : List ℕ). getD l offset 0) holds
-          ∙ getD-take tableBlock (drop start t) offset 0 (block-inside o offset m)
+          ∙ getD-take tableBlock (drop start t) offset 0 (inside offset m)
           ∙ getD-drop start t offset 0)
 
-  module _ (held : List ℕ) (holds : held ≡ take tableBlock (drop start t)) (place : ℕ) (found : place ≡ firstOr tableBlock (stopsAt stops held) (blockOrder o)) (default : ℕ) where
-    is-moved : place ≡ firstOr tableBlock moved (blockOrder o)
+  module _ (held : List ℕ) (holds : held ≡ take tableBlock (drop start t)) (place : ℕ) (found : place ≡ firstOr tableBlock (passesAt passes held) places) (default : ℕ) where
+    is-moved : place ≡ firstOr tableBlock moved places
     is-moved = found ∙ held-alike held holds
 
-    is-there : firstOr (start + tableBlock) (stopsAt stops t) (blockAt start o) ≡ start + place
+    is-there : firstOr (start + tableBlock) (passesAt passes t) (movedTo start places) ≡ start + place
     is-there =
-        firstOr-map (stopsAt stops t) (λ (k : ℕ). start + k) tableBlock (blockOrder o) ∙ ap (λ (k : ℕ). start + k) (sym is-moved)
+        firstOr-map (passesAt passes t) (λ (k : ℕ). start + k) tableBlock places ∙ ap (λ (k : ℕ). start + k) (sym is-moved)
 
-    pub block-found : place < tableBlock → firstOr default (stopsAt stops t) (blockAt start o) ≡ start + place
-    block-found inside =
-        firstOr-default (stopsAt stops t) (start + tableBlock) default (blockAt start o) (λ none. omega (arith, is-there)) ∙ is-there
+    pub block-found : place < tableBlock → firstOr default (passesAt passes t) (movedTo start places) ≡ start + place
+    block-found here =
+        firstOr-default (passesAt passes t) (start + tableBlock) default (movedTo start places) (λ none. omega (arith, is-there)) ∙ is-there
 
-    pub block-none : tableBlock ≤ place → firstOr default (stopsAt stops t) (blockAt start o) ≡ default
-    block-none outside =
-        firstOr-map-none (stopsAt stops t) (λ (k : ℕ). start + k) default (blockOrder o)
-        (firstOr-past moved tableBlock (blockOrder o) (block-inside o) (omega (arith, is-moved)))
+    pub block-none : tableBlock ≤ place → firstOr default (passesAt passes t) (movedTo start places) ≡ default
+    block-none past =
+        firstOr-map-none (passesAt passes t) (λ (k : ℕ). start + k) default places
+        (firstOr-past moved tableBlock places inside (omega (arith, is-moved)))
 
--- a block searched outward from its first place is a rising run
-pub block-run : (start : ℕ) → blockAt start 0 ≡ rising start tableBlock
-block-run start =
-    ap (map (λ (k : ℕ). start + k)) block-rises ∙ rising-map start 0 tableBlock ∙ ap (λ (k : ℕ). rising k tableBlock) (add-zero start)
+-- the places of a block that is searched rising are a run of the table
+block-run : (start : ℕ) → movedTo start (rising 0 tableBlock) ≡ rising start tableBlock
+block-run start = rising-map start 0 tableBlock ∙ ap (λ (k : ℕ). rising k tableBlock) (add-zero start)
 
-module _ (stops : ℕ → Bool) (t : List ℕ) where
+module _ (passes : ℕ → Bool) (t : List ℕ) where
   -- the first of a run of places that passes, or the table's length
   abbrev firstIn : List ℕ → ℕ
-  firstIn = firstOr (length t) (stopsAt stops t)
+  firstIn = firstOr (length t) (passesAt passes t)
 
-  -- a run of whole blocks that is not over: its first block has a find or is passed
-  module _ (start to place : ℕ) (fits : start + tableBlock ≤ to) (short : to ≤ length t) (found : place ≡ firstIn (blockAt start 0)) where
+  -- a run of whole blocks that is not over: its first block, searched rising, has a find or is passed
+  module _ (start to : ℕ) (fits : start + tableBlock ≤ to) (short : to ≤ length t) (held : List ℕ) (holds : held ≡ take tableBlock (drop start t)) (place : ℕ) (found : place ≡ firstOr tableBlock (passesAt passes held) (rising 0 tableBlock)) where
     split : rising start (to - start) ≡ rising start tableBlock ++ rising (start + tableBlock) (to - (start + tableBlock))
     split =
         let all : to - start ≡ tableBlock + (to - (start + tableBlock)) = omega arith in
         ap (rising start) all ∙ rising-append start tableBlock (to - (start + tableBlock))
 
-    is-first : place ≡ firstIn (rising start tableBlock)
-    is-first = found ∙ ap firstIn (block-run start)
+    within : (k : ℕ) → List·Memᴰ k (rising 0 tableBlock) → k < tableBlock
+    within k m = rising-inside 0 tableBlock k m .1
 
-    pub run-found : place < length t → firstIn (rising start (to - start)) ≡ place
+    pub run-found : place < tableBlock → firstIn (rising start (to - start)) ≡ start + place
     run-found here =
+        let there : firstIn (rising start tableBlock) ≡ start + place = ap firstIn (sym (block-run start)) ∙ block-found passes t start (rising 0 tableBlock) within held holds place found (length t) here in
         ap firstIn split
-        ∙ firstOr-early (stopsAt stops t) (length t) (rising start tableBlock) (rising (start + tableBlock) (to - (start + tableBlock))) (λ none. omega (arith, is-first))
-        ∙ sym is-first
+        ∙ firstOr-early (passesAt passes t) (length t) (rising start tableBlock) (rising (start + tableBlock) (to - (start + tableBlock))) (λ none. omega arith)
+        ∙ there
 
-    pub run-passed : length t ≤ place → firstIn (rising start (to - start)) ≡ firstIn (rising (start + tableBlock) (to - (start + tableBlock)))
+    pub run-passed : tableBlock ≤ place → firstIn (rising start (to - start)) ≡ firstIn (rising (start + tableBlock) (to - (start + tableBlock)))
     run-passed none =
+        let nowhere : firstIn (rising start tableBlock) ≡ length t = ap firstIn (sym (block-run start)) ∙ block-none passes t start (rising 0 tableBlock) within held holds place found (length t) none in
         ap firstIn split
-        ∙ firstOr-late (stopsAt stops t) (length t) (rising start tableBlock) (λ x m. omega (arith, rising-inside start tableBlock x m .1)) (rising (start + tableBlock) (to - (start + tableBlock))) (omega (arith, is-first))
+        ∙ firstOr-late (passesAt passes t) (length t) (rising start tableBlock) (λ x m. omega (arith, rising-inside start tableBlock x m .1)) (rising (start + tableBlock) (to - (start + tableBlock))) (omega arith)
 
   -- a run that is over has nothing to search
   pub run-over : (start to : ℕ) → to ≤ start → firstIn (rising start (to - start)) ≡ length t
   unfolding firstOr rising
   run-over start to over = let none : to - start ≡ 0 = omega arith in rw none
+
+-- a block searched rising, place by place
+module _ (passes : ℕ → Bool) (default place : ℕ) where
+  left : place < tableBlock → rising place (tableBlock - place) ≡ place ∷ rising (place + 1) (tableBlock - (place + 1))
+  unfolding rising
+  left here = let one-more : tableBlock - place ≡ suc (tableBlock - (place + 1)) = omega arith in rw (one-more, add-one place)
+
+  pub place-stops : place < tableBlock → passes place ≡ true → firstOr default passes (rising place (tableBlock - place)) ≡ place
+  place-stops here stops = rw (left here) (firstOr-here passes default place (rising (place + 1) (tableBlock - (place + 1))) stops)
+
+  pub place-passed :
+      place < tableBlock → passes place ≡ false →
+      firstOr default passes (rising place (tableBlock - place)) ≡ firstOr default passes (rising (place + 1) (tableBlock - (place + 1)))
+  place-passed here fails = rw (left here) (firstOr-next passes default place (rising (place + 1) (tableBlock - (place + 1))) fails)
+
+  pub places-over : tableBlock ≤ place → firstOr default passes (rising place (tableBlock - place)) ≡ default
+  unfolding firstOr rising
+  places-over over = let none : tableBlock - place ≡ 0 = omega arith in rw none

@@ -4,5 +4,6 @@ pub mod Times
 pub mod Once
 pub mod Blocks
 pub mod Parts
+pub mod Splits
 pub mod Found
 pub mod Examples

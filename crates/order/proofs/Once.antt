@@ -13,12 +13,13 @@ use Rattle.paper.proofs.Cases.{byLt, byEq}
 use Rattle.seek.specs.Count.{times}
 use Rattle.seek.specs.Search.{rising}
 use Rattle.seek.proofs.Searches.{rising-append}
+use Rattle.seek.proofs.Times.{times-none, times-append, member-counts, counts-member}
 use Rattle.order.specs.Order.{inBlock, around, outward, blockOrder, blockStart, order}
 use Rattle.order.proofs.Signs.{minus-within, minus-below}
-use Rattle.order.proofs.Times.{same, below, same-yes, same-no, same-alike, below-yes, below-no, below-more, times-append, times-none, member-counts, counts-member, rising-once, moved-once, moved-none}
+use Rattle.order.proofs.Times.{same, below, same-yes, same-no, same-alike, below-yes, below-no, below-more, rising-once, moved-once, moved-none}
 
 -- an offset gives places of the block alone, and a place of the block where it leads to it
-in-block-none : (q : ℕ) (offset : ℤ) → tableBlock ≤ q → times q (inBlock offset) ≡ 0
+pub in-block-none : (q : ℕ) (offset : ℤ) → tableBlock ≤ q → times q (inBlock offset) ≡ 0
 unfolding times
 in-block-none q (negsuc i) h = refl
 in-block-none q (pos i) h =
@@ -26,7 +27,7 @@ in-block-none q (pos i) h =
     (λ inside. rw (lt-ltb i tableBlock inside, same-no q i (λ e. omega arith)))
     (λ outside. rw (le-ltb i tableBlock outside))
 
-in-block-once : (q i : ℕ) → q < tableBlock → times q (inBlock (pos i)) ≡ same q i
+pub in-block-once : (q i : ℕ) → q < tableBlock → times q (inBlock (pos i)) ≡ same q i
 unfolding times
 in-block-once q i h =
     byLt i tableBlock
@@ -34,7 +35,7 @@ in-block-once q i h =
     (λ outside. rw (le-ltb i tableBlock outside) (sym (same-no q i (λ e. omega arith))))
 
 -- how far a place lies from another
-abbrev apart : ℕ → ℕ → ℕ
+abbrev pub apart : ℕ → ℕ → ℕ
 apart o q = (o - q) + (q - o)
 
 around-once : (o q k : ℕ) → o < tableBlock → q < tableBlock → times q (around o k) ≡ same (apart o q) k
@@ -60,7 +61,7 @@ around-once o q (suc k) inside h =
       same-alike q (o - suc k) (apart o q) (suc k) (λ f. omega arith) (λ f. omega arith),
     )))))
 
-outward-once : (o q distance : ℕ) → o < tableBlock → q < tableBlock → times q (outward o distance) ≡ below (apart o q) distance
+pub outward-once : (o q distance : ℕ) → o < tableBlock → q < tableBlock → times q (outward o distance) ≡ below (apart o q) distance
 unfolding outward times
 outward-once o q zero inside h = sym (below-no (apart o q) 0 (omega arith))
 outward-once o q (suc distance) inside h =
@@ -73,7 +74,7 @@ around-none o q (suc k) h =
     times-append q (inBlock (pos o +ℤ pos (suc k))) (inBlock (pos o +ℤ negsuc k))
     ∙ omega (arith, in-block-none q (pos o +ℤ pos (suc k)) h, in-block-none q (pos o +ℤ negsuc k) h)
 
-outward-none : (o q distance : ℕ) → tableBlock ≤ q → times q (outward o distance) ≡ 0
+pub outward-none : (o q distance : ℕ) → tableBlock ≤ q → times q (outward o distance) ≡ 0
 unfolding outward times
 outward-none o q zero h = refl
 outward-none o q (suc distance) h =
@@ -91,7 +92,7 @@ pub block-inside : (o q : ℕ) → List·Memᴰ q (blockOrder o) → q < tableBl
 block-inside o q m = byLt q tableBlock (λ h. h) (λ h. absurd (omega (arith, member-counts q (blockOrder o) m, outward-none o q tableBlock h)))
 
 -- so has the order moved to where the block starts
-moved-block :
+pub moved-block :
     (base o q : ℕ) → o < tableBlock →
     times q (map (λ (k : ℕ). base + k) (blockOrder o)) + below q base ≡ below q (base + tableBlock)
 moved-block base o q inside =
@@ -108,22 +109,6 @@ moved-block base o q inside =
     byLt q (base + tableBlock)
     (λ l. omega (arith, below-no q base h, below-yes (q - base) tableBlock (omega arith), below-yes q (base + tableBlock) l))
     (λ l. omega (arith, below-no q base h, below-no (q - base) tableBlock (omega arith), below-no q (base + tableBlock) l)))
-
-around-first : (k : ℕ) → k < tableBlock → around 0 k ≡ k ∷ []
-around-first zero h = refl
-around-first (suc k) h = rw (minus-below 0 (suc k) (omega arith), zero-add (suc k), lt-ltb (suc k) tableBlock h)
-
-outward-rises : (distance : ℕ) → distance ≤ tableBlock → outward 0 distance ≡ rising 0 distance
-unfolding outward rising
-outward-rises zero h = refl
-outward-rises (suc distance) h =
-    let last : rising 0 (distance + 1) ≡ rising 0 distance ++ ((0 + distance) ∷ []) = rising-append 0 distance 1 in
-    rw (outward-rises distance (omega arith), around-first distance (omega arith))
-    (sym (rw (add-one distance, zero-add distance) at last))
-
--- from the block's first place on the outward order rises
-pub block-rises : blockOrder 0 ≡ rising 0 tableBlock
-block-rises = outward-rises tableBlock (omega arith)
 
 module _ (places p : ℕ) (whole : places % tableBlock ≡ 0) (inside : p < places) where
   order-counts : (q : ℕ) → times q (order places p) ≡ below q places

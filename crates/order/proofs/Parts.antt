@@ -12,9 +12,9 @@ use Rattle.seek.specs.Search.{firstOr, rising}
 use Rattle.seek.proofs.Searches.{firstOr-early, firstOr-late}
 use Rattle.order.specs.Order.{blockOrder, blockStart, order}
 use Rattle.order.proofs.Once.{order-inside}
-use Rattle.order.proofs.Blocks.{stopsAt}
+use Rattle.order.proofs.Blocks.{passesAt}
 
-module _ (stops : ℕ → Bool) (t : List ℕ) (p : ℕ) (whole : length t % tableBlock ≡ 0) (inside : p < length t) where
+module _ (passes : ℕ → Bool) (t : List ℕ) (p : ℕ) (whole : length t % tableBlock ≡ 0) (inside : p < length t) where
   -- the parts: the primary's block, the blocks after it, the blocks before it
   abbrev near : List ℕ
   near = map (λ (k : ℕ). blockStart p + k) (blockOrder (p % tableBlock))
@@ -27,27 +27,27 @@ module _ (stops : ℕ → Bool) (t : List ℕ) (p : ℕ) (whole : length t % tab
 
   -- the first of a part that passes, or the table's length
   abbrev firstIn : List ℕ → ℕ
-  firstIn = firstOr (length t) (stopsAt stops t)
+  firstIn = firstOr (length t) (passesAt passes t)
 
   module _ (place : ℕ) (found : place ≡ firstIn near) where
     pub found-near : place < length t → place ≡ firstIn (order (length t) p)
-    found-near here = found ∙ sym (firstOr-early (stopsAt stops t) (length t) near (after ++ before) (λ none. omega arith))
+    found-near here = found ∙ sym (firstOr-early (passesAt passes t) (length t) near (after ++ before) (λ none. omega arith))
 
     module _ (none-near : length t ≤ place) (later : ℕ) (found-later : later ≡ firstIn after) where
       near-passed : firstIn (order (length t) p) ≡ firstIn (after ++ before)
       near-passed =
-          firstOr-late (stopsAt stops t) (length t) near
+          firstOr-late (passesAt passes t) (length t) near
           (λ x m. order-inside (length t) p whole inside x (Memᴰ·append-left (after ++ before) m))
           (after ++ before)
           (omega arith)
 
       pub found-after : later < length t → later ≡ firstIn (order (length t) p)
       found-after here =
-          found-later ∙ sym (near-passed ∙ firstOr-early (stopsAt stops t) (length t) after before (λ none. omega arith))
+          found-later ∙ sym (near-passed ∙ firstOr-early (passesAt passes t) (length t) after before (λ none. omega arith))
 
       after-passed : length t ≤ later → firstIn (after ++ before) ≡ firstIn before
       after-passed none-after =
-          firstOr-late (stopsAt stops t) (length t) after
+          firstOr-late (passesAt passes t) (length t) after
           (λ x m. order-inside (length t) p whole inside x (Memᴰ·append-right near (Memᴰ·append-left before m)))
           before
           (omega arith)

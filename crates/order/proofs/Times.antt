@@ -1,11 +1,10 @@
--- How often a number stands in a list: parts add up, a number stands somewhere exactly where it is counted, and what rising runs and moved lists have.
+-- How often a number stands in a rising run and in a moved list.
 -- Assumes nothing.
 use Prim.Native.Nat.{ℕ, zero, suc, _+_, _-_, _<_, _≤_}
 use mathlib.Core.Path.{_≡_, refl, sym, _∙_}
-use mathlib.Core.Logic.{⊎-elim}
-use mathlib.Core.List.{List, [], _∷_, _++_, map, List·Memᴰ, List·Memᴰ·head, List·Memᴰ·tail, List·Memᴰ·not-nil, List·Memᴰ·cases-cons}
+use mathlib.Core.List.{List, [], _∷_, map}
 use native.Mathlib.Omega.{arith}
-use native.Mathlib.Nat.{add-zero, zero-add, add-suc, suc-add, add-assoc}
+use native.Mathlib.Nat.{add-zero, zero-add, add-suc, suc-add}
 use lib.Dec.{ltb, eqb}
 use borrow.Author.Tests.{lt-ltb, le-ltb, eq-eqb, ne-eqb}
 use Rattle.paper.specs.Checks.{oneIf}
@@ -47,30 +46,6 @@ below-more q n =
     byLt q n
     (λ h. omega (arith, same-no q n e, below-yes q n h, below-yes q (suc n) (omega arith)))
     (λ h. omega (arith, same-no q n e, below-no q n h, below-no q (suc n) (omega arith))))
-
-pub times-none : (q : ℕ) → times q [] ≡ 0
-unfolding times
-times-none q = refl
-
-pub times-append : (q : ℕ) (xs ys : List ℕ) → times q (xs ++ ys) ≡ times q xs + times q ys
-unfolding times
-times-append q [] ys = sym (zero-add (times q ys))
-times-append q (x ∷ xs) ys = rw (times-append q xs ys) (sym (add-assoc (same q x) (times q xs) (times q ys)))
-
--- a number that stands somewhere is counted, and one that is counted stands somewhere
-pub member-counts : (q : ℕ) (xs : List ℕ) → List·Memᴰ q xs → 0 < times q xs
-unfolding times
-member-counts q [] m = absurd (List·Memᴰ·not-nil m)
-member-counts q (x ∷ xs) m =
-    ⊎-elim (λ e. omega (arith, same-yes q x e)) (λ later. omega (arith, member-counts q xs later)) (List·Memᴰ·cases-cons m)
-
-pub counts-member : (q : ℕ) (xs : List ℕ) → 0 < times q xs → List·Memᴰ q xs
-unfolding times
-counts-member q [] some = absurd (omega arith)
-counts-member q (x ∷ xs) some =
-    byEq q x
-    (λ e. List·Memᴰ·head e)
-    (λ e. List·Memᴰ·tail (counts-member q xs (omega (arith, same-no q x e))))
 
 -- a rising run has each number from its first to its last once
 pub rising-once : (q first count : ℕ) → times q (rising first count) + below q first ≡ below q (first + count)

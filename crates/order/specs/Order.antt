@@ -1,6 +1,6 @@
--- Document 01, "Descriptors and spares": the order in which the places of a table are searched for a block.
+-- Document 01, "Descriptors and spares", and document 02, Q-7: the order in which the places of a table are searched for a block, and where a search stops.
 use Prim.Native.Nat.{ℕ, zero, suc, _+_, _-_, _*_, _/_, _%_}
-use mathlib.Core.Bool.{Bool}
+use mathlib.Core.Bool.{Bool, _||_}
 use mathlib.Core.List.{List, [], _∷_, _++_, map}
 use lib.Dec.{ltb, eqb}
 use lib.IntN.{ℤ, pos, negsuc, _+ℤ_, _-ℤ_}
@@ -8,7 +8,7 @@ use lib.ListN.{length, getD}
 use Rattle.paper.specs.Checks.{pick}
 use Rattle.paper.specs.Limits.{tableBlock}
 use Rattle.seek.specs.Search.{firstOr, rising}
-use Rattle.layout.specs.Descriptors.{free, wordOf}
+use Rattle.layout.specs.Descriptors.{free, wordOf, names}
 
 -- the place of the table block at an offset; one outside 0 to 127 is passed
 abbrev pub inBlock : ℤ → List ℕ
@@ -50,3 +50,14 @@ freeAt t q = isFree (getD t q 0)
 -- the first free place in the search order of primary p, or the table's length where none is free
 abbrev pub firstFree : List ℕ → ℕ → ℕ
 firstFree t p = firstOr (length t) (freeAt t) (order (length t) p)
+
+-- a search for a block stops at a descriptor that is free or names the block
+abbrev pub stops : ℕ → ℕ → Bool
+stops b word = isFree word || names word b
+
+abbrev pub stopsAt : List ℕ → ℕ → ℕ → Bool
+stopsAt t b q = stops b (getD t q 0)
+
+-- where a search for block b from the primary p stops, or the table's length where it stops nowhere
+abbrev pub firstStop : List ℕ → ℕ → ℕ → ℕ
+firstStop t b p = firstOr (length t) (stopsAt t b) (order (length t) p)

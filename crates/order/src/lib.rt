@@ -6,7 +6,7 @@ ghost use lib.IntN.{pos, natAbs, _+ℤ_};
 ghost use lib.ListN.{take, drop};
 ghost use Rattle.paper.specs.Limits.{tableBlock};
 ghost use Rattle.seek.specs.Search.{firstOr, rising};
-ghost use Rattle.order.specs.Order.{isFree, freeAt, blockOrder, firstFree};
+ghost use Rattle.order.specs.Order.{isFree, stops, stopsAt, blockOrder, firstStop};
 ghost use Rattle.order.specs.Steps.{turns, offsetOf, placeIn};
 use layout::CODE_UNIT;
 use layout::FREE;
@@ -21,11 +21,21 @@ fn turns_agree()
     ensures { λ result. do ⌜ (← ⟦TURNS⟧ .entry) ≡ turns ⌝ }
 {}
 
-// Whether a descriptor stops the search.
-fn is_free(word: u32) -> bool
+// Whether a descriptor is free. Only other crates call this.
+pub fn is_free(word: u32) -> bool
     ensures { λ result. ⌜ result ≡ isFree word ⌝ }
 {
     word == FREE * CODE_UNIT
+}
+
+// Whether a descriptor stops the search for a block.
+fn stops(word: u32, sought: u32) -> bool
+    ensures { λ result. ⌜ result ≡ stops sought word ⌝ }
+{
+    if is_free(word) {
+        return true;
+    }
+    layout::names(word, sought)
 }
 
 // The signed offset that a turn of the outward search tries: 0, +1, −1, +2, −2 and so on.
@@ -70,10 +80,10 @@ fn hold(table: &[u32], start: usize) -> [u32; TABLE_BLOCK]
     held
 }
 
-// The first free place of a held table block outward from o, or the block's length where none is free.
-fn search_block(held: [u32; TABLE_BLOCK], o: u32) -> u32
+// Where the search for a block stops in a held table block, outward from o, or the block's length where it does not.
+fn search_block(held: [u32; TABLE_BLOCK], o: u32, sought: u32) -> u32
     requires { ⌜ o < tableBlock ⌝ }
-    ensures { λ result. ⌜ result ≡ firstOr tableBlock (freeAt held) (blockOrder o) ⌝ }
+    ensures { λ result. ⌜ result ≡ firstOr tableBlock (stopsAt held sought) (blockOrder o) ⌝ }
 {
     let mut turn = 0;
     while turn < TURNS {
@@ -82,7 +92,7 @@ fn search_block(held: [u32; TABLE_BLOCK], o: u32) -> u32
             turn += 1;
             continue;
         }
-        if is_free(held[place as usize]) {
+        if stops(held[place as usize], sought) {
             return place;
         }
         turn += 1;
@@ -90,56 +100,70 @@ fn search_block(held: [u32; TABLE_BLOCK], o: u32) -> u32
     TABLE_BLOCK as u32
 }
 
-// The first free place of the table block that starts at a place, outward from offset o, or the table's length where none is free.
-fn search_at(table: &[u32], start: usize, o: u32) -> usize
+// Where the search for a block stops in a held table block, rising from its first place, or the block's length where it does not.
+fn rise_block(held: [u32; TABLE_BLOCK], sought: u32) -> usize
+    ensures { λ result. ⌜ result ≡ firstOr tableBlock (stopsAt held sought) (rising 0 tableBlock) ⌝ }
+{
+    let mut place = 0;
+    while place < TABLE_BLOCK {
+        if stops(held[place], sought) {
+            return place;
+        }
+        place += 1;
+    }
+    place
+}
+
+// Where the search for a block stops in the table block that starts at a place, outward from offset o, or the table's length where it does not.
+fn search_at(table: &[u32], start: usize, o: u32, sought: u32) -> usize
     requires { do ⌜ start + tableBlock ≤ (← ⟦table.len()⟧) ⌝ }
     requires { ⌜ o < tableBlock ⌝ }
     ensures { λ result. do
       n ← ⟦table.len()⟧ .entry
-      ⌜ result ≡ firstOr n (freeAt (now (table .entry))) (map (λ offset. start + offset) (blockOrder o)) ⌝ }
+      ⌜ result ≡ firstOr n (stopsAt (now (table .entry)) sought) (map (λ offset. start + offset) (blockOrder o)) ⌝ }
 {
-    let place = search_block(hold(table, start), o);
+    let place = search_block(hold(table, start), o, sought);
     if place < TABLE_BLOCK as u32 {
         return start + place as usize;
     }
     table.len()
 }
 
-// The first free place of the table blocks from one place up to another, rising, or the table's length where none is free.
-fn search_rising(table: &[u32], from: usize, to: usize) -> usize
+// Where the search for a block stops in the table blocks from one place up to another, rising, or the table's length where it does not.
+fn search_rising(table: &[u32], from: usize, to: usize, sought: u32) -> usize
     requires { do ⌜ to ≤ (← ⟦table.len()⟧) ⌝ }
     requires { ⌜ from % tableBlock ≡ 0 ⌝ }
     requires { ⌜ to % tableBlock ≡ 0 ⌝ }
     ensures { λ result. do
       n ← ⟦table.len()⟧ .entry
-      ⌜ result ≡ firstOr n (freeAt (now (table .entry))) (rising from (to - from)) ⌝ }
+      ⌜ result ≡ firstOr n (stopsAt (now (table .entry)) sought) (rising from (to - from)) ⌝ }
 {
     let mut start = from;
     while start < to {
-        let place = search_at(table, start, 0);
-        if place < table.len() {
-            return place;
+        let place = rise_block(hold(table, start), sought);
+        if place < TABLE_BLOCK {
+            return start + place;
         }
         start += TABLE_BLOCK;
     }
     table.len()
 }
 
-// The first free place of a table in the search order of a primary, or the table's length where none is free. Only other crates call this.
-pub fn search(table: &[u32], primary: usize) -> usize
+// Where the search for a block stops in the search order of a primary, at the first place that is free or names the block, or the table's length where it stops nowhere. Only other crates call this.
+pub fn search(table: &[u32], primary: usize, sought: u32) -> usize
     requires { do ⌜ (← ⟦table.len()⟧) % tableBlock ≡ 0 ⌝ }
     requires { do ⌜ primary < (← ⟦table.len()⟧) ⌝ }
-    ensures { λ result. ⌜ result ≡ firstFree (now (table .entry)) primary ⌝ }
+    ensures { λ result. ⌜ result ≡ firstStop (now (table .entry)) sought primary ⌝ }
 {
     let start = primary / TABLE_BLOCK * TABLE_BLOCK;
     let next = start + TABLE_BLOCK;
-    let near = search_at(table, start, (primary % TABLE_BLOCK) as u32);
+    let near = search_at(table, start, (primary % TABLE_BLOCK) as u32, sought);
     if near < table.len() {
         return near;
     }
-    let after = search_rising(table, next, table.len());
+    let after = search_rising(table, next, table.len(), sought);
     if after < table.len() {
         return after;
     }
-    search_rising(table, 0, start)
+    search_rising(table, 0, start, sought)
 }

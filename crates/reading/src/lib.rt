@@ -7,6 +7,7 @@ ghost use Rattle.paper.specs.Limits.{sectorsMost, imageExtra};
 ghost use Rattle.image.specs.Image.{contentsFault};
 ghost use Rattle.layout.specs.Steps.{Laid};
 ghost use Rattle.table.specs.Scratch.{Scratched};
+ghost use Rattle.table.specs.Steps.{Obeys};
 ghost use Rattle.reading.specs.Tracks.{headerFor, imageAt};
 ghost use Rattle.reading.specs.Steps.{seatOf};
 ghost use Rattle.reading.specs.Faults.{lentFault};
@@ -32,9 +33,11 @@ struct Seat {
 // Where a block lies: a spare that names it comes before its home.
 fn seat_of(drive: Drive, table: &[u32], block: u32) -> Seat
     requires { ⌜ Laid drive ⌝ }
+    requires { ⌜ Obeys drive (now table) ⌝ }
+    requires { ⌜ block < drive .blocks ⌝ }
     ensures { λ result. ⌜ result ≡ seatOf drive (now (table .entry)) block ⌝ }
 {
-    let place = table::place_of(table, block);
+    let place = table::place_of(drive, table, block);
     if place < table.len() {
         return Seat {
             replaced: true,

@@ -13,7 +13,9 @@ use borrow.Author.Tests.{lt-ltb, ne-eqb}
 use Rattle.paper.specs.Checks.{oneIf}
 use Rattle.paper.proofs.Cases.{byBool, byLt, byEq}
 use Rattle.paper.proofs.Rows.{tells-lt, tells-false}
+use Rattle.seek.specs.Search.{Before}
 use Rattle.seek.proofs.Searches.{firstOr-alike}
+use Rattle.seek.proofs.Befores.{before-either}
 use Rattle.layout.specs.declared.Drive.{Drive}
 use Rattle.layout.specs.Steps.{Laid}
 use Rattle.layout.specs.Descriptors.{free, unusable, wordOf, codeOf, primary, Allocated, Names, names}
@@ -22,10 +24,12 @@ use Rattle.table.specs.Steps.{Obeys}
 use Rattle.table.specs.Lookup.{placeOf, Replaced, isReplaced, liesOn}
 use Rattle.table.specs.Counting.{codeCount}
 use Rattle.table.proofs.Standings.{is-unusable, tells-standing}
-use Rattle.table.proofs.Obeying.{store-keeps, unbroken-obeys}
+use Rattle.table.proofs.Obeying.{table-whole, primary-in, tells-free, store-keeps, unbroken-obeys}
 use Rattle.table.proofs.Lookups.{place-names, place-once, place-spare, lies-kept}
 use Rattle.table.proofs.Censuses.{count-set}
 use Rattle.order.specs.Order.{freeAt, order}
+use Rattle.order.proofs.Once.{order-every}
+use Rattle.order.proofs.Splits.{primary-first}
 use Rattle.replacing.specs.Replacing.{spareFor, killedIn, movedIn, Altered, Moved}
 use Rattle.replacing.proofs.Replacements.{code-few, spare-free, spare-first, replacement-alters}
 use Rattle.replacing.proofs.Censuses.{free-less, others-counted}
@@ -106,7 +110,9 @@ module _ {drive : Drive} {t : List ℕ} (o : Obeys drive t) (b : ℕ) where
       rw e
       (store-keeps o (placeOf t b) (wordOf unusable 0) (old-in t b e)
       (tells-standing drive (placeOf t b) (wordOf unusable 0) .told (is-unusable (place-spare o b (old-in t b e)) refl refl))
-      (λ p a in-table apart stored there. true≢false (sym stored))))
+      refl
+      (λ p a in-table apart stored there. true≢false (sym stored))
+      (λ p a stored before. absurd (true≢false (sym stored)))))
       (λ e. rw e o)
 
 -- every other block lies where it lay
@@ -156,7 +162,7 @@ module _ {drive : Drive} (laid : Laid drive) {t : List ℕ} (o : Obeys drive t) 
       (replacement-alters laid (killed-obeys o b) below (killed-unnamed o b) still-found)
 
   pub moved-obeys : Obeys drive (movedIn drive t b)
-  moved-obeys = unbroken-obeys (altered .breaks-none)
+  moved-obeys = unbroken-obeys laid (altered .breaks-none)
 
   pub replacement-moves : Moved drive t b (spareFor drive t b) (movedIn drive t b)
   replacement-moves =
@@ -189,3 +195,22 @@ module _ {drive : Drive} (laid : Laid drive) {t : List ℕ} (o : Obeys drive t) 
       others-counted laid (killedIn t b) below still-found still-free unusable (λ x. omega arith)
       (λ x. omega (arith, code-few drive (spareFor drive (killedIn t b) b) b))
       ∙ (killed-counts t b unusable allocated-not-unusable ∙ omega arith)
+
+  -- a block that lies on a spare lands later in its search order than where it lay, and not on its primary
+  module _ {p : ℕ} (h : p < length t) (named : Names (getD t p 0) b) where
+    pub lands-later : Before (order (length t) (primary drive b)) p (spareFor drive t b)
+    lands-later =
+        ⊎-elim
+        (λ before. before)
+        (λ before.
+        absurd
+        (tells-false (tells-free o found)
+        (o .no-holes p (spareFor drive t b) b h (tells-names (getD t p 0) b .told named) before)
+        was-free))
+        (before-either (order (length t) (primary drive b)) p (spareFor drive t b)
+        (order-every (length t) (primary drive b) (table-whole o) (primary-in o laid below) p h)
+        (order-every (length t) (primary drive b) (table-whole o) (primary-in o laid below) (spareFor drive t b) found)
+        (λ same. allocated-not-free _ (named .0) (rw same was-free)))
+
+    pub lands-off-primary : spareFor drive t b ≡ primary drive b → ⊥
+    lands-off-primary same = primary-first (length t) (primary drive b) (table-whole o) (primary-in o laid below) p (rw same at lands-later)

@@ -1,9 +1,10 @@
 -- Document 01, "Descriptors and spares", and document 02, Q-3: the spare that a replacement takes, the descriptors that it writes, and the table after it.
 use Prim.Native.Nat.{ℕ, _<_}
 use mathlib.Core.Path.{_≡_}
-use mathlib.Core.List.{List, _∷_, _++_}
+use mathlib.Core.List.{List}
 use lib.ListN.{length, getD, set}
 use Rattle.paper.specs.Checks.{pick}
+use Rattle.seek.specs.Search.{Before}
 use Rattle.layout.specs.Layouts.{spareSector}
 use Rattle.layout.specs.Descriptors.{free, unusable, wordOf, codeOf, primary, Names}
 use Rattle.layout.specs.declared.Drive.{Drive}
@@ -21,11 +22,8 @@ abbrev pub NoneFree : List ℕ → Type 0
 NoneFree t = (q : ℕ) → q < length t → codeOf (getD t q 0) ≡ free → ⊥
 
 -- no place that comes before q in the search order of block b is free
-pub record ComesFirst (drive : Drive) (t : List ℕ) (b q : ℕ) : Type 0 where
-  pub earlier : List ℕ
-  pub later : List ℕ
-  pub searched : order (length t) (primary drive b) ≡ earlier ++ (q ∷ later)
-  pub none-earlier : (k : ℕ) → k < length earlier → codeOf (getD t (getD earlier k 0) 0) ≡ free → ⊥
+abbrev pub ComesFirst : Drive → List ℕ → ℕ → ℕ → Type 0
+ComesFirst drive t b q = (p : ℕ) → Before (order (length t) (primary drive b)) p q → codeOf (getD t p 0) ≡ free → ⊥
 
 -- the descriptor of a block at a place
 abbrev pub descriptorAt : Drive → ℕ → ℕ → ℕ

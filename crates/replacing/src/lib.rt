@@ -11,14 +11,14 @@ use layout::CODE_UNIT;
 use layout::Drive;
 use layout::UNUSABLE;
 
-// The spare that a block is given, or the table's length where no place is free.
+// The spare that a block is given, or the table's length where no place is free. No descriptor carries the number that is sought, so the search stops at free places alone.
 fn spare_for(drive: Drive, table: &[u32], block: u32) -> usize
     requires { ⌜ Laid drive ⌝ }
     requires { ⌜ Obeys drive (now table) ⌝ }
     requires { ⌜ block < drive .blocks ⌝ }
     ensures { λ result. ⌜ result ≡ spareFor drive (now (table .entry)) block ⌝ }
 {
-    order::search(table, layout::primary(drive, block) as usize)
+    order::search(table, layout::primary(drive, block) as usize, CODE_UNIT)
 }
 
 // The descriptor of a block at a place.
@@ -55,10 +55,13 @@ pub fn replace_in(drive: Drive, table: &mut [u32], block: u32) -> u32
 }
 
 // Marks the spare of a block unusable, where the block has one.
-fn kill(table: &mut [u32], block: u32)
+fn kill(drive: Drive, table: &mut [u32], block: u32)
+    requires { ⌜ Laid drive ⌝ }
+    requires { ⌜ Obeys drive (now table) ⌝ }
+    requires { ⌜ block < drive .blocks ⌝ }
     ensures { λ result. ⌜ now (table .exit) ≡ killedIn (now (table .entry)) block ⌝ }
 {
-    let place = table::place_of(table, block);
+    let place = table::place_of(drive, table, block);
     if place < table.len() {
         table[place] = UNUSABLE * CODE_UNIT;
     }
@@ -74,7 +77,7 @@ pub fn move_in(drive: Drive, table: &mut [u32], block: u32) -> usize
 {
     let spare = spare_for(drive, table, block);
     if spare < table.len() {
-        kill(table, block);
+        kill(drive, table, block);
         store(drive, table, block, spare);
     }
     spare

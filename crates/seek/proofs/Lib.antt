@@ -4,3 +4,4 @@ pub mod Firsts
 pub mod Everys
 pub mod Searches
 pub mod Times
+pub mod Befores

@@ -146,7 +146,7 @@ module _ (shape : Shape) (r : ℕ) (t scratch : List ℕ) (b : ℕ) where
   pub after-sound : Sound shape r t → Sound shape r (tableAfter shape r t scratch b)
   after-sound before =
       byFault (replaceFault shape r t scratch b)
-      (λ accepted. record { shaped = before .shaped; spared = before .spared; unbroken = obeys-unbroken (replace-obeys accepted) })
+      (λ accepted. record { shaped = before .shaped; spared = before .spared; unbroken = obeys-unbroken (replace-obeys accepted) (sound-laid before) })
       (λ refused. rw (refusal-leaves refused) before)
 
   -- and a place that is unusable stays so

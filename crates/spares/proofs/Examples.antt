@@ -7,6 +7,7 @@ use lib.IntN.{pos, negsuc}
 use lib.ListN.{replicate}
 use Rattle.paper.specs.Checks.{answer}
 use Rattle.seek.specs.Lowest.{firstBelow}
+use Rattle.seek.specs.Search.{firstOr, rising}
 use Rattle.seek.specs.Every.{allBelow}
 use Rattle.shape.specs.declared.Shape.{Shape}
 use Rattle.layout.specs.Layouts.{driveOf}
@@ -31,12 +32,12 @@ small = record { cylinders = 4; heads = 1; sectors = 3; groups = 1; tracks = 1; 
 abbrev holding : ℕ → ℕ → ℕ → ℕ → List ℕ
 holding a b c d = a ∷ b ∷ c ∷ d ∷ replicate 124 0x80000000
 
--- block 6, of the last cylinder, at the first place: 1 − C
-pub shift-least : shifted small 1 (holding 0x30000006 0 0 0) 6 ≡ By (negsuc 2)
-unfolding placeOf firstBelow allBelow
+-- block 6, of the last cylinder, at the first place, with no free place: 1 − C
+pub shift-least : shifted small 1 (holding 0x30000006 0x40000000 0x40000000 0x40000000) 6 ≡ By (negsuc 2)
+unfolding placeOf firstBelow allBelow firstOr rising
 shift-least = refl
 
--- block 0 at the last place: C − 1
-pub shift-most : shifted small 1 (holding 0 0 0 0x30000000) 0 ≡ By (pos 3)
-unfolding placeOf firstBelow allBelow
+-- block 0 at the last place, with no free place: C − 1
+pub shift-most : shifted small 1 (holding 0x40000000 0x40000000 0x40000000 0x30000000) 0 ≡ By (pos 3)
+unfolding placeOf firstBelow allBelow firstOr rising
 shift-most = refl

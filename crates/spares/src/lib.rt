@@ -79,7 +79,7 @@ fn shift_of(drive: Drive, table: &[u32], block: u32) -> i32
     requires { ⌜ block < drive .blocks ⌝ }
     ensures { λ result. ⌜ result ≡ shiftOf drive (now (table .entry)) block ⌝ }
 {
-    let place = table::place_of(table, block);
+    let place = table::place_of(drive, table, block);
     if place < table.len() {
         let home = layout::home_cylinder(drive, block);
         return cylinders_between(home, layout::spare_cylinder(drive, place as u32));

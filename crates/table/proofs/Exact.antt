@@ -10,7 +10,7 @@ use Rattle.paper.specs.Refusals.{noRoom, badTable, noSuchBlock}
 use Rattle.paper.specs.Promise.{written}
 use Rattle.paper.specs.Exactly.{Exactly, When}
 use Rattle.paper.proofs.Chain.{orElse-first, orElse-next, answer-accepted}
-use Rattle.paper.proofs.Rows.{tells-le, tells-lt, passed-not, not-over, below-shows, row, rows}
+use Rattle.paper.proofs.Rows.{tells-le, tells-lt, passed-not, not-over, below-shows, row, rows, rows-passed}
 use Rattle.shape.specs.declared.Shape.{Shape}
 use Rattle.layout.specs.Layouts.{driveOf, driveFault, DriveJudged}
 use Rattle.layout.specs.Steps.{Laid}
@@ -27,7 +27,7 @@ module _ {shape : Shape} {r : ℕ} {t : List ℕ} (sound : Sound shape r t) wher
   sound-laid = laid (sound .shaped) (sound .spared)
 
   pub sound-obeys : Obeys (driveOf shape r) t
-  sound-obeys = unbroken-obeys (sound .unbroken)
+  sound-obeys = unbroken-obeys sound-laid (sound .unbroken)
 
 module _ (shape : Shape) (r : ℕ) (scratch : List ℕ) where
   pub scratch-exactly : Exactly (ScratchJudged shape r scratch) (scratchFault shape r scratch)
@@ -39,6 +39,9 @@ module _ (shape : Shape) (r : ℕ) (scratch : List ℕ) where
   pub scratch-enough : scratchFault shape r scratch ≡ 0 → Enough shape r scratch
   scratch-enough none = not-over (length scratch) (driveOf shape r .spares) noRoom (omega arith) (orElse-next (driveFault shape r) _ none)
 
+  pub scratch-laid : scratchFault shape r scratch ≡ 0 → Laid (driveOf shape r)
+  scratch-laid none = let drive = drive-shows shape r (orElse-first (driveFault shape r) _ none) in laid (drive .0) (drive .1)
+
   -- past 1 and this 7, what stands beyond the numbers for the spares after a walk stands when these are cleared
   pub scratch-cleared :
       (walked : List ℕ) {left : List ℕ} → scratchFault shape r scratch ≡ 0 → drop (driveOf shape r .spares) walked ≡ drop (driveOf shape r .spares) scratch →
@@ -49,9 +52,9 @@ module _ (shape : Shape) (r : ℕ) (scratch : List ℕ) where
 module _ (shape : Shape) (r : ℕ) (t scratch : List ℕ) where
   pub table-exactly : Exactly (TableJudged shape r t scratch) (tableFault shape r t scratch)
   table-exactly =
-      rows (ScratchJudged shape r scratch) (When badTable (Breaks (driveOf shape r) t))
+      rows-passed (ScratchJudged shape r scratch) (When badTable (Breaks (driveOf shape r) t))
       (scratch-exactly shape r scratch)
-      (row (tells-breaks (driveOf shape r) t) badTable)
+      (λ none. row (tells-breaks (scratch-laid shape r scratch none) t) badTable)
 
   -- no number of them shows a drive and a table that pass, and scratch that is long enough
   module _ (none : tableFault shape r t scratch ≡ 0) where
@@ -64,7 +67,7 @@ module _ (shape : Shape) (r : ℕ) (t scratch : List ℕ) where
         record {
           shaped = drive .0;
           spared = drive .1;
-          unbroken = passed-not (tells-breaks (driveOf shape r) t) badTable (omega arith) (orElse-next (scratchFault shape r scratch) _ none);
+          unbroken = passed-not (tells-breaks (scratch-laid shape r scratch scratch-none) t) badTable (omega arith) (orElse-next (scratchFault shape r scratch) _ none);
         }
 
     pub table-enough : Enough shape r scratch
@@ -77,7 +80,7 @@ module _ (shape : Shape) (r : ℕ) (t scratch : List ℕ) where
         rw (
           drive-passes shape r (sound .shaped) (sound .spared),
           le-ltb (length scratch) (driveOf shape r .spares) enough,
-          obeys-told (driveOf shape r) t (sound-obeys sound),
+          obeys-told (sound-laid sound) t (sound-obeys sound),
         )
 
     pub block-passes : (b : ℕ) → b < driveOf shape r .blocks → blockFault shape r t scratch b ≡ 0

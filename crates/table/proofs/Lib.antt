@@ -4,4 +4,5 @@ pub mod Marking
 pub mod Obeying
 pub mod Exact
 pub mod Lookups
+pub mod Stops
 pub mod Censuses

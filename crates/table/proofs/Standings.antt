@@ -2,7 +2,7 @@
 -- Assumes nothing.
 use Prim.Native.Nat.{ℕ, _<_, _≤_}
 use mathlib.Core.Path.{_≡_, sym, _∙_, ap}
-use mathlib.Core.Bool.{true, not, _||_, _&&_}
+use mathlib.Core.Bool.{true, false, not, _||_, _&&_, true≢false}
 use mathlib.Core.Logic.{_⊎_, inl, inr, ⊎-elim}
 use native.Mathlib.Omega.{arith}
 use lib.Dec.{eqb, ltb}
@@ -13,7 +13,8 @@ use Rattle.layout.specs.declared.Drive.{Drive}
 use Rattle.layout.specs.Steps.{Laid}
 use Rattle.layout.specs.Descriptors.{free, atPrimary, elsewhere, unusable, null, codeUnit, wordOf, codeOf, numberOf, primary, Allocated, names}
 use Rattle.layout.proofs.Sectors.{blocks-few}
-use Rattle.layout.proofs.Words.{code-of-word, number-of-word, tells-bare, tells-names}
+use Rattle.layout.proofs.Words.{code-of-word, number-of-word, word-of-parts, tells-bare, tells-names}
+use Rattle.order.specs.Order.{isFree}
 use Rattle.table.specs.Rules.{Misplaced, null-missing, null-early, unknown-code, number-carried, no-home, not-primary, is-primary}
 use Rattle.table.specs.Places.{codeAt}
 use Rattle.table.specs.Steps.{mayStand}
@@ -145,6 +146,33 @@ module _ (drive : Drive) (q w : ℕ) where
       named (is-unusable h c z) = absurd (⊎-elim (λ x. omega arith) (λ x. omega arith) a)
       named (at-primary h c below same) = (h, below)
       named (at-other h c below other) = (h, below)
+
+  -- a word that may stand is free as a whole exactly where its code is
+  pub stands-free : mayStand drive q w ≡ true → Tells (isFree w) (codeOf w ≡ free)
+  stands-free stands =
+      record { holds = λ e. ap codeOf (tells-eq w 0 .holds e); told = λ e. tells-eq w 0 .told (bare e (stand-shows stands)) }
+    where
+      bare : codeOf w ≡ free → Standing drive q w → w ≡ 0
+      bare e (is-null h code number) = absurd (omega arith)
+      bare e (is-free h code number) = sym (word-of-parts w) ∙ rw (code, number)
+      bare e (is-unusable h code number) = absurd (omega arith)
+      bare e (at-primary h code below same) = absurd (omega arith)
+      bare e (at-other h code below other) = absurd (omega arith)
+
+  -- and then its place is a spare's
+  pub free-stands : mayStand drive q w ≡ true → codeOf w ≡ free → q < drive .spares
+  free-stands stands e = before (stand-shows stands)
+    where
+      before : Standing drive q w → q < drive .spares
+      before (is-null h code number) = absurd (omega arith)
+      before (is-free h code number) = h
+      before (is-unusable h code number) = h
+      before (at-primary h code below same) = h
+      before (at-other h code below other) = h
+
+-- a word that names a block is not free
+pub named-taken : (w b : ℕ) → names w b ≡ true → isFree w ≡ false
+named-taken w b named = byBool (isFree w) (λ e. absurd (true≢false (sym named ∙ rw (tells-eq w 0 .holds e)))) (λ e. e)
 
 -- the word that names block b at place q
 module _ {drive : Drive} (laid : Laid drive) (q b : ℕ) (home : b < drive .blocks) where

@@ -1,4 +1,4 @@
--- Document 01, "Descriptors and spares": the ways in which a descriptor table breaks its rules, the check of a table, and that of a block after it; document 02, Q-6: the check of scratch before them.
+-- Document 01, "Descriptors and spares", and document 02, Q-7: the ways in which a descriptor table breaks its rules, the check of a table, and that of a block after it; document 02, Q-6: the check of scratch before them.
 use Prim.Native.Nat.{ℕ, _<_, _≤_}
 use mathlib.Core.Path.{_≡_}
 use mathlib.Core.Bool.{not}
@@ -9,11 +9,13 @@ use Rattle.paper.specs.Checks.{refuse, _orElse_}
 use Rattle.paper.specs.Refusals.{badTable, noSuchBlock}
 use Rattle.paper.specs.Exactly.{When, _andThen_}
 use Rattle.paper.specs.Conditions.{NotBelow}
+use Rattle.seek.specs.Search.{Before}
 use Rattle.shape.specs.declared.Shape.{Shape}
 use Rattle.shape.specs.Shapes.{Shaped}
 use Rattle.layout.specs.declared.Drive.{Drive}
 use Rattle.layout.specs.Layouts.{Spared, driveOf}
 use Rattle.layout.specs.Descriptors.{free, atPrimary, elsewhere, unusable, null, codeOf, numberOf, primary, Allocated}
+use Rattle.order.specs.Order.{order}
 use Rattle.table.specs.Places.{tableLength}
 use Rattle.table.specs.Scratch.{scratchFault, ScratchJudged}
 use Rattle.table.specs.Steps.{obeys}
@@ -36,6 +38,15 @@ pub data Misplaced (drive : Drive) (q w : ℕ) : Type 0 where
   -- and code 3 at other places alone
   is-primary : codeOf w ≡ elsewhere → q ≡ primary drive (numberOf w) → Misplaced drive q w
 
+-- a free place comes before the place of an allocated block in that block's search order
+pub record Holed (drive : Drive) (t : List ℕ) : Type 0 where
+  pub place : ℕ
+  pub in-table : place < length t
+  pub allocated : Allocated (getD t place 0)
+  pub hole : ℕ
+  pub is-free : codeOf (getD t hole 0) ≡ free
+  pub comes-before : Before (order (length t) (primary drive (numberOf (getD t place 0)))) hole place
+
 -- the ways in which a table breaks its rules
 pub data Breaks (drive : Drive) (t : List ℕ) : Type 0 where
   -- it has exactly the length that the spares need
@@ -46,6 +57,8 @@ pub data Breaks (drive : Drive) (t : List ℕ) : Type 0 where
   named-twice :
       (p q : ℕ) → p < q → q < length t → Allocated (getD t p 0) → Allocated (getD t q 0) →
       numberOf (getD t p 0) ≡ numberOf (getD t q 0) → Breaks drive t
+  -- no free place comes before an allocated one in the search order of its block
+  holed : Holed drive t → Breaks drive t
 
 -- a drive and a table that pass: the shape and r are in their ranges, and no rule is broken
 pub record Sound (shape : Shape) (r : ℕ) (t : List ℕ) : Type 0 where

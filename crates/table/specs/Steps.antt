@@ -2,7 +2,7 @@
 -- The test that a table breaks no rule, the marks by which it finds a block named twice, what is known of a table that passes it, and a census as it is counted.
 use Prim.Native.Nat.{ℕ, _+_, _-_, _/_, _%_, _<_, _^_}
 use mathlib.Core.Path.{_≡_}
-use mathlib.Core.Bool.{Bool, true, not, _&&_, _||_}
+use mathlib.Core.Bool.{Bool, true, false, not, _&&_, _||_}
 use mathlib.Core.List.{List}
 use lib.Dec.{eqb, ltb, leb}
 use lib.ListN.{length, getD, set}
@@ -10,8 +10,11 @@ use Rattle.paper.specs.Checks.{pick, oneIf}
 use Rattle.bits.specs.Steps.{numberBits, bitAt, withBit}
 use Rattle.seek.specs.Count.{countBelow}
 use Rattle.seek.specs.Every.{allBelow}
+use Rattle.seek.specs.Search.{Before}
 use Rattle.layout.specs.declared.Drive.{Drive}
-use Rattle.layout.specs.Descriptors.{free, atPrimary, elsewhere, unusable, null, wordOf, codeOf, numberOf, isAllocated, names}
+use Rattle.layout.specs.Descriptors.{free, atPrimary, elsewhere, unusable, null, wordOf, codeOf, numberOf, primary, isAllocated, names}
+use Rattle.order.specs.Order.{order, isFree}
+use Rattle.holes.specs.Steps.{clearWay}
 use Rattle.table.specs.declared.Census.{Census}
 use Rattle.table.specs.Places.{tableLength, codeAt}
 use Rattle.table.specs.Counting.{codedAt}
@@ -53,7 +56,7 @@ firstIn from count t q = not (namesIn from count (getD t q 0)) || namedFirst t q
 abbrev pub obeys : Drive → List ℕ → Bool
 obeys drive t =
     eqb (length t) (tableLength drive)
-    && (allBelow (λ q. mayStand drive q (getD t q 0)) (length t) && allBelow (namedFirst t) (length t))
+    && (allBelow (λ q. mayStand drive q (getD t q 0)) (length t) && (allBelow (namedFirst t) (length t) && allBelow (clearWay drive t) (length t)))
 
 -- what the test shows of a table
 pub record Obeys (drive : Drive) (t : List ℕ) : Type 0 where
@@ -61,6 +64,8 @@ pub record Obeys (drive : Drive) (t : List ℕ) : Type 0 where
   pub stands : (q : ℕ) → q < length t → mayStand drive q (getD t q 0) ≡ true
   pub once :
       (p q b : ℕ) → p < length t → q < length t → names (getD t p 0) b ≡ true → names (getD t q 0) b ≡ true → p ≡ q
+  pub no-holes :
+      (p q b : ℕ) → p < length t → names (getD t p 0) b ≡ true → Before (order (length t) (primary drive b)) q p → isFree (getD t q 0) ≡ false
 
 -- the census of the places below a bound
 abbrev pub censusBelow : List ℕ → ℕ → Census

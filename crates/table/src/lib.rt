@@ -106,7 +106,10 @@ fn obeys_rules(drive: Drive, table: &[u32], scratch: &mut [u32]) -> bool
     if !all_stand(drive, table) {
         return false;
     }
-    twice::named_once(drive, table, scratch)
+    if !twice::named_once(drive, table, scratch) {
+        return false;
+    }
+    holes::no_holes(drive, table, scratch)
 }
 
 // Refusal 1 for the drive's numbers, 7 for scratch that is too short, 11 for a table that breaks its rules, else 0. Past 7 the numbers of scratch for the spares are zeros. Only other crates call this.
@@ -145,18 +148,21 @@ pub fn block_fault(shape: Shape, r: u32, table: &[u32], scratch: &mut [u32], blo
     0
 }
 
-// The place that names a block, or the table's length where none does. Only other crates call this.
-pub fn place_of(table: &[u32], block: u32) -> usize
+// The place that names a block, or the table's length where none does: the search stops at the first free place. Only other crates call this.
+pub fn place_of(drive: Drive, table: &[u32], block: u32) -> usize
+    requires { ⌜ Laid drive ⌝ }
+    requires { ⌜ Obeys drive (now table) ⌝ }
+    requires { ⌜ block < drive .blocks ⌝ }
     ensures { λ result. ⌜ result ≡ placeOf (now (table .entry)) block ⌝ }
 {
-    let mut place = 0;
-    while place < table.len() {
-        if layout::names(table[place], block) {
-            return place;
-        }
-        place += 1;
+    let place = order::search(table, layout::primary(drive, block) as usize, block);
+    if table.len() <= place {
+        return table.len();
     }
-    place
+    if layout::names(table[place], block) {
+        return place;
+    }
+    table.len()
 }
 
 // The sector that a block lies on. Only other crates call this.
@@ -166,7 +172,7 @@ pub fn lies_on(drive: Drive, table: &[u32], block: u32) -> u32
     requires { ⌜ block < drive .blocks ⌝ }
     ensures { λ result. ⌜ result ≡ liesOn drive (now (table .entry)) block ⌝ }
 {
-    let place = place_of(table, block);
+    let place = place_of(drive, table, block);
     if place < table.len() {
         return layout::spare_sector(drive, place as u32);
     }
@@ -182,7 +188,7 @@ pub fn lying_on(drive: Drive, table: &[u32], sector: u32) -> Named
 {
     if layout::is_home(drive, sector) {
         let block = layout::block_of_home(drive, sector);
-        if place_of(table, block) < table.len() {
+        if place_of(drive, table, block) < table.len() {
             return Named::NoBlock;
         }
         return Named::Block(block);

@@ -149,6 +149,12 @@ impl Draw {
                 let (cylinders, heads) = (self.within(1, 5), self.within(1, 6));
                 (shape(cylinders, heads, self.within(33, 64)), 1)
             }
+            // Two table blocks or three, the last of them mostly in part.
+            81..=120 => {
+                let (heads, r) = (self.within(1, 4), self.within(1, 3));
+                let least = 128 / (heads * r) + 1;
+                (shape(self.within(least, 3 * least - 3), heads, self.within(r + 1, r + 5)), r)
+            }
             _ => {
                 let sectors = self.within(2, 7);
                 let r = self.within(1, sectors - 1);

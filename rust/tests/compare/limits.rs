@@ -8,7 +8,7 @@ use tautberry::{
 use crate::drawn_nights::Drawn;
 use crate::drawn_shapes::{grouped, groupings, misgrouped, paper, shape};
 use crate::drawn_tables::descriptor;
-use crate::model::spares::{drive, empty_table, search_order, word, PRIMARY, UNUSABLE};
+use crate::model::spares::{drive, empty_table, search_order, word, FREE, PRIMARY, UNUSABLE};
 use crate::model::{self, skipping};
 use crate::nights::formatted;
 use crate::shape_calls::{every_call_gives, every_table_call_gives, is_lent_a_table, Rest};
@@ -258,12 +258,12 @@ fn every_spare_used_then_one_more() {
     }
 }
 
-/// The shift at both ends: from the last cylinder to the first and back.
+/// The shift at both ends: from the last cylinder to the first and back. Every spare between is unusable.
 #[test]
 fn the_longest_shifts() {
     let drive_shape = shape(4_096, 1, 2);
     let drive = drive(paper(drive_shape), 1).expect("4,096 spares");
-    let mut table = empty_table(drive);
+    let mut table = vec![word(UNUSABLE, 0); 4_096];
     table[0] = descriptor(drive, 0, 4_095);
     table[4_095] = descriptor(drive, 4_095, 0);
     for (block, shift) in [(4_095, -4_095), (0, 4_095), (5, 0)] {
@@ -272,6 +272,37 @@ fn the_longest_shifts() {
         let model = model::spares::shift(paper(drive_shape), 1, &table, &mut theirs, block);
         assert_eq!(model, Ok(shift));
         assert_eq!(ours, theirs);
+    }
+}
+
+/// One hole before one block of a drive of 65,536 spares, all others unusable. Place 65,535 comes last in the
+/// search order of block 0, and place 65,407 in that of the last block.
+#[test]
+fn holes_of_65536() {
+    let (drive_shape, r) = (shape(4_096, 16, 64), 1);
+    let drive = drive(paper(drive_shape), r).expect("65,536 spares");
+    let last = drive.blocks() - 1;
+    let rows: [(u32, u32, &[u32]); 2] = [
+        (0, 65_535, &[0, 1, 127, 128, 33_000, 65_534]),
+        (last, 65_407, &[65_535, 65_534, 65_408, 0, 33_000, 65_406]),
+    ];
+    let mut unusable = Rest::proper(drive_shape, r);
+    unusable.table.fill(word(UNUSABLE, 0));
+    for (block, place, holes) in rows {
+        let mut rest = unusable.clone();
+        rest.table[place as usize] = descriptor(drive, place, block);
+        let (mut ours, mut theirs) = (rest.scratch.clone(), rest.scratch.clone());
+        let library = spares::sector_of(drive_shape, r, &rest.table, &mut ours, block);
+        assert_eq!(library, Ok(drive.spare(place)));
+        let lent = &mut theirs;
+        let model = model::spares::sector_of(paper(drive_shape), r, &rest.table, lent, block);
+        assert_eq!(model, Ok(drive.spare(place)));
+        assert!(ours == theirs);
+        for hole in holes {
+            let mut holed = rest.clone();
+            holed.table[*hole as usize] = word(FREE, 0);
+            every_table_call_gives(drive_shape, &holed, |_| 11, &ours);
+        }
     }
 }
 

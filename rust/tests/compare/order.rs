@@ -286,14 +286,14 @@ struct Asked {
 }
 
 /// Rows with ever fewer faults: C 2, H 2, S 5, r 2 has 12 blocks, 20 sectors and 8 spares. The first five
-/// are refused 1, the next two 7, the one after them 11, and the last but one 5 or 6.
+/// are refused 1, the next three 7, the two after them 11, and the last but one 5 or 6.
 fn tables() -> Vec<Asked> {
     let drive = shape(2, 2, 5);
     let row = |drive: Shape, r: u32, table: &[u32], scratch: usize, number: u32| {
         let scratch = vec![u32::MAX; scratch];
         Asked { drive, r, table: table.to_vec(), scratch, number }
     };
-    let (broken, proper) = ([1; 5], table_of_8());
+    let (broken, holed, proper) = ([1; 5], table_with_a_hole(), table_of_8());
     vec![
         row(shape(2, 2, 66), 0, &broken, 0, 900),
         row(grouped(drive, (2, 1, 5)), 2, &broken, 0, 900),
@@ -302,7 +302,9 @@ fn tables() -> Vec<Asked> {
         row(shape(1_986, 33, 5), 1, &broken, 0, 900),
         row(shape(2, 2, 64), 63, &broken, 251, 900),
         row(drive, 2, &broken, 7, 900),
+        row(drive, 2, &holed, 7, 900),
         row(drive, 2, &broken, 8, 900),
+        row(drive, 2, &holed, 8, 900),
         row(drive, 2, &proper, 8, 900),
         row(drive, 2, &proper, 8, 9),
     ]
@@ -313,6 +315,13 @@ fn table_of_8() -> Vec<u32> {
     let mut table = vec![0; 128];
     table[8..].fill(0x8000_0000);
     table[3..6].copy_from_slice(&[0x3000_0006, 0x2000_0007, 0x3000_0008]);
+    table
+}
+
+/// The same with place 5 free, which comes before that of block 6 in its search order.
+fn table_with_a_hole() -> Vec<u32> {
+    let mut table = table_of_8();
+    table[5] = 0;
     table
 }
 
@@ -345,7 +354,7 @@ fn ask_tables(
 
 #[test]
 fn spares_in_order() {
-    let by_block = [1, 1, 1, 1, 1, 7, 7, 11, 5, 0];
+    let by_block = [1, 1, 1, 1, 1, 7, 7, 7, 11, 11, 5, 0];
     ask_tables(
         "spares::sector_of",
         &|drive, r, table, lent, block| number(spares::sector_of(drive, r, table, lent, block)),
@@ -380,7 +389,7 @@ fn spares_in_order() {
         },
         &by_block,
     );
-    let by_sector = [1, 1, 1, 1, 1, 7, 7, 11, 6, 0];
+    let by_sector = [1, 1, 1, 1, 1, 7, 7, 7, 11, 11, 6, 0];
     ask_tables(
         "spares::block_on",
         &|drive, r, table, lent, sector| number(spares::block_on(drive, r, table, lent, sector)),
@@ -403,7 +412,7 @@ fn spares_in_order() {
         "spares::census",
         &|drive, r, table, lent, _| number(spares::census(drive, r, table, lent)),
         &|drive, r, table, lent, _| paper_number(model::spares::census(drive, r, table, lent)),
-        &[1, 1, 1, 1, 1, 7, 7, 11, 0, 0],
+        &[1, 1, 1, 1, 1, 7, 7, 7, 11, 11, 0, 0],
     );
 }
 
@@ -413,6 +422,7 @@ fn spares_in_order() {
 fn no_spare_after_all_else() {
     let drive = shape(2, 2, 5);
     let some_free = table_of_8();
+    let holed = table_with_a_hole();
     let mut broken = some_free.clone();
     broken[0] = 1;
     let mut full = some_free.clone();
@@ -421,7 +431,7 @@ fn no_spare_after_all_else() {
     let mut naming_12 = full.clone();
     naming_12[0] = 0x3000_000C;
     // The drive and r, the table, the length of the scratch, the block, and the number.
-    let rows: [(Shape, u32, &[u32], usize, u32, u32); 14] = [
+    let rows: [(Shape, u32, &[u32], usize, u32, u32); 16] = [
         (shape(2, 2, 66), 5, &broken, 7, 900, 1),
         (drive, 5, &broken, 7, 900, 1),
         (drive, 5, &broken, 8, 7, 1),
@@ -431,6 +441,8 @@ fn no_spare_after_all_else() {
         (drive, 2, &full, 7, 7, 7),
         (drive, 2, &broken, 8, 7, 11),
         (drive, 2, &naming_12, 8, 12, 11),
+        (drive, 2, &holed, 8, 12, 11),
+        (drive, 2, &holed, 8, 6, 11),
         (drive, 2, &some_free, 8, 12, 5),
         (drive, 2, &full, 8, 12, 5),
         (drive, 2, &full, 8, 900, 5),
@@ -561,7 +573,7 @@ fn reads_in_order() {
         spare[3 * 530..4 * 530].copy_from_slice(&image);
         cases.push((proper(), noise.clone(), spare));
     }
-    let expected = [1, 1, 1, 1, 1, 7, 7, 11, 5, 14, 14, 15, 16, 18, 17, 0];
+    let expected = [1, 1, 1, 1, 1, 7, 7, 7, 11, 11, 5, 14, 14, 15, 16, 18, 17, 0];
     for ((asked, home, spare), expected) in cases.iter().zip(expected) {
         let Asked { drive, r, table, scratch, number: block } = asked;
         let left = left(scratch, expected);

@@ -227,12 +227,121 @@ fn spares_that_die() {
     }
 }
 
-/// A block that lies elsewhere goes to its primary place where that is free.
+/// A block that lies elsewhere never goes back to its primary place: where that is free the table is bad,
+/// and where it is unusable the block goes on in its search order.
 #[test]
-fn back_to_the_primary_place() {
+fn never_back_to_the_primary_place() {
     let mut table = table_of([0, 0, 0, 0, 0, 0x3000_0007, 0, 0]);
-    replaces(EIGHT_SPARES, &mut table, 7, Ok(4));
-    assert_eq!(table, table_of([0, 0, 0, 0, 0x2000_0007, 0x4000_0000, 0, 0]));
+    replaces(EIGHT_SPARES, &mut table, 7, Err(11));
+    assert_eq!(table, table_of([0, 0, 0, 0, 0, 0x3000_0007, 0, 0]));
+    table[4] = 0x4000_0000;
+    replaces(EIGHT_SPARES, &mut table, 7, Ok(3));
+    assert_eq!(table, table_of([0, 0, 0, 0x3000_0007, 0x4000_0000, 0x4000_0000, 0, 0]));
+}
+
+/// Library and model must refuse a table by every call that is lent one, and leave zeros in the scratch.
+fn refuse_table((shape, r): Drive, table: &[u32]) {
+    let rest = Rest { table: table.to_vec(), ..Rest::proper(shape, r) };
+    every_table_call_gives(shape, &rest, |_| 11, &vec![0; rest.scratch.len()]);
+}
+
+/// Blocks 6, 7 and 8 have their primary place at 4, and then 5, 3, 6 and so on.
+#[test]
+fn holes_among_eight_spares() {
+    refuse_table(EIGHT_SPARES, &table_of([0, 0, 0, 0, 0, 0x3000_0007, 0, 0]));
+    let table = table_of([0, 0, 0, 0, 0x4000_0000, 0x3000_0007, 0, 0]);
+    lies_on(EIGHT_SPARES, &table, 7, 14, 0);
+    counts(EIGHT_SPARES, &table, [6, 0, 1, 1, 120]);
+
+    refuse_table(EIGHT_SPARES, &table_of([0, 0, 0, 0x3000_0008, 0x2000_0007, 0, 0, 0]));
+    let table = table_of([0, 0, 0, 0x3000_0008, 0x2000_0007, 0x4000_0000, 0, 0]);
+    lies_on(EIGHT_SPARES, &table, 8, 9, -1);
+    counts(EIGHT_SPARES, &table, [5, 1, 1, 1, 120]);
+
+    let table = table_of([0, 0, 0, 0x3000_0006, 0x2000_0007, 0x3000_0008, 0, 0]);
+    for (block, sector, shift) in [(6, 9, -1), (7, 13, 0), (8, 14, 0)] {
+        lies_on(EIGHT_SPARES, &table, block, sector, shift);
+    }
+    counts(EIGHT_SPARES, &table, [5, 1, 2, 0, 120]);
+}
+
+/// C 260, H 1, S 3, r 1: two blocks to a track, and two table blocks and four places of a third.
+const THREE_TABLE_BLOCKS: Drive = (Shape::ungrouped(260, 1, 3), 1);
+
+/// The table of its 260 spares, all of them unusable but these.
+fn table_of_260(words: &[(usize, u32)]) -> Vec<u32> {
+    let mut table = vec![0x4000_0000; 260];
+    table.resize(384, 0x8000_0000);
+    for (place, word) in words {
+        table[*place] = *word;
+    }
+    table
+}
+
+/// Block 0 has its primary place in the first table block and lies in the third; block 400 has it at 200, in
+/// the second, and lies in the first, which comes after the third.
+#[test]
+fn holes_in_three_table_blocks() {
+    let drive = THREE_TABLE_BLOCKS;
+    lies_on(drive, &table_of_260(&[(256, 0x3000_0000)]), 0, 770, 256);
+    refuse_table(drive, &table_of_260(&[(256, 0x3000_0000), (200, 0)]));
+
+    let block_400 = (5, 0x3000_0190);
+    lies_on(drive, &table_of_260(&[block_400]), 400, 17, -195);
+    refuse_table(drive, &table_of_260(&[block_400, (259, 0)]));
+    refuse_table(drive, &table_of_260(&[block_400, (4, 0)]));
+    lies_on(drive, &table_of_260(&[block_400, (6, 0)]), 400, 17, -195);
+}
+
+/// One hole before one block of the same drive. Place 127 comes last in the search order of block 400.
+#[test]
+fn a_hole_wherever_it_lies() {
+    let drive = THREE_TABLE_BLOCKS;
+    // The block, its place, and the hole.
+    let rows = [
+        // At the primary place, beside it, and at either end of its table block.
+        (400, 127, 200),
+        (400, 127, 201),
+        (400, 127, 199),
+        (400, 127, 255),
+        (400, 127, 128),
+        // 127 places from the primary place, above and below, with the block at the next place.
+        (0, 128, 127),
+        (254, 128, 0),
+        (256, 256, 255),
+        (510, 256, 128),
+        // In a later table block, and at the last place before the null descriptors.
+        (400, 127, 256),
+        (400, 127, 259),
+        (0, 259, 258),
+        // In an earlier table block.
+        (400, 127, 0),
+        (400, 127, 126),
+        (518, 255, 254),
+    ];
+    for (block, place, hole) in rows {
+        let word = 0x3000_0000 + block;
+        let sector = 3 * place as u32 + 2;
+        let shift = place as i32 - block as i32 / 2;
+        lies_on(drive, &table_of_260(&[(place, word)]), block, sector, shift);
+        refuse_table(drive, &table_of_260(&[(place, word), (hole, 0)]));
+    }
+}
+
+#[test]
+fn a_hole_and_another_fault() {
+    let drive = THREE_TABLE_BLOCKS;
+    // A free place before both places that name block 400, between them, and after both.
+    for free in [200, 30, 90] {
+        refuse_table(drive, &table_of_260(&[(5, 0x3000_0190), (60, 0x3000_0190), (free, 0)]));
+    }
+    // Scratch that is too short is refused before the hole, and is kept.
+    let table = table_of_260(&[(5, 0x3000_0190), (4, 0)]);
+    let short = Rest { table, scratch: vec![7; 259], ..Rest::proper(drive.0, drive.1) };
+    every_table_call_gives(drive.0, &short, |_| 7, &[7; 259]);
+    // No such block comes after the hole.
+    let asked = Rest { scratch: vec![7; 260], asked: u32::MAX, ..short };
+    every_table_call_gives(drive.0, &asked, |_| 11, &[0; 260]);
 }
 
 /// Every other spare is unusable: the block stays where it is.

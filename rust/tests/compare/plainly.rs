@@ -37,7 +37,7 @@ fn plain_step() {
 #[test]
 fn plain_spare_sector() {
     let mut tally = Tally::of("plain::spare_sector");
-    for seed in tally.seeds(2 * SEEDS) {
+    for seed in tally.seeds(24_000) {
         let mut draw = Draw::of(seed);
         let tabled = draw.any_tabled();
         let block = draw.block_of(&tabled);
@@ -46,7 +46,7 @@ fn plain_spare_sector() {
         let lent = scratch.library.lent();
         let plain = plain::spare_sector(plain::Shape::from(shape), r, table, lent, block);
         let model = model::spares::sector_of(paper(shape), r, table, scratch.model.lent(), block);
-        tally.same_numbers_on_table(seed, (shape, r), &scratch, plain, model);
+        tally.same_numbers_on_table(seed, (&tabled, Some(block)), &scratch, plain, model);
     }
     tally.saw(&[0, 1, 5, 7, 11]);
 }

@@ -1,7 +1,6 @@
 //! Reads of revectored blocks against the model.
 
 use tautberry::reading::{self, Track};
-use tautberry::Shape;
 
 use crate::draw::Draw;
 use crate::drawn_shapes::paper;
@@ -10,7 +9,7 @@ use crate::model;
 use crate::model::image::Read;
 use crate::tally::Tally;
 
-const SEEDS: u64 = 30_000;
+const SEEDS: u64 = 36_000;
 
 /// A drive with its table, a block, and two track images.
 struct Drawn {
@@ -21,8 +20,9 @@ struct Drawn {
 }
 
 impl Drawn {
-    fn drive(&self) -> (Shape, u32) {
-        (self.tabled.shape, self.tabled.r)
+    /// What the calls are asked.
+    fn asked(&self) -> (&Tabled, Option<u32>) {
+        (&self.tabled, Some(self.block))
     }
 
     fn paper(&self) -> Read<'_> {
@@ -71,7 +71,7 @@ fn reading_judge() {
         let lent = scratch.library.lent();
         let library = reading::judge(shape, r, table, lent, *block, home, spare);
         let model = model::image::judge_read(read.paper(), scratch.model.lent());
-        tally.same_on_table(seed, read.drive(), &scratch, library, model);
+        tally.same_on_table(seed, read.asked(), &scratch, library, model);
     }
     tally.saw(&[0, 1, 5, 7, 11, 14, 15, 16, 17, 18]);
 }
@@ -97,7 +97,7 @@ fn reading_spot_and_data() {
         at_home += u32::from(matches!(library, Ok((0, _))));
         on_spare += u32::from(matches!(library, Ok((1, _))));
         let model = model::image::spot(read.paper(), scratch.model.lent());
-        tally.same_on_table(seed, read.drive(), &scratch, library, model);
+        tally.same_on_table(seed, read.asked(), &scratch, library, model);
 
         let mut scratch = tabled.scratch();
         let lent = scratch.library.lent();
@@ -108,7 +108,7 @@ fn reading_spot_and_data() {
             _ => true,
         };
         assert!(same_place, "reading::data lies elsewhere at seed {seed}");
-        parts.same_on_table(seed, read.drive(), &scratch, library, model);
+        parts.same_on_table(seed, read.asked(), &scratch, library, model);
     }
     tally.saw(&[0, 1, 5, 7, 11, 14, 15, 16, 17, 18]);
     parts.saw(&[0, 1, 5, 7, 11, 14, 15, 16, 17, 18]);

@@ -113,11 +113,14 @@ fn the_table_of_a_replacement() {
     full.lent().iter_mut().filter(|word| **word == 0).for_each(|word| *word = 0x4000_0000);
     let mut broken = proper.clone();
     broken.lent()[0] = 1;
+    let mut holed = proper.clone();
+    holed.lent()[4] = 0;
     // The table, r, the length of the scratch, the block, and the refusal.
     let cases = [
         (&proper, 5, 11, 0, Err(Refusal::OutOfRange)),
         (&proper, 2, 7, 0, Err(Refusal::NoRoom)),
         (&broken, 2, 11, 0, Err(Refusal::BadTable)),
+        (&holed, 2, 11, 0, Err(Refusal::BadTable)),
         (&proper, 2, 11, 12, Err(Refusal::NoSuchBlock)),
         (&full, 2, 11, 7, Err(Refusal::NoSpare)),
         (&full, 2, 11, 0, Err(Refusal::NoSpare)),

@@ -5,7 +5,7 @@ use tautberry::Shape;
 
 use crate::drawn_shapes::{paper, shape, CUSTOMERS};
 use crate::drawn_tables::descriptor;
-use crate::model::spares::{drive, word, UNUSABLE};
+use crate::model::spares::{drive, word, FREE, UNUSABLE};
 use crate::shape_calls::{every_table_call_gives, Rest};
 
 /// Drives with one table block, with a part of a second one, and the customer's.
@@ -26,32 +26,41 @@ fn spares((shape, r): (Shape, u32)) -> usize {
 }
 
 /// Tables of a drive that are refused 11: one too short, one too long, one with a word that may not stand
-/// there in its first place and one in its last, and tables that name a block twice, the first and the last
-/// of the drive, in neighbouring places and as far apart as may be.
+/// there in its first place and one in its last; tables that name a block twice and have no free place, the
+/// first and the last block of the drive, in neighbouring places and as far apart as may be; and tables with
+/// one hole, before the first block and before the last.
 fn broken_tables((shape, r): (Shape, u32)) -> Vec<Vec<u32>> {
     let drive = drive(paper(shape), r).expect("a drive in its range");
     let last_place = drive.spares() - 1;
     let last = drive.blocks() - 1;
     let good = Rest::proper(shape, r).table;
-    let with = |words: &[(u32, u32)]| {
-        let mut table = good.clone();
+    let mut unusable = good.clone();
+    unusable[..drive.spares() as usize].fill(word(UNUSABLE, 0));
+    let with = |table: &[u32], words: &[(u32, u32)]| {
+        let mut table = table.to_vec();
         for (place, word) in words {
             table[*place as usize] = *word;
         }
         table
     };
-    let naming = |block: u32, one: u32, other: u32| {
-        with(&[(one, descriptor(drive, one, block)), (other, descriptor(drive, other, block))])
+    let at = |place: u32, block: u32| (place, descriptor(drive, place, block));
+    let naming =
+        |block: u32, one: u32, other: u32| with(&unusable, &[at(one, block), at(other, block)]);
+    let hole = |block: u32, place: u32, hole: u32| {
+        with(&unusable, &[at(place, block), (hole, word(FREE, 0))])
     };
     vec![
         good[1..].to_vec(),
         [&good[..], &[0; 128]].concat(),
-        with(&[(0, 1)]),
-        with(&[(good.len() as u32 - 1, word(15, 0))]),
+        with(&good, &[(0, 1)]),
+        with(&good, &[(good.len() as u32 - 1, word(15, 0))]),
         naming(0, 0, 1),
         naming(0, 0, last_place),
         naming(last, last_place - 1, last_place),
         naming(last, 0, last_place),
+        hole(0, 1, 0),
+        hole(0, last_place, last_place - 1),
+        hole(last, 0, last_place),
     ]
 }
 

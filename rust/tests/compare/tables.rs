@@ -1,16 +1,18 @@
 //! Revectored drives against the model.
 
-use tautberry::{spares, Refusal};
+use std::cmp::Ordering;
+
+use tautberry::{spares, Refusal, Shape};
 
 use crate::draw::{Draw, Room, Scratch};
 use crate::drawn_shapes::{paper, shape as ungrouped, FEW_SPARES};
 use crate::drawn_tables::descriptor;
 use crate::model;
-use crate::model::spares::{empty_table, word, Drive, FREE, UNUSABLE};
+use crate::model::spares::{check_table, empty_table, word, Drive, FREE, UNUSABLE};
 use crate::skipping::{numbers, turned};
 use crate::tally::Tally;
 
-const SEEDS: u64 = 20_000;
+const SEEDS: u64 = 24_000;
 
 #[test]
 fn spares_sector_of() {
@@ -23,7 +25,7 @@ fn spares_sector_of() {
         let mut scratch = tabled.scratch();
         let library = spares::sector_of(shape, r, table, scratch.library.lent(), block);
         let model = model::spares::sector_of(paper(shape), r, table, scratch.model.lent(), block);
-        tally.same_on_table(seed, (shape, r), &scratch, library, model);
+        tally.same_on_table(seed, (&tabled, Some(block)), &scratch, library, model);
     }
     tally.saw(&[0, 1, 5, 7, 11]);
 }
@@ -42,7 +44,7 @@ fn spares_address_of() {
         let library = library.map(numbers);
         elsewhere += u32::from(turned(&library));
         let model = model::spares::address_of(paper(shape), r, table, scratch.model.lent(), block);
-        tally.same_on_table(seed, (shape, r), &scratch, library, model);
+        tally.same_on_table(seed, (&tabled, Some(block)), &scratch, library, model);
     }
     tally.saw(&[0, 1, 5, 7, 11]);
     assert!(elsewhere > 1_000, "{elsewhere} turned");
@@ -62,10 +64,16 @@ fn spares_shift() {
         toward += u32::from(library.is_ok_and(|shift| shift < 0));
         away += u32::from(library.is_ok_and(|shift| shift > 0));
         let model = model::spares::shift(paper(shape), r, table, scratch.model.lent(), block);
-        tally.same_on_table(seed, (shape, r), &scratch, library, model);
+        tally.same_on_table(seed, (&tabled, Some(block)), &scratch, library, model);
     }
     tally.saw(&[0, 1, 5, 7, 11]);
     assert!(toward > 200 && away > 200, "{toward} negative, {away} positive");
+}
+
+/// The block whose home is this sector; none where it is a spare.
+fn home_of(drive: Drive, sector: u32) -> Option<u32> {
+    let (track, at) = (sector / drive.shape.s, sector % drive.shape.s);
+    (at < drive.l).then_some(track * drive.l + at)
 }
 
 #[test]
@@ -82,7 +90,8 @@ fn spares_block_on() {
         blocks += u32::from(matches!(library, Ok(Some(_))));
         none += u32::from(library == Ok(None));
         let model = model::spares::block_on(paper(shape), r, table, scratch.model.lent(), sector);
-        tally.same_on_table(seed, (shape, r), &scratch, library, model);
+        let home = home_of(tabled.drive, sector);
+        tally.same_on_table(seed, (&tabled, home), &scratch, library, model);
     }
     tally.saw(&[0, 1, 6, 7, 11]);
     assert!(blocks > 1_000 && none > 1_000, "{blocks} blocks, {none} times none");
@@ -104,7 +113,9 @@ fn spares_block_at() {
         blocks += u32::from(matches!(library, Ok(Some(_))));
         none += u32::from(library == Ok(None));
         let model = model::spares::block_at(paper(shape), r, table, scratch.model.lent(), address);
-        tally.same_on_table(seed, (shape, r), &scratch, library, model);
+        let sector = model::shape::sector_of(tabled.drive.shape, address).ok();
+        let home = sector.and_then(|sector| home_of(tabled.drive, sector));
+        tally.same_on_table(seed, (&tabled, home), &scratch, library, model);
     }
     tally.saw(&[0, 1, 6, 7, 11]);
     assert!(blocks > 1_000 && none > 1_000, "{blocks} blocks, {none} times none");
@@ -137,12 +148,15 @@ fn spares_replace() {
         let library = spares::replace(shape, r, &mut ours, scratch.library.lent(), block);
         let lent = scratch.model.lent();
         let model = model::spares::replace(paper(shape), r, &mut theirs, lent, block);
-        tally.same_on_table(seed, (shape, r), &scratch, library, model);
+        tally.same_on_table(seed, (&tabled, Some(block)), &scratch, library, model);
         assert!(ours == theirs, "spares::replace: another table at seed {seed}");
         let expected = match library {
             Ok(place) => sent(tabled.drive, &tabled.table, block, place),
             Err(_) => tabled.table.clone(),
         };
+        if library.is_ok() {
+            assert_eq!(check_table(tabled.drive, &ours), Ok(()), "a bad table at seed {seed}");
+        }
         assert!(ours == expected, "spares::replace: another place altered at seed {seed}");
         let on_spare = tabled.drive.place_of(&tabled.table, block).is_some();
         again += u32::from(on_spare && library.is_ok());
@@ -163,7 +177,7 @@ fn spares_census() {
         let library = spares::census(shape, r, table, scratch.library.lent())
             .map(|count| [count.free, count.primary, count.elsewhere, count.unusable, count.null]);
         let model = model::spares::census(paper(shape), r, table, scratch.model.lent());
-        tally.same_on_table(seed, (shape, r), &scratch, library, model);
+        tally.same_on_table(seed, (&tabled, None), &scratch, library, model);
     }
     tally.saw(&[0, 1, 7, 11]);
 }
@@ -196,6 +210,10 @@ fn spares_first_table() {
         let written = model.unwrap_or(0) as usize;
         tally.same_on(seed, (shape, Some(r)), library, model);
         tally.same_room(seed, &before, &ours, &theirs, written);
+        if model.is_ok() {
+            let passes = check_table(drive, &ours.held()[..written]);
+            assert_eq!(passes, Ok(()), "a bad table at seed {seed}");
+        }
     }
     tally.saw(&[0, 1, 2, 3, 4, 7, 13]);
 }
@@ -288,6 +306,67 @@ fn every_two_blocks_on_two_spares() {
             assert_eq!(answers, (expected, expected), "blocks {first} and {second}");
             assert_eq!(scratch.library.held(), [0, 0, u32::MAX], "blocks {first} and {second}");
             assert_eq!(scratch.library, scratch.model, "blocks {first} and {second}");
+        }
+    }
+}
+
+/// How late a place comes in the search order of a primary place: first its table block, by the distance and
+/// above before below, then the table blocks after it, then those before it.
+fn rank(primary: u32, place: u32) -> (u32, u32) {
+    let own = primary / 128;
+    match (place / 128).cmp(&own) {
+        Ordering::Equal => (0, 2 * place.abs_diff(primary) + u32::from(place < primary)),
+        Ordering::Greater => (1, place),
+        Ordering::Less => (2, place),
+    }
+}
+
+/// A table that names one block and has these free places, all other spares unusable: library and model must
+/// find the block on its spare, or refuse the table where one of the free places comes before it.
+fn same_with_free(shape: Shape, r: u32, block: u32, place: u32, free: &[u32]) {
+    let drive = model::spares::drive(paper(shape), r).expect("a drive in its range");
+    let mut table = empty_table(drive);
+    table[..drive.spares() as usize].fill(word(UNUSABLE, 0));
+    for free in free {
+        table[*free as usize] = word(FREE, 0);
+    }
+    table[place as usize] = descriptor(drive, place, block);
+    let primary = drive.primary(block) as u32;
+    let hole = free.iter().any(|free| rank(primary, *free) < rank(primary, place));
+    let expected = if hole { Err(11) } else { Ok(drive.spare(place)) };
+    let mut scratch = Scratch::of(Room::full_of_ones(drive.spares() as usize));
+    let library = spares::sector_of(shape, r, &table, scratch.library.lent(), block);
+    let model = model::spares::sector_of(paper(shape), r, &table, scratch.model.lent(), block);
+    let answers = (library.map_err(Refusal::number), model);
+    assert_eq!(answers, (expected, expected), "block {block} at {place}, free {free:?}");
+    assert!(scratch.library.held().iter().all(|number| *number == 0));
+    assert_eq!(scratch.library, scratch.model, "block {block} at {place}, free {free:?}");
+}
+
+/// A block of each track at each of eight spares, with any of the others free.
+#[test]
+fn any_free_places_of_eight() {
+    for track in 0..4 {
+        for place in 0..8 {
+            for set in 0..256_u32 {
+                let free: Vec<u32> = (0..8).filter(|other| set >> other & 1 == 1).collect();
+                if !free.contains(&place) {
+                    same_with_free(ungrouped(2, 2, 5), 2, 3 * track, place, &free);
+                }
+            }
+        }
+    }
+}
+
+/// Blocks and places about the edges of three table blocks, with each other spare free in turn.
+#[test]
+fn each_free_place_of_260() {
+    let edges = [0, 1, 63, 126, 127, 128, 129, 200, 254, 255, 256, 258, 259];
+    for track in edges {
+        for place in edges {
+            for free in (0..260).filter(|free| *free != place) {
+                same_with_free(ungrouped(260, 1, 3), 1, 2 * track, place, &[free]);
+            }
         }
     }
 }

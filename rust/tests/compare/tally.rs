@@ -4,11 +4,13 @@ use std::collections::BTreeMap;
 use std::fmt::Debug;
 use std::ops::Range;
 
-use tautberry::{Refusal, Shape, SPARES_MOST};
+use tautberry::{Refusal, Shape, SPARES_MOST, TABLE_BLOCK};
 
 use crate::draw::{Room, Scratch};
 use crate::drawn_shapes::{grouped, paper, FEW_SPARES};
+use crate::drawn_tables::{Hole, Tabled};
 use crate::model;
+use crate::model::spares::{allocated, check_descriptors, holes, search_order, word, FREE};
 
 /// The answers of one call, counted by refusal number on both sides; 0 is accepted.
 pub struct Tally {
@@ -17,6 +19,7 @@ pub struct Tally {
     model: BTreeMap<u32, u32>,
     groups: Option<Groups>,
     tables: Option<Tables>,
+    look_ups: Option<LookUps>,
 }
 
 /// What the groups of the shapes came to, of a call that takes a shape.
@@ -30,7 +33,8 @@ struct Groups {
     accepted: u32,
 }
 
-/// What the scratch came to, of a call that is lent a table, and how large the drives were.
+/// What the scratch came to, of a call that is lent a table, how large the drives were, and what holes their
+/// tables had.
 #[derive(Debug, Default)]
 struct Tables {
     /// Scratch that was too short.
@@ -45,12 +49,32 @@ struct Tables {
     many_spares: u32,
     /// Drives of about as many spares as may be.
     most_spares: u32,
+    /// Tables that were refused for a hole, or for several, and broke no other rule.
+    holes: u32,
+    /// Those of them whose holes are all of a kind.
+    kinds: BTreeMap<Hole, u32>,
 }
 
-/// Every comparison of a call that takes a shape must have seen each count of [`Groups`] so often, and one
-/// of a call that is lent a table each count of [`Tables`] but the last.
+/// Where look-ups ended, of a call that looks a block up in a table.
+#[derive(Debug, Default)]
+struct LookUps {
+    /// At a free place in the table block of the block's primary place.
+    free: u32,
+    /// At a free place in another table block.
+    free_elsewhere: u32,
+    /// At the block.
+    block: u32,
+    /// At the end of the search order.
+    end: u32,
+}
+
+/// Every comparison of a call that takes a shape must have seen each count of [`Groups`] so often, one of a
+/// call that is lent a table each count of [`Tables`] but those below, and one of a call that looks a block
+/// up each count of [`LookUps`].
 const SEEN_LEAST: u32 = 100;
-/// It must have seen the last so often: such an input takes long.
+/// It must have seen each kind of hole so often.
+const HOLES_LEAST: u32 = 50;
+/// It must have seen the most spares so often: such an input takes long.
 const MOST_SPARES_LEAST: u32 = 8;
 
 impl Groups {
@@ -68,9 +92,10 @@ impl Groups {
 }
 
 impl Tables {
-    /// Counts one answer about a drive, and the scratch after it.
-    fn count(&mut self, (shape, r): (Shape, u32), scratch: &Scratch, number: u32) {
-        let spares = model::spares::drive(paper(shape), r).map_or(0, |drive| drive.spares());
+    /// Counts one answer about a drive with its table, and the scratch after it.
+    fn count(&mut self, tabled: &Tabled, scratch: &Scratch, number: u32) {
+        let drive = model::spares::drive(paper(tabled.shape), tabled.r);
+        let spares = drive.map_or(0, |drive| drive.spares());
         self.many_spares += u32::from(spares > FEW_SPARES);
         self.most_spares += u32::from(spares > SPARES_MOST - 100);
         let written = scratch.written();
@@ -78,13 +103,51 @@ impl Tables {
         self.accepted += u32::from(written && number == 0);
         self.refused += u32::from(written && number != 0);
         self.longer += u32::from(written && scratch.end_stands());
+        if number == 11 && check_descriptors(tabled.drive, &tabled.table).is_ok() {
+            self.count_holes(tabled);
+        }
+    }
+
+    /// Counts the holes of a table that breaks no other rule.
+    fn count_holes(&mut self, Tabled { table, drive, .. }: &Tabled) {
+        let mut kinds = Hole::ALL.to_vec();
+        for (place, descriptor) in table.iter().enumerate() {
+            if let Some(block) = allocated(*descriptor) {
+                let primary = drive.primary(block);
+                for hole in holes(*drive, table, place, block) {
+                    kinds.retain(|kind| kind.lies_at(*drive, primary, hole));
+                }
+            }
+        }
+        self.holes += 1;
+        for kind in kinds {
+            *self.kinds.entry(kind).or_default() += 1;
+        }
+    }
+}
+
+impl LookUps {
+    /// Counts the look-up of a block in a table that was accepted.
+    fn count(&mut self, Tabled { table, drive, .. }: &Tabled, block: u32) {
+        let primary = drive.primary(block);
+        let names_it = |place: usize| allocated(table[place]) == Some(block);
+        let is_free = |place: usize| table[place] == word(FREE, 0);
+        let mut order = search_order(table.len(), primary);
+        let ended = order.find(|place| is_free(*place) || names_it(*place));
+        let count = match ended {
+            None => &mut self.end,
+            Some(place) if names_it(place) => &mut self.block,
+            Some(place) if place / TABLE_BLOCK == primary / TABLE_BLOCK => &mut self.free,
+            Some(_) => &mut self.free_elsewhere,
+        };
+        *count += 1;
     }
 }
 
 impl Tally {
     pub fn of(call: &'static str) -> Tally {
         let (library, model) = (BTreeMap::new(), BTreeMap::new());
-        Tally { call, library, model, groups: None, tables: None }
+        Tally { call, library, model, groups: None, tables: None, look_ups: None }
     }
 
     /// So many seeds that no other call has, as its name gives them.
@@ -145,30 +208,35 @@ impl Tally {
         self.same_numbers(seed, library, model);
     }
 
-    /// The same for a call that is lent a table: the scratch after it must be the same too.
+    /// The same for a call that is lent a table and looks up this block in it, if any: the scratch after it
+    /// must be the same too.
     pub fn same_on_table<T: PartialEq + Debug>(
         &mut self,
         seed: u64,
-        drive: (Shape, u32),
+        asked: (&Tabled, Option<u32>),
         scratch: &Scratch,
         library: Result<T, Refusal>,
         model: Result<T, u32>,
     ) {
-        self.same_numbers_on_table(seed, drive, scratch, library.map_err(Refusal::number), model);
+        self.same_numbers_on_table(seed, asked, scratch, library.map_err(Refusal::number), model);
     }
 
     /// The same for a side that gives numbers.
     pub fn same_numbers_on_table<T: PartialEq + Debug>(
         &mut self,
         seed: u64,
-        drive: (Shape, u32),
+        (tabled, block): (&Tabled, Option<u32>),
         scratch: &Scratch,
         library: Result<T, u32>,
         model: Result<T, u32>,
     ) {
-        self.tables.get_or_insert_default().count(drive, scratch, number(&library));
-        let (shape, r) = drive;
-        self.same_numbers_on(seed, (shape, Some(r)), library, model);
+        let given = number(&library);
+        self.same_numbers_on(seed, (tabled.shape, Some(tabled.r)), library, model);
+        self.tables.get_or_insert_default().count(tabled, scratch, given);
+        // What an image is refused for comes after the look-up.
+        if let (Some(block), 0 | 15..=18) = (block, given) {
+            self.look_ups.get_or_insert_default().count(tabled, block);
+        }
         assert!(
             scratch.library == scratch.model,
             "{} leaves other scratch than the model at seed {seed}",
@@ -199,8 +267,9 @@ impl Tally {
 
     /// Both sides must have given these numbers, 0 for accepted, and no others. A call that takes a shape
     /// must have been refused for its groups alone, and accepted with groups. One that is lent a table must
-    /// have been refused for its scratch, must have written to it, accepted and refused, and must have been
-    /// asked about drives of many spares.
+    /// have been refused for its scratch, must have written to it, accepted and refused, must have been asked
+    /// about drives of many spares, and must have been refused for each kind of hole alone. One that looks a
+    /// block up must have ended in each way.
     pub fn saw(self, numbers: &[u32]) {
         let inputs: u32 = self.library.values().sum();
         println!("{}: {inputs} inputs, answers {:?}", self.call, self.library);
@@ -212,11 +281,26 @@ impl Tally {
         }
         if let Some(tables) = &self.tables {
             println!("{}: {tables:?}", self.call);
-            let Tables { short, accepted, refused, longer, many_spares, most_spares } = *tables;
-            for seen in [short, accepted, refused, longer, many_spares] {
+            let Tables { short, accepted, refused, longer, many_spares, most_spares, .. } = *tables;
+            for seen in [short, accepted, refused, longer, many_spares, tables.holes] {
                 assert!(seen >= SEEN_LEAST, "{}: too few of {tables:?}", self.call);
             }
             assert!(most_spares >= MOST_SPARES_LEAST, "{}: too few of {tables:?}", self.call);
+            for kind in Hole::ALL {
+                let seen = tables.kinds.get(&kind).copied().unwrap_or(0);
+                assert!(seen >= HOLES_LEAST, "{}: too few of {tables:?}", self.call);
+            }
+        }
+        if let Some(look_ups) = &self.look_ups {
+            println!("{}: {look_ups:?}", self.call);
+            let mut ended = vec![look_ups.free, look_ups.free_elsewhere, look_ups.block];
+            // A replacement looks a block up only where a place is free.
+            if !numbers.contains(&13) {
+                ended.push(look_ups.end);
+            }
+            for seen in ended {
+                assert!(seen >= SEEN_LEAST, "{}: too few of {look_ups:?}", self.call);
+            }
         }
         for (side, seen) in [("library", &self.library), ("model", &self.model)] {
             let given: Vec<u32> = seen.keys().copied().collect();

@@ -2,7 +2,7 @@
 -- Assumes nothing.
 use borrow.Author.Needs.{needs}
 use denote.Ref.{now}
-use Rattle.order.specs.Order.{isFree}
+use Rattle.order.specs.Order.{stops}
 use Rattle.order.proofs.Parts.{found-near, found-after, found-before}
 use Rattle.order.proofs.search.Statement.{statement}
 use Rattle.order.proofs.search.Tie as tie
@@ -25,7 +25,7 @@ returns c =
     let whole = c .before .before .before .pre .0 in
     let inside = c .before .before .before .pre .1 in
     let near = c .before .search-at in
-    found-near isFree (now (args .table)) (args .primary) whole inside (near .result) (near .ensures) (c .if1 .taken)
+    found-near (stops (args .sought)) (now (args .table)) (args .primary) whole inside (near .result) (near .ensures) (c .if1 .taken)
 
 search-rising-requires : tie.Need-search-rising-requires
 search-rising-requires c κs = search needs
@@ -37,7 +37,7 @@ returns-2 c =
     let inside = c .before .before .before .before .before .pre .1 in
     let near = c .before .before .before .search-at in
     let after = c .before .search-rising in
-    found-after isFree (now (args .table)) (args .primary) whole inside (near .result) (near .ensures) (c .before .before .if1 .left) (after .result) (after .ensures) (c .if2 .taken)
+    found-after (stops (args .sought)) (now (args .table)) (args .primary) whole inside (near .result) (near .ensures) (c .before .before .if1 .left) (after .result) (after .ensures) (c .if2 .taken)
 
 search-rising-requires-2 : tie.Need-search-rising-requires-2
 search-rising-requires-2 c κs = search needs
@@ -50,7 +50,7 @@ returns-3 c =
     let near = c .before .before .before .before .search-at in
     let after = c .before .before .search-rising in
     let before = c .search-rising2 in
-    found-before isFree (now (args .table)) (args .primary) whole inside (near .result) (near .ensures) (c .before .before .before .if1 .left) (after .result) (after .ensures) (c .before .if2 .left) (before .result) (before .ensures)
+    found-before (stops (args .sought)) (now (args .table)) (args .primary) whole inside (near .result) (near .ensures) (c .before .before .before .if1 .left) (after .result) (after .ensures) (c .before .if2 .left) (before .result) (before .ensures)
 
 pub search-spec : {M : Type 1} → statement M
 search-spec =

@@ -4,7 +4,8 @@ use mathlib.Core.Path.{sym}
 use borrow.Author.Needs.{needs}
 use denote.Ref.{now}
 use lib.ListN.{length}
-use Rattle.order.specs.Order.{isFree}
+use Rattle.order.specs.Order.{stops, blockOrder}
+use Rattle.order.proofs.Once.{block-inside}
 use Rattle.order.proofs.Blocks.{block-found, block-none}
 use Rattle.order.proofs.search_at.Statement.{statement}
 use Rattle.order.proofs.search_at.Tie as tie
@@ -29,14 +30,14 @@ returns c =
     let table = now (c .before .before .before .before .args .table) in
     let held = c .before .before .hold in
     let found = c .before .search-block in
-    sym (block-found isFree table (c .before .before .before .before .args .start) (c .before .before .before .before .args .o) (held .result) (held .ensures) (found .result) (found .ensures) (length table) (c .if1 .taken))
+    sym (block-found (stops (c .before .before .before .before .args .sought)) table (c .before .before .before .before .args .start) (blockOrder (c .before .before .before .before .args .o)) (block-inside (c .before .before .before .before .args .o)) (held .result) (held .ensures) (found .result) (found .ensures) (length table) (c .if1 .taken))
 
 returns-2 : tie.Need-returns-2
 returns-2 c =
     let table = now (c .before .before .before .before .args .table) in
     let held = c .before .before .hold in
     let found = c .before .search-block in
-    sym (block-none isFree table (c .before .before .before .before .args .start) (c .before .before .before .before .args .o) (held .result) (held .ensures) (found .result) (found .ensures) (length table) (c .if1 .left))
+    sym (block-none (stops (c .before .before .before .before .args .sought)) table (c .before .before .before .before .args .start) (blockOrder (c .before .before .before .before .args .o)) (block-inside (c .before .before .before .before .args .o)) (held .result) (held .ensures) (found .result) (found .ensures) (length table) (c .if1 .left))
 
 pub search-at-spec : {M : Type 1} → statement M
 search-at-spec =

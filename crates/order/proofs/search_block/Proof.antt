@@ -7,7 +7,7 @@ use borrow.Author.Needs.{needs}
 use lib.IntN.{ℤ, pos, _+ℤ_}
 use Rattle.paper.specs.Limits.{tableBlock}
 use Rattle.seek.specs.Search.{firstOr}
-use Rattle.order.specs.Order.{blockOrder, freeAt}
+use Rattle.order.specs.Order.{blockOrder, stopsAt}
 use Rattle.order.specs.Steps.{turns, placeIn}
 use Rattle.order.proofs.Signs.{read-again}
 use Rattle.order.proofs.Turns.{offset-short, triedAt, tried, tried-all, turn-passed, turn-fails, turn-stops, turns-over}
@@ -15,14 +15,14 @@ use Rattle.order.proofs.search_block.Statement.{statement}
 use Rattle.order.proofs.search_block.Tie as tie
 
 abbrev Inv-loop : tie.InvT-loop
-Inv-loop o held turn₀ turn =
-    firstOr tableBlock (freeAt held) (blockOrder o) ≡ firstOr tableBlock (freeAt held) (tried o turn (turns - turn))
+Inv-loop o sought held turn₀ turn =
+    firstOr tableBlock (stopsAt held sought) (blockOrder o) ≡ firstOr tableBlock (stopsAt held sought) (tried o turn (turns - turn))
 
 abbrev μ-loop : tie.MeasureT-loop
-μ-loop o held turn₀ turn = turns - turn
+μ-loop o sought held turn₀ turn = turns - turn
 
 loop-holds : tie.Need-loop-holds Inv-loop μ-loop
-loop-holds c = ap (firstOr tableBlock (freeAt (c .args .t1))) (sym (tried-all (c .args .o)))
+loop-holds c = ap (firstOr tableBlock (stopsAt (c .args .t1) (c .args .sought))) (sym (tried-all (c .args .o)))
 
 offset-of-requires : tie.Need-offset-of-requires Inv-loop μ-loop
 offset-of-requires c κs = omega arith
@@ -59,29 +59,29 @@ loop-again c =
     let turn = c .before .before .before .before .loop .turn in
     let place = c .before .place-in .result in
     c .before .before .before .before .loop .inv
-    ∙ turn-passed (freeAt (args .t1)) tableBlock (args .o) turn place (c .before .before .before .loop-test .taken) (placed (c .before)) (c .if1 .taken)
+    ∙ turn-passed (stopsAt (args .t1) (args .sought)) tableBlock (args .o) turn place (c .before .before .before .loop-test .taken) (placed (c .before)) (c .if1 .taken)
 
-cast-is-free : tie.Need-cast-is-free Inv-loop μ-loop
-cast-is-free c = omega arith
+cast-stops : tie.Need-cast-stops Inv-loop μ-loop
+cast-stops c = omega arith
 
-mul-is-free : tie.Need-mul-is-free Inv-loop μ-loop
-mul-is-free c = omega arith
+mul-stops : tie.Need-mul-stops Inv-loop μ-loop
+mul-stops c = omega arith
 
-array-read-is-free : tie.Need-array-read-is-free Inv-loop μ-loop
-array-read-is-free c = omega arith
+array-read-stops : tie.Need-array-read-stops Inv-loop μ-loop
+array-read-stops c = omega arith
 
-is-free-requires : tie.Need-is-free-requires Inv-loop μ-loop
-is-free-requires c κs = tt
+stops-requires : tie.Need-stops-requires Inv-loop μ-loop
+stops-requires c κs = tt
 
 returns : tie.Need-returns Inv-loop μ-loop
 returns c =
     let args = c .before .before .before .before .before .before .before .args in
     let turn = c .before .before .before .before .before .before .loop .turn in
     let place = c .before .before .before .place-in .result in
-    let stops = sym (c .before .is-free .ensures) ∙ c .if2 .taken in
+    let here = sym (c .before .stops .ensures) ∙ c .if2 .taken in
     sym
     (c .before .before .before .before .before .before .loop .inv
-    ∙ turn-stops (freeAt (args .t1)) tableBlock (args .o) turn place (c .before .before .before .before .before .loop-test .taken) (placed (c .before .before .before)) (c .before .before .if1 .left) stops)
+    ∙ turn-stops (stopsAt (args .t1) (args .sought)) tableBlock (args .o) turn place (c .before .before .before .before .before .loop-test .taken) (placed (c .before .before .before)) (c .before .before .if1 .left) here)
 
 add-turn-2 : tie.Need-add-turn-2 Inv-loop μ-loop
 add-turn-2 c = omega arith
@@ -94,15 +94,15 @@ loop-again-2 c =
     let args = c .before .before .before .before .before .before .before .args in
     let turn = c .before .before .before .before .before .before .loop .turn in
     let place = c .before .before .before .place-in .result in
-    let fails = sym (c .before .is-free .ensures) ∙ c .if2 .left in
+    let fails = sym (c .before .stops .ensures) ∙ c .if2 .left in
     c .before .before .before .before .before .before .loop .inv
-    ∙ turn-fails (freeAt (args .t1)) tableBlock (args .o) turn place (c .before .before .before .before .before .loop-test .taken) (placed (c .before .before .before)) (c .before .before .if1 .left) fails
+    ∙ turn-fails (stopsAt (args .t1) (args .sought)) tableBlock (args .o) turn place (c .before .before .before .before .before .loop-test .taken) (placed (c .before .before .before)) (c .before .before .if1 .left) fails
 
 cast-result : tie.Need-cast-result Inv-loop μ-loop
 cast-result c = search needs
 
 returns-2 : tie.Need-returns-2 Inv-loop μ-loop
-returns-2 c = sym (c .before .loop .inv ∙ turns-over (freeAt (c .before .before .args .t1)) tableBlock (c .before .before .args .o) (c .before .loop .turn) (c .loop-test .left))
+returns-2 c = sym (c .before .loop .inv ∙ turns-over (stopsAt (c .before .before .args .t1) (c .before .before .args .sought)) tableBlock (c .before .before .args .o) (c .before .loop .turn) (c .loop-test .left))
 
 pub search-block-spec : {M : Type 1} → statement M
 search-block-spec =
@@ -117,10 +117,10 @@ search-block-spec =
     add-turn
     loop-less
     loop-again
-    cast-is-free
-    mul-is-free
-    array-read-is-free
-    is-free-requires
+    cast-stops
+    mul-stops
+    array-read-stops
+    stops-requires
     returns
     add-turn-2
     loop-less-2

@@ -7,33 +7,36 @@ use denote.Ref.{now}
 use lib.ListN.{length}
 use Rattle.paper.specs.Limits.{tableBlock}
 use Rattle.seek.specs.Search.{firstOr, rising}
-use Rattle.order.specs.Order.{isFree, freeAt}
+use Rattle.order.specs.Order.{stops, stopsAt}
 use Rattle.order.proofs.Blocks.{run-found, run-passed, run-over}
 use Rattle.order.proofs.search_rising.Statement.{statement}
 use Rattle.order.proofs.search_rising.Tie as tie
 
 abbrev Inv-loop : tie.InvT-loop
-Inv-loop table from to start₀ start =
+Inv-loop table from to sought start₀ start =
     (start % tableBlock ≡ 0)
-    × (firstOr (length table) (freeAt table) (rising from (to - from)) ≡ firstOr (length table) (freeAt table) (rising start (to - start)))
+    × (firstOr (length table) (stopsAt table sought) (rising from (to - from)) ≡ firstOr (length table) (stopsAt table sought) (rising start (to - start)))
 
 abbrev μ-loop : tie.MeasureT-loop
-μ-loop table from to start₀ start = to - start
+μ-loop table from to sought start₀ start = to - start
 
 loop-holds : tie.Need-loop-holds Inv-loop μ-loop
 loop-holds c = (c .before .pre .1 .0, refl)
 
-search-at-requires : tie.Need-search-at-requires Inv-loop μ-loop
-search-at-requires c κs = (omega arith, omega arith)
+hold-requires : tie.Need-hold-requires Inv-loop μ-loop
+hold-requires c κs = omega arith
+
+rise-block-requires : tie.Need-rise-block-requires Inv-loop μ-loop
+rise-block-requires c κs = tt
+
+add-result : tie.Need-add-result Inv-loop μ-loop
+add-result c = omega arith
 
 returns : tie.Need-returns Inv-loop μ-loop
 returns c =
-    let args = c .before .before .before .before .before .args in
-    let loop = c .before .before .before .loop in
-    let found = c .before .search-at in
     sym
-    (loop .inv .1
-    ∙ run-found isFree (now (args .table)) (loop .start) (args .to) (found .result) (omega arith) (c .before .before .before .before .before .pre .0) (found .ensures) (c .if1 .taken))
+    (c .before .before .before .before .loop .inv .1
+    ∙ run-found (stops (c .before .before .before .before .before .before .args .sought)) (now (c .before .before .before .before .before .before .args .table)) (c .before .before .before .before .loop .start) (c .before .before .before .before .before .before .args .to) (omega arith) (c .before .before .before .before .before .before .pre .0) (c .before .before .hold .result) (c .before .before .hold .ensures) (c .before .rise-block .result) (c .before .rise-block .ensures) (c .if1 .taken))
 
 add-start : tie.Need-add-start Inv-loop μ-loop
 add-start c = omega arith
@@ -43,17 +46,11 @@ loop-less c = omega arith
 
 loop-again : tie.Need-loop-again Inv-loop μ-loop
 loop-again c =
-    let args = c .before .before .before .before .before .args in
-    let loop = c .before .before .before .loop in
-    let found = c .before .search-at in
-    let passed = run-passed isFree (now (args .table)) (loop .start) (args .to) (found .result) (omega arith) (c .before .before .before .before .before .pre .0) (found .ensures) (c .if1 .left) in
-    (omega arith, loop .inv .1 ∙ passed)
+    let passed = run-passed (stops (c .before .before .before .before .before .before .args .sought)) (now (c .before .before .before .before .before .before .args .table)) (c .before .before .before .before .loop .start) (c .before .before .before .before .before .before .args .to) (omega arith) (c .before .before .before .before .before .before .pre .0) (c .before .before .hold .result) (c .before .before .hold .ensures) (c .before .rise-block .result) (c .before .rise-block .ensures) (c .if1 .left) in
+    (omega arith, c .before .before .before .before .loop .inv .1 ∙ passed)
 
 returns-2 : tie.Need-returns-2 Inv-loop μ-loop
-returns-2 c =
-    let args = c .before .before .before .args in
-    let loop = c .before .loop in
-    sym (loop .inv .1 ∙ run-over isFree (now (args .table)) (loop .start) (args .to) (c .loop-test .left))
+returns-2 c = sym (c .before .loop .inv .1 ∙ run-over (stops (c .before .before .before .args .sought)) (now (c .before .before .before .args .table)) (c .before .loop .start) (c .before .before .before .args .to) (c .loop-test .left))
 
 pub search-rising-spec : {M : Type 1} → statement M
 search-rising-spec =
@@ -62,7 +59,9 @@ search-rising-spec =
     Inv-loop
     μ-loop
     loop-holds
-    search-at-requires
+    hold-requires
+    rise-block-requires
+    add-result
     returns
     add-start
     loop-less

@@ -21,7 +21,7 @@ rem-t9 : tie.Need-rem-t9
 rem-t9 c = search needs
 
 add-t10 : tie.Need-add-t10
-add-t10 c = omega (arith, mod-lt (c .before .before .before .place-of .result) (c .before .before .before .before .before .pre .spare-some))
+add-t10 c = omega (arith, mod-lt (c .before .before .before .place-of .result) (c .before .before .before .before .before .pre .0 .spare-some))
 
 returns : tie.Need-returns
 unfolding sectorIn
@@ -31,7 +31,7 @@ rem-t11 : tie.Need-rem-t11
 rem-t11 c = search needs
 
 cast-t5 : tie.Need-cast-t5
-cast-t5 c = omega (arith, mod-lt (c .before .before .before .before .args .block) (c .before .before .before .before .pre .home-some))
+cast-t5 c = omega (arith, mod-lt (c .before .before .before .before .args .block) (c .before .before .before .before .pre .0 .home-some))
 
 returns-2 : tie.Need-returns-2
 unfolding sectorIn

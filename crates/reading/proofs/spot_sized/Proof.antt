@@ -3,7 +3,7 @@
 use borrow.Author.Needs.{needs}
 use mathlib.Core.Path.{sym, _∙_}
 use native.Mathlib.Omega.{arith}
-use Rattle.table.proofs.Exact.{sound-laid}
+use Rattle.table.proofs.Exact.{sound-laid, sound-obeys}
 use Rattle.reading.proofs.Exact.{lent-shows}
 use Rattle.reading.proofs.Spots.{lies-inside, track-long, end-fits, seat-sector, seat-replaced, seat-track, seat-fault, read-lent, read-lying, spot-refused, spot-found}
 use Rattle.reading.proofs.spot_sized.Statement.{statement}
@@ -29,7 +29,7 @@ drive-of-requires c κs =
 seat-of-requires : tie.Need-seat-of-requires
 seat-of-requires c κs =
     let lent = lent-shows _ _ _ _ _ _ _ _ (sym (c .before .before .before .before .lent-fault .ensures .0) ∙ c .before .if1 .left) in
-    rw (c .drive-of .ensures) (sound-laid (lent .sound))
+    rw (c .drive-of .ensures) (sound-laid (lent .sound), (sound-obeys (lent .sound), lent .below))
 
 add-start : tie.Need-add-start
 add-start c = search needs

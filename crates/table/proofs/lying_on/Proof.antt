@@ -2,10 +2,10 @@
 -- Assumes nothing.
 use borrow.Author.Needs.{needs}
 use mathlib.Core.Path.{sym, _∙_}
-use borrow.Author.Tests.{lt-ltb, le-ltb, ltb-false}
+use borrow.Author.Tests.{lt-ltb, le-ltb, ltb-true, ltb-false}
 use Prim.Native.Nat.{_%_}
 use Rattle.layout.specs.Layouts.{sectorsPerTrack}
-use Rattle.layout.proofs.Sectors.{place-below}
+use Rattle.layout.proofs.Sectors.{block-below, place-below}
 use Rattle.table.proofs.Obeying.{spare-in}
 use Rattle.table.proofs.lying_on.Statement.{statement}
 use Rattle.table.proofs.lying_on.Tie as tie
@@ -17,7 +17,9 @@ block-of-home-requires : tie.Need-block-of-home-requires
 block-of-home-requires c κs = search needs
 
 place-of-requires : tie.Need-place-of-requires
-place-of-requires c κs = search needs
+place-of-requires c κs =
+    let before = ltb-true (c .before .before .before .before .args .sector % sectorsPerTrack (c .before .before .before .before .args .drive)) (c .before .before .before .before .args .drive .l) (sym (c .before .before .is-home .ensures) ∙ c .before .if1 .taken) in
+    (c .before .before .before .before .pre .0, (c .before .before .before .before .pre .1 .0, rw (c .block-of-home .ensures) (block-below (c .before .before .before .before .pre .0) (c .before .before .before .before .pre .1 .1) before)))
 
 returns : tie.Need-returns
 returns c = rw (← c .before .before .before .before .is-home .ensures, c .before .before .before .if1 .taken, ← c .before .before .block-of-home .ensures, ← c .before .place-of .ensures, lt-ltb _ _ (c .if2 .taken))
