@@ -126,10 +126,11 @@ fn try_second() {
     try_census(&table);
 }
 
-// A block on a spare beside its primary, which is free.
+// A block on a spare beside its primary, which is unusable.
 fn try_primary() {
-    telling::line(b"block 7 on place 5 alone");
+    telling::line(b"block 7 on place 5, place 4 unusable");
     let mut table = none_replaced();
+    table[4] = 0x4000_0000;
     table[5] = 0x3000_0007;
     let after = try_replace(table, 7);
     try_words(after);
