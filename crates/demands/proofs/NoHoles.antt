@@ -1,16 +1,12 @@
 -- Q-7: a table passes exactly where each search stops right there, the look-up finds what it found, and neither a first table nor a replacement leaves a hole.
 -- Assumes nothing.
-use Prim.Native.Nat.{ℕ, _<_, _≤_}
+use Prim.Native.Nat.{ℕ, _<_}
 use mathlib.Core.Path.{_≡_, sym, _∙_, ap}
 use mathlib.Core.Bool.{true, false, true≢false}
 use mathlib.Core.List.{List}
-use native.Mathlib.Omega.{arith}
-use lib.ListN.{length, getD, take, List·getD-eq-default}
-use borrow.Author.Tests.{not-false}
+use lib.ListN.{length, getD, List·getD-eq-default}
 use Rattle.paper.specs.Checks.{pick}
-use Rattle.paper.specs.declared.Written.the-variants.{Length}
 use Rattle.paper.proofs.Cases.{byBool, byLt}
-use Rattle.paper.proofs.Rows.{tells-false}
 use Rattle.seek.specs.Search.{Before}
 use Rattle.shape.specs.declared.Shape.{Shape}
 use Rattle.shape.specs.Shapes.{Shaped}
@@ -21,19 +17,17 @@ use Rattle.order.specs.Order.{order}
 use Rattle.table.specs.Places.{tableLength}
 use Rattle.table.specs.Rules.{Misplaced, Holed, holed, Sound}
 use Rattle.table.specs.Steps.{mayStand}
-use Rattle.table.specs.Lookup.{placeOf}
+use Rattle.table.specs.Lookup.{placeOf, stopOf, StopsThere}
 use Rattle.table.proofs.Standings.{tells-misplaced}
 use Rattle.table.proofs.Obeying.{obeys-unbroken}
 use Rattle.table.proofs.Stops.{stop-is, stop-none, obeys-stops, stops-obeys}
 use Rattle.table.proofs.Exact.{sound-laid, sound-obeys}
-use Rattle.first_table.specs.Promises.{FirstTable}
 use Rattle.replacing.specs.Replacing.{spareFor}
 use Rattle.replacing.proofs.Moves.{lands-later, lands-off-primary}
-use Rattle.spares.specs.declared.Replaced.{Replaced}
 use Rattle.spares.specs.declared.Replaced.the-variants.{Place}
 use Rattle.spares.specs.Promises.{Replacement}
 use Rattle.spares.proofs.Accepted.{after-sound, replace-spare}
-use Rattle.demands.specs.NoHoles.{stopOf, StopsThere, NoHoles}
+use Rattle.demands.specs.NoHoles.{NoHoles}
 use Rattle.demands.proofs.Demand2Revectored.{taken-passes, taken-sound, taken-below}
 use Rattle.demands.proofs.Demand2Census.{first-sound, history-sound}
 

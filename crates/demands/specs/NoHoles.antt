@@ -8,26 +8,17 @@ use Rattle.paper.specs.declared.Written.the-variants.{Length}
 use Rattle.seek.specs.Search.{Before}
 use Rattle.shape.specs.declared.Shape.{Shape}
 use Rattle.shape.specs.Shapes.{Shaped}
-use Rattle.layout.specs.declared.Drive.{Drive}
 use Rattle.layout.specs.Layouts.{Spared, driveOf}
-use Rattle.layout.specs.Descriptors.{numberOf, primary, Allocated, Names, names}
-use Rattle.order.specs.Order.{order, firstStop}
+use Rattle.layout.specs.Descriptors.{primary, Names, names}
+use Rattle.order.specs.Order.{order}
 use Rattle.table.specs.Places.{tableLength}
 use Rattle.table.specs.Rules.{Misplaced, Holed, Sound}
-use Rattle.table.specs.Lookup.{placeOf}
+use Rattle.table.specs.Lookup.{placeOf, stopOf, StopsThere}
 use Rattle.first_table.specs.Promises.{FirstTable}
 use Rattle.spares.specs.declared.Replaced.{Replaced}
 use Rattle.spares.specs.declared.Replaced.the-variants.{Place}
 use Rattle.spares.specs.Promises.{Replacement}
 use Rattle.demands.specs.Histories.{History}
-
--- where a search for block b stops: at the first place of its search order that is free or names it
-abbrev pub stopOf : Drive → List ℕ → ℕ → ℕ
-stopOf drive t b = firstStop t b (primary drive b)
-
--- for every allocated place, the search for its block stops right there
-abbrev pub StopsThere : Drive → List ℕ → Type 0
-StopsThere drive t = (p : ℕ) → p < length t → Allocated (getD t p 0) → stopOf drive t (numberOf (getD t p 0)) ≡ p
 
 pub record NoHoles : Type 0 where
   -- In a table that passes, the search for the block of an allocated place stops right there.

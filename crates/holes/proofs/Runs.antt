@@ -1,10 +1,10 @@
 -- What the next free place tells of a run of places, and that the test of the runs before a place passes exactly where no free place comes before it in the search order.
 -- Assumes nothing.
 use Prim.Native.Nat.{ℕ, zero, suc, _+_, _-_, _%_, _<_, _≤_}
-use mathlib.Core.Path.{_≡_, refl, sym, _∙_, ap}
+use mathlib.Core.Path.{_≡_, sym, _∙_}
 use mathlib.Core.Bool.{true, false, _&&_, true≢false}
 use mathlib.Core.Logic.{_⊎_, inl, inr, ⊎-elim}
-use mathlib.Core.List.{List, _∷_, List·Memᴰ}
+use mathlib.Core.List.{List, _∷_}
 use native.Mathlib.Omega.{arith}
 use native.Mathlib.Numerals.{add-one}
 use native.Mathlib.Nat.{add-zero}
@@ -14,8 +14,8 @@ use Rattle.paper.specs.Checks.{pick}
 use Rattle.paper.specs.Limits.{tableBlock}
 use Rattle.paper.proofs.Cases.{byBool, byLt, byEq}
 use Rattle.paper.proofs.Rows.{Tells, tells-both}
-use Rattle.seek.specs.Search.{firstOr, rising, Before}
-use Rattle.seek.proofs.Searches.{firstOr-here, firstOr-next, firstOr-passes, firstOr-member, firstOr-none, firstOr-bound, firstOr-clean, rising-inside, rising-member}
+use Rattle.seek.specs.Search.{rising, Before}
+use Rattle.seek.proofs.Searches.{firstOr-here, firstOr-next, firstOr-passes, firstOr-member, firstOr-none, rising-inside}
 use Rattle.seek.proofs.Befores.{Ahead, ahead-found}
 use Rattle.order.specs.Order.{blockStart, isFree, freeAt, order}
 use Rattle.order.proofs.Once.{order-every, order-once}
@@ -44,12 +44,6 @@ module _ (t : List ℕ) where
   next-step from h =
       byBool (isFree (getD t from 0)) (λ free. rw free (sym (next-here from h free))) (λ taken. rw taken (sym (next-later from h taken)))
 
-  -- it is at most the table's length
-  pub next-bound : (from : ℕ) → nextFree t from ≤ length t
-  next-bound from =
-      firstOr-bound (freeAt t) (length t) (rising from (length t - from))
-      (λ q m. let within = rising-inside from (length t - from) q m in omega arith)
-
   -- no free place from there on comes before it
   next-least : (from more : ℕ) → from + more < length t → isFree (getD t (from + more) 0) ≡ true → nextFree t from ≤ from + more
   next-least from zero h free = omega (arith, next-here from (omega arith) (rw (add-zero from) at free))
@@ -61,7 +55,7 @@ module _ (t : List ℕ) where
       omega (arith, next-later from (omega arith) taken, next-least (from + 1) more (omega arith) (rw same at free)))
 
   -- no place from one up to another is free exactly where the next free place is not before the end
-  pub tells-none : (from to : ℕ) → to ≤ length t → Tells (noneFree t from to) ((q : ℕ) → from ≤ q → q < to → isFree (getD t q 0) ≡ false)
+  tells-none : (from to : ℕ) → to ≤ length t → Tells (noneFree t from to) ((q : ℕ) → from ≤ q → q < to → isFree (getD t q 0) ≡ false)
   tells-none from to h = record { holds = shows; told = told }
     where
       shows : noneFree t from to ≡ true → (q : ℕ) → from ≤ q → q < to → isFree (getD t q 0) ≡ false

@@ -2,9 +2,8 @@
 -- Assumes nothing.
 use Prim.Native.Nat.{ℕ, zero, suc, _+_, _-_, _%_, _<_, _≤_}
 use mathlib.Core.Path.{_≡_, refl, sym, _∙_}
-use mathlib.Core.List.{[], _∷_, _++_, map, List·Memᴰ}
+use mathlib.Core.List.{_++_, map, List·Memᴰ}
 use native.Mathlib.Omega.{arith}
-use native.Mathlib.Numerals.{add-one}
 use native.Mathlib.Nat.{add-zero, zero-add}
 use lib.IntN.{ℤ, pos, negsuc, _+ℤ_}
 use borrow.Author.Tests.{lt-ltb, le-ltb}
@@ -12,7 +11,6 @@ use Rattle.paper.specs.Limits.{tableBlock}
 use Rattle.paper.proofs.Cases.{byLt, byEq}
 use Rattle.seek.specs.Count.{times}
 use Rattle.seek.specs.Search.{rising}
-use Rattle.seek.proofs.Searches.{rising-append}
 use Rattle.seek.proofs.Times.{times-none, times-append, member-counts, counts-member}
 use Rattle.order.specs.Order.{inBlock, around, outward, blockOrder, blockStart, order}
 use Rattle.order.proofs.Signs.{minus-within, minus-below}

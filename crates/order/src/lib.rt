@@ -21,7 +21,7 @@ fn turns_agree()
     ensures { λ result. do ⌜ (← ⟦TURNS⟧ .entry) ≡ turns ⌝ }
 {}
 
-// Whether a descriptor is free. Only other crates call this.
+// Whether a descriptor is free. Only this crate and other crates of the library call this.
 pub fn is_free(word: u32) -> bool
     ensures { λ result. ⌜ result ≡ isFree word ⌝ }
 {

@@ -1,7 +1,7 @@
 -- What a replacement does: a spare is found exactly where there is one, the first free place in the search order, and the descriptor stored there keeps the table's rules, puts the block on the spare and leaves every other block where it lies.
 -- Assumes nothing.
 use Prim.Native.Nat.{ℕ, _<_, _≤_}
-use mathlib.Core.Path.{_≡_, refl, sym, _∙_, ap}
+use mathlib.Core.Path.{_≡_, refl, sym}
 use mathlib.Core.Bool.{true, false, and-false}
 use mathlib.Core.List.{List}
 use native.Mathlib.Omega.{arith}
@@ -20,7 +20,7 @@ use Rattle.layout.specs.Descriptors.{free, elsewhere, codeUnit, codeOf, numberO
 use Rattle.layout.proofs.Words.{tells-names}
 use Rattle.order.specs.Order.{isFree, freeAt, stops, stopsAt, order, firstFree, firstStop}
 use Rattle.order.proofs.Splits.{before-inside}
-use Rattle.order.proofs.Found.{first-passes, first-bound, first-before, none-passes}
+use Rattle.order.proofs.Found.{first-passes, first-before, none-passes}
 use Rattle.table.specs.Steps.{Obeys}
 use Rattle.table.specs.Places.{codeAt}
 use Rattle.table.specs.Lookup.{placeOf, Replaced, liesOn}
@@ -45,9 +45,6 @@ seeks-free t p = firstOr-alike (stopsAt t codeUnit) (freeAt t) (length t) (order
 module _ {drive : Drive} (laid : Laid drive) {t : List ℕ} (o : Obeys drive t) {b : ℕ} (below : b < drive .blocks) where
   inside : primary drive b < length t
   inside = primary-in o laid below
-
-  pub spare-bound : spareFor drive t b ≤ length t
-  spare-bound = first-bound isFree t (primary drive b) (table-whole o) inside
 
   -- the spare that is found is free
   pub spare-free : spareFor drive t b < length t → codeOf (getD t (spareFor drive t b) 0) ≡ free

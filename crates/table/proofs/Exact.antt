@@ -39,7 +39,7 @@ module _ (shape : Shape) (r : ℕ) (scratch : List ℕ) where
   pub scratch-enough : scratchFault shape r scratch ≡ 0 → Enough shape r scratch
   scratch-enough none = not-over (length scratch) (driveOf shape r .spares) noRoom (omega arith) (orElse-next (driveFault shape r) _ none)
 
-  pub scratch-laid : scratchFault shape r scratch ≡ 0 → Laid (driveOf shape r)
+  scratch-laid : scratchFault shape r scratch ≡ 0 → Laid (driveOf shape r)
   scratch-laid none = let drive = drive-shows shape r (orElse-first (driveFault shape r) _ none) in laid (drive .0) (drive .1)
 
   -- past 1 and this 7, what stands beyond the numbers for the spares after a walk stands when these are cleared

@@ -194,9 +194,6 @@ module _ {drive : Drive} (laid : Laid drive) (t : List ℕ) where
           (λ e. way-told (obeys-stands o) laid p h (λ q. o .no-holes p q (numberOf (getD t p 0)) h (tells-names (getD t p 0) (numberOf (getD t p 0)) .told (tells-allocated (getD t p 0) .holds e, refl))))
           (λ e. rw e)
 
-  pub tells-obeys : Tells (obeys drive t) (Obeys drive t)
-  tells-obeys = record { holds = obeys-shows; told = obeys-told }
-
   -- a table that the test does not pass breaks a rule
   wrong-breaks : obeys drive t ≡ false → Breaks drive t
   wrong-breaks e =

@@ -1,24 +1,23 @@
 -- Where the search for a block stops: in a table that obeys the rules at the block's place, where it has one; and a table of the right length whose words may stand obeys them exactly where for each place that names a block the search for the block stops right there.
 -- Assumes nothing.
-use Prim.Native.Nat.{ℕ, _<_, _≤_}
+use Prim.Native.Nat.{ℕ, _<_}
 use mathlib.Core.Path.{_≡_, refl, sym, _∙_}
-use mathlib.Core.Bool.{true, false, _||_, true≢false}
+use mathlib.Core.Bool.{true, false, true≢false}
 use mathlib.Core.Logic.{⊎-elim}
 use mathlib.Core.List.{List}
 use native.Mathlib.Omega.{arith}
 use lib.ListN.{length, getD}
 use Rattle.paper.proofs.Cases.{byBool, byLt, byEq}
-use Rattle.seek.specs.Search.{Before}
 use Rattle.seek.proofs.Befores.{before-either}
 use Rattle.layout.specs.declared.Drive.{Drive}
 use Rattle.layout.specs.Steps.{Laid}
-use Rattle.layout.specs.Descriptors.{numberOf, primary, Allocated, names}
+use Rattle.layout.specs.Descriptors.{numberOf, primary, names}
 use Rattle.layout.proofs.Words.{tells-names}
-use Rattle.order.specs.Order.{isFree, stops, firstStop, order}
+use Rattle.order.specs.Order.{isFree, stops, order}
 use Rattle.order.proofs.Once.{order-every}
 use Rattle.order.proofs.Found.{first-passes, first-before, none-passes}
 use Rattle.table.specs.Steps.{Obeys}
-use Rattle.table.specs.Lookup.{placeOf}
+use Rattle.table.specs.Lookup.{placeOf, stopOf, StopsThere}
 use Rattle.table.proofs.Standings.{allocated-stands}
 use Rattle.table.proofs.Obeying.{Stands, whole-blocks, primary-place, table-whole, primary-in, named-stands}
 use Rattle.table.proofs.Lookups.{place-once, place-none}
@@ -37,13 +36,13 @@ stopped-names w b stopped taken = rw taken at stopped
 
 module _ {drive : Drive} (laid : Laid drive) {t : List ℕ} (o : Obeys drive t) {b : ℕ} (below : b < drive .blocks) where
   abbrev stop : ℕ
-  stop = firstStop t b (primary drive b)
+  stop = stopOf drive t b
 
   inside : primary drive b < length t
   inside = primary-in o laid below
 
   -- the search stops at the place that names the block
-  pub stops-there : (p : ℕ) → p < length t → names (getD t p 0) b ≡ true → stop ≡ p
+  stops-there : (p : ℕ) → p < length t → names (getD t p 0) b ≡ true → stop ≡ p
   stops-there p h named =
       byLt stop (length t)
       (λ found.
@@ -74,11 +73,6 @@ module _ {drive : Drive} (laid : Laid drive) {t : List ℕ} (o : Obeys drive t) 
       absurd (true≢false (sym named ∙ rw same at (unnamed (omega arith)))))
       (λ none. none))
 
--- for each place that names a block, the search for the block stops right there
-abbrev pub StopsThere : Drive → List ℕ → Type 0
-StopsThere drive t =
-    (p : ℕ) → p < length t → Allocated (getD t p 0) → firstStop t (numberOf (getD t p 0)) (primary drive (numberOf (getD t p 0))) ≡ p
-
 pub obeys-stops : {drive : Drive} → Laid drive → {t : List ℕ} → Obeys drive t → StopsThere drive t
 obeys-stops laid {t} o p h allocated =
     let named = tells-names (getD t p 0) (numberOf (getD t p 0)) .told (allocated, refl) in
@@ -97,7 +91,7 @@ stops-obeys {drive} laid {t} s there =
           (first-before (stops b) t (primary drive b) (whole-blocks s) (primary-place s laid (rw (tells-names (getD t p 0) b .holds named .1) at below)) (omega arith) q (rw same before));
     }
   where
-    stopped : (p b : ℕ) → p < length t → names (getD t p 0) b ≡ true → firstStop t b (primary drive b) ≡ p
+    stopped : (p b : ℕ) → p < length t → names (getD t p 0) b ≡ true → stopOf drive t b ≡ p
     stopped p b h named =
         let block = tells-names (getD t p 0) b .holds named in
         rw (block .1) at (there p h (block .0))

@@ -1,4 +1,4 @@
--- Document 01, "Descriptors and spares": the place that names a block, where a block lies, and what lies on a sector.
+-- Document 01, "Descriptors and spares", and document 02, Q-7: the place that names a block, where the search for a block stops, where a block lies, and what lies on a sector.
 use Prim.Native.Nat.{ℕ, _<_}
 use mathlib.Core.Path.{_≡_}
 use mathlib.Core.Bool.{Bool}
@@ -12,11 +12,20 @@ use Rattle.seek.specs.Lowest.{firstBelow}
 use Rattle.layout.specs.declared.Drive.{Drive}
 use Rattle.layout.specs.Layouts.{homeSector, spareSector}
 use Rattle.layout.specs.Sides.{isHome, blockOfHome, placeOfSpare}
-use Rattle.layout.specs.Descriptors.{numberOf, Allocated, isAllocated, Names, names}
+use Rattle.layout.specs.Descriptors.{numberOf, primary, Allocated, isAllocated, Names, names}
+use Rattle.order.specs.Order.{firstStop}
 
 -- the place that names the block, or the table's length where none does
 unfoldable pub placeOf : List ℕ → ℕ → ℕ
 placeOf t b = firstBelow (λ q. names (getD t q 0) b) (length t)
+
+-- where a search for block b stops: at the first place of its search order that is free or names it
+abbrev pub stopOf : Drive → List ℕ → ℕ → ℕ
+stopOf drive t b = firstStop t b (primary drive b)
+
+-- for every allocated place, the search for its block stops right there
+abbrev pub StopsThere : Drive → List ℕ → Type 0
+StopsThere drive t = (p : ℕ) → p < length t → Allocated (getD t p 0) → stopOf drive t (numberOf (getD t p 0)) ≡ p
 
 -- a block is replaced: a place of the table names it
 pub record Replaced (t : List ℕ) (b : ℕ) : Type 0 where

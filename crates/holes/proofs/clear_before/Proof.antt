@@ -1,7 +1,7 @@
 -- `holes::clear_before` meets its contract: each return is the run that the definition has for where the place lies, and at the primary there is none.
 -- Assumes nothing.
 use borrow.Author.Needs.{needs}
-use Prim.Native.Nat.{ℕ, _+_, _<_, _≤_}
+use Prim.Native.Nat.{ℕ, _+_, _<_}
 use mathlib.Core.Path.{_≡_, sym, _∙_, ap}
 use mathlib.Core.Bool.{true, false}
 use native.Mathlib.Omega.{arith}
@@ -10,7 +10,7 @@ use lib.Dec.{leb}
 use lib.ListN.{length}
 use borrow.Author.Tests.{lt-ltb, le-ltb, le-leb, lt-leb, not-true, not-false}
 use Rattle.order.specs.Order.{blockStart}
-use Rattle.holes.specs.Steps.{nextFree, noneFree, rightStart}
+use Rattle.holes.specs.Steps.{noneFree}
 use Rattle.holes.proofs.Runs.{none-at-primary, right-start-low, left-end-low}
 use Rattle.holes.proofs.clear_before.Statement.{statement}
 use Rattle.holes.proofs.clear_before.Tie as tie

@@ -8,7 +8,6 @@ use native.Mathlib.Omega.{arith}
 use denote.Ref.{now}
 use lib.ListN.{getD}
 use borrow.Author.Tests.{not-true, not-false}
-use Rattle.layout.specs.declared.Drive.{Drive}
 use Rattle.layout.specs.Descriptors.{isAllocated}
 use Rattle.layout.proofs.Sectors.{primary-below}
 use Rattle.holes.proofs.clear_way.Statement.{statement}

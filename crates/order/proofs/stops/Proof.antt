@@ -1,7 +1,6 @@
 -- `order::stops` meets its contract: a descriptor that is not free stops the search where it names the block.
 -- Assumes nothing.
 use borrow.Author.Needs.{needs}
-use mathlib.Core.Path.{sym, _∙_}
 use Rattle.order.proofs.stops.Statement.{statement}
 use Rattle.order.proofs.stops.Tie as tie
 

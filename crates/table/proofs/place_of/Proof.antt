@@ -1,13 +1,10 @@
 -- `table::place_of` meets its contract: in a table that obeys the rules the search for a block stops at the place that names it, where there is one, and otherwise at a free place or nowhere.
 -- Assumes nothing.
 use borrow.Author.Needs.{needs}
-use Prim.Native.Nat.{_<_}
 use mathlib.Core.Path.{_≡_, sym, _∙_}
 use native.Mathlib.Omega.{arith}
 use denote.Ref.{now}
-use lib.ListN.{length}
-use Rattle.layout.specs.Descriptors.{primary}
-use Rattle.order.specs.Order.{firstStop}
+use Rattle.table.specs.Lookup.{stopOf}
 use Rattle.table.proofs.Obeying.{table-whole, primary-in}
 use Rattle.table.proofs.Stops.{stop-is, stop-none}
 use Rattle.table.proofs.place_of.Statement.{statement}
@@ -24,7 +21,7 @@ search-requires c κs = (table-whole (c .before .before .pre .1 .0), rw (c .prim
 
 returns : tie.Need-returns
 returns c =
-    let stop : c .before .search .result ≡ firstStop (now (c .before .before .before .before .args .table)) (c .before .before .before .before .args .block) (primary (c .before .before .before .before .args .drive) (c .before .before .before .before .args .block)) = rw (c .before .before .primary .ensures) at (c .before .search .ensures) in
+    let stop : c .before .search .result ≡ stopOf (c .before .before .before .before .args .drive) (now (c .before .before .before .before .args .table)) (c .before .before .before .before .args .block) = rw (c .before .before .primary .ensures) at (c .before .search .ensures) in
     sym (stop-none (c .before .before .before .before .pre .0) (c .before .before .before .before .pre .1 .0) (c .before .before .before .before .pre .1 .1) (λ found. absurd (omega arith)))
 
 mul-names : tie.Need-mul-names
@@ -38,12 +35,12 @@ names-requires c κs = search needs
 
 returns-2 : tie.Need-returns-2
 returns-2 c =
-    let stop : c .before .before .before .before .search .result ≡ firstStop (now (c .before .before .before .before .before .before .before .args .table)) (c .before .before .before .before .before .before .before .args .block) (primary (c .before .before .before .before .before .before .before .args .drive) (c .before .before .before .before .before .before .before .args .block)) = rw (c .before .before .before .before .before .primary .ensures) at (c .before .before .before .before .search .ensures) in
+    let stop : c .before .before .before .before .search .result ≡ stopOf (c .before .before .before .before .before .before .before .args .drive) (now (c .before .before .before .before .before .before .before .args .table)) (c .before .before .before .before .before .before .before .args .block) = rw (c .before .before .before .before .before .primary .ensures) at (c .before .before .before .before .search .ensures) in
     stop ∙ sym (stop-is (c .before .before .before .before .before .before .before .pre .0) (c .before .before .before .before .before .before .before .pre .1 .0) (c .before .before .before .before .before .before .before .pre .1 .1) (omega arith) (rw (← stop) (sym (c .before .names .ensures) ∙ c .if2 .taken)))
 
 returns-3 : tie.Need-returns-3
 returns-3 c =
-    let stop : c .before .before .before .before .search .result ≡ firstStop (now (c .before .before .before .before .before .before .before .args .table)) (c .before .before .before .before .before .before .before .args .block) (primary (c .before .before .before .before .before .before .before .args .drive) (c .before .before .before .before .before .before .before .args .block)) = rw (c .before .before .before .before .before .primary .ensures) at (c .before .before .before .before .search .ensures) in
+    let stop : c .before .before .before .before .search .result ≡ stopOf (c .before .before .before .before .before .before .before .args .drive) (now (c .before .before .before .before .before .before .before .args .table)) (c .before .before .before .before .before .before .before .args .block) = rw (c .before .before .before .before .before .primary .ensures) at (c .before .before .before .before .search .ensures) in
     sym (stop-none (c .before .before .before .before .before .before .before .pre .0) (c .before .before .before .before .before .before .before .pre .1 .0) (c .before .before .before .before .before .before .before .pre .1 .1) (λ found. rw (← stop) (sym (c .before .names .ensures) ∙ c .if2 .left)))
 
 pub place-of-spec : {M : Type 1} → statement M
