@@ -55,7 +55,7 @@ enum tb_refusal {
     TB_BAD_PAGE = 8,          /* the bytes are no list page, or there is no such kind of page */
     TB_STRAY_CURSOR = 9,      /* the cursor does not belong to this N and list */
     TB_BAD_OPTION = 10,       /* there is no such option or space, or the option takes no list and one came */
-    TB_BAD_TABLE = 11,        /* the table is not one of this drive, a descriptor breaks a rule, or a free place comes before a block in its search order */
+    TB_BAD_TABLE = 11,        /* the table is not one of this drive, a descriptor breaks a rule, or a free place comes before a block */
     /* 12 is no longer given, and it never names another refusal. */
     TB_NO_SPARE = 13,         /* no spare is left, or too few for all bad home sectors */
     TB_WRONG_LENGTH = 14,     /* the data or an image is not as long as it must be */

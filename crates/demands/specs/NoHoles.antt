@@ -35,7 +35,7 @@ pub record NoHoles : Type 0 where
   pub first-table :
       (shape : Shape) (r : ℕ) (list room : List ℕ) (long : ℕ) (after : List ℕ) → FirstTable shape r list room (Length long) after →
       Holed (driveOf shape r) (take long after) → ⊥
-  -- A replacement, of a block at home or on a spare, leaves none in a table that had none, accepted or refused.
+  -- A replacement, of a block at home or on a spare, leaves none in a table that passes, accepted or refused.
   pub replacement :
       (shape : Shape) (r : ℕ) (t scratch : List ℕ) (b : ℕ) (result : Replaced) (after : List ℕ) → Sound shape r t → Replacement shape r t scratch b result after →
       Holed (driveOf shape r) after → ⊥

@@ -40,11 +40,11 @@ pub table-few : {drive : Drive} → Laid drive → tableLength drive ≤ sparesM
 table-few laid = omega arith
 
 -- a table of the right length whose words may stand where they do
-pub record Stands (drive : Drive) (t : List ℕ) : Type 0 where
+pub record WellPlaced (drive : Drive) (t : List ℕ) : Type 0 where
   pub long : length t ≡ tableLength drive
   pub stands : (q : ℕ) → q < length t → mayStand drive q (getD t q 0) ≡ true
 
-module _ {drive : Drive} {t : List ℕ} (s : Stands drive t) where
+module _ {drive : Drive} {t : List ℕ} (s : WellPlaced drive t) where
   -- is whole table blocks
   pub whole-blocks : length t % tableBlock ≡ 0
   whole-blocks = rw (s .long) (omega arith)
@@ -104,19 +104,19 @@ module _ {drive : Drive} {t : List ℕ} (s : Stands drive t) where
           (λ none. absurd (true≢false (rw none at e)))
 
 module _ {drive : Drive} {t : List ℕ} (o : Obeys drive t) where
-  obeys-stands : Stands drive t
-  obeys-stands = record { long = o .long; stands = o .stands }
+  obeys-placed : WellPlaced drive t
+  obeys-placed = record { long = o .long; stands = o .stands }
 
   pub spare-in : {q : ℕ} → q < drive .spares → q < length t
   spare-in h = omega (arith, o .long, spares-in-table drive)
 
   -- a table is whole table blocks
   pub table-whole : length t % tableBlock ≡ 0
-  table-whole = whole-blocks obeys-stands
+  table-whole = whole-blocks obeys-placed
 
   -- the primary of a block is a place of the table
   pub primary-in : Laid drive → {b : ℕ} → b < drive .blocks → primary drive b < length t
-  primary-in laid below = primary-place obeys-stands laid below
+  primary-in laid below = primary-place obeys-placed laid below
 
   -- a descriptor is free as a whole word exactly where its code is
   pub tells-free : {q : ℕ} → q < length t → Tells (isFree (getD t q 0)) (codeOf (getD t q 0) ≡ free)
@@ -169,7 +169,7 @@ module _ {drive : Drive} (laid : Laid drive) (t : List ℕ) where
   pub obeys-shows : obeys drive t ≡ true → Obeys drive t
   obeys-shows e =
       let rest = and-right (eqb (length t) (tableLength drive)) (allStand && (allOnce && allClear)) e in
-      let stand : Stands drive t =
+      let stand : WellPlaced drive t =
       record {
         long = tells-eq (length t) (tableLength drive) .holds (and-left (eqb (length t) (tableLength drive)) (allStand && (allOnce && allClear)) e);
         stands = every-here (λ q. mayStand drive q (getD t q 0)) (length t) (and-left allStand (allOnce && allClear) rest);
@@ -191,7 +191,7 @@ module _ {drive : Drive} (laid : Laid drive) (t : List ℕ) where
       clear : (p : ℕ) → p < length t → clearWay drive t p ≡ true
       clear p h =
           byBool (isAllocated (getD t p 0))
-          (λ e. way-told (obeys-stands o) laid p h (λ q. o .no-holes p q (numberOf (getD t p 0)) h (tells-names (getD t p 0) (numberOf (getD t p 0)) .told (tells-allocated (getD t p 0) .holds e, refl))))
+          (λ e. way-told (obeys-placed o) laid p h (λ q. o .no-holes p q (numberOf (getD t p 0)) h (tells-names (getD t p 0) (numberOf (getD t p 0)) .told (tells-allocated (getD t p 0) .holds e, refl))))
           (λ e. rw e)
 
   -- a table that the test does not pass breaks a rule

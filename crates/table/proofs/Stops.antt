@@ -19,7 +19,7 @@ use Rattle.order.proofs.Found.{first-passes, first-before, none-passes}
 use Rattle.table.specs.Steps.{Obeys}
 use Rattle.table.specs.Lookup.{placeOf, stopOf, StopsThere}
 use Rattle.table.proofs.Standings.{allocated-stands}
-use Rattle.table.proofs.Obeying.{Stands, whole-blocks, primary-place, table-whole, primary-in, named-stands}
+use Rattle.table.proofs.Obeying.{WellPlaced, whole-blocks, primary-place, table-whole, primary-in, named-stands}
 use Rattle.table.proofs.Lookups.{place-once, place-none}
 
 -- a descriptor that names the block stops the search for it
@@ -73,12 +73,14 @@ module _ {drive : Drive} (laid : Laid drive) {t : List ℕ} (o : Obeys drive t) 
       absurd (true≢false (sym named ∙ rw same at (unnamed (omega arith)))))
       (λ none. none))
 
+-- in a table that obeys the rules every such search stops right there
 pub obeys-stops : {drive : Drive} → Laid drive → {t : List ℕ} → Obeys drive t → StopsThere drive t
 obeys-stops laid {t} o p h allocated =
     let named = tells-names (getD t p 0) (numberOf (getD t p 0)) .told (allocated, refl) in
     stops-there laid o (named-stands o h named .1) p h named
 
-pub stops-obeys : {drive : Drive} → Laid drive → {t : List ℕ} → Stands drive t → StopsThere drive t → Obeys drive t
+-- and where every one does, no block is named twice and there is no hole
+pub stops-obeys : {drive : Drive} → Laid drive → {t : List ℕ} → WellPlaced drive t → StopsThere drive t → Obeys drive t
 stops-obeys {drive} laid {t} s there =
     record {
       long = s .long;

@@ -12,7 +12,7 @@ use Rattle.seek.specs.Every.{allBelow}
 use Rattle.seek.proofs.Everys.{every-here}
 use Rattle.table.specs.Places.{tableLength}
 use Rattle.table.specs.Steps.{mayStand, namedFirst}
-use Rattle.table.proofs.Obeying.{Stands, stands-numbered}
+use Rattle.table.proofs.Obeying.{WellPlaced, stands-numbered}
 use Rattle.table.proofs.obeys_rules.Statement.{statement}
 use Rattle.table.proofs.obeys_rules.Tie as tie
 
@@ -49,7 +49,7 @@ no-holes-requires : tie.Need-no-holes-requires
 no-holes-requires c κs =
     let t = now (c .before .before .before .before .before .before .before .before .before .before .before .before .args .table) in
     let stands : allBelow (λ q. mayStand (c .before .before .before .before .before .before .before .before .before .before .before .before .args .drive) q (getD t q 0)) (length t) ≡ true = sym (c .before .before .before .before .before .before .before .all-stand .ensures) ∙ not-false _ (c .before .before .before .before .before .before .if2 .left) in
-    let stand : Stands (c .before .before .before .before .before .before .before .before .before .before .before .before .args .drive) t = record { long = c .before .before .before .before .before .before .before .before .if1 .left ∙ c .before .before .before .before .before .before .before .before .before .table-length .ensures; stands = every-here (λ q. mayStand (c .before .before .before .before .before .before .before .before .before .before .before .before .args .drive) q (getD t q 0)) (length t) stands } in
+    let stand : WellPlaced (c .before .before .before .before .before .before .before .before .before .before .before .before .args .drive) t = record { long = c .before .before .before .before .before .before .before .before .if1 .left ∙ c .before .before .before .before .before .before .before .before .before .table-length .ensures; stands = every-here (λ q. mayStand (c .before .before .before .before .before .before .before .before .before .before .before .before .args .drive) q (getD t q 0)) (length t) stands } in
     (c .before .before .before .before .before .before .before .before .before .before .before .before .pre .0, (stands-numbered stand (c .before .before .before .before .before .before .before .before .before .before .before .before .pre .0), omega arith))
 
 same-length-2 : tie.Need-same-length-2
