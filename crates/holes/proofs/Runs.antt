@@ -4,9 +4,8 @@ use Prim.Native.Nat.{ℕ, zero, suc, _+_, _-_, _%_, _<_, _≤_}
 use mathlib.Core.Path.{_≡_, sym, _∙_}
 use mathlib.Core.Bool.{true, false, _&&_, true≢false}
 use mathlib.Core.Logic.{_⊎_, inl, inr, ⊎-elim}
-use mathlib.Core.List.{List, _∷_}
+use mathlib.Core.List.{List}
 use native.Mathlib.Omega.{arith}
-use native.Mathlib.Numerals.{add-one}
 use native.Mathlib.Nat.{add-zero}
 use lib.ListN.{length, getD}
 use borrow.Author.Tests.{lt-ltb, le-ltb, le-leb, lt-leb, leb-true}
@@ -15,7 +14,7 @@ use Rattle.paper.specs.Limits.{tableBlock}
 use Rattle.paper.proofs.Cases.{byBool, byLt, byEq}
 use Rattle.paper.proofs.Rows.{Tells, tells-both}
 use Rattle.seek.specs.Search.{rising, Before}
-use Rattle.seek.proofs.Searches.{firstOr-here, firstOr-next, firstOr-passes, firstOr-member, firstOr-none, rising-inside}
+use Rattle.seek.proofs.Searches.{run-here, run-next, firstOr-passes, firstOr-member, firstOr-none, rising-inside}
 use Rattle.seek.proofs.Befores.{Ahead, ahead-found}
 use Rattle.order.specs.Order.{blockStart, isFree, freeAt, order}
 use Rattle.order.proofs.Once.{order-every, order-once}
@@ -29,16 +28,12 @@ module _ (t : List ℕ) where
       firstOr-none (freeAt t) (length t) (rising from (length t - from))
       (λ q m. let within = rising-inside from (length t - from) q m in none q (within .0) (omega arith))
 
-  left : (from : ℕ) → from < length t → rising from (length t - from) ≡ from ∷ rising (from + 1) (length t - (from + 1))
-  unfolding rising
-  left from h = let one-more : length t - from ≡ suc (length t - (from + 1)) = omega arith in rw (one-more, add-one from)
-
   -- a free place is the next one itself, and one that is not leaves it to the place after it
   next-here : (from : ℕ) → from < length t → isFree (getD t from 0) ≡ true → nextFree t from ≡ from
-  next-here from h free = rw (left from h) (firstOr-here (freeAt t) (length t) from (rising (from + 1) (length t - (from + 1))) free)
+  next-here from = run-here (freeAt t) (length t) from (length t)
 
   next-later : (from : ℕ) → from < length t → isFree (getD t from 0) ≡ false → nextFree t from ≡ nextFree t (from + 1)
-  next-later from h taken = rw (left from h) (firstOr-next (freeAt t) (length t) from (rising (from + 1) (length t - (from + 1))) taken)
+  next-later from = run-next (freeAt t) (length t) from (length t)
 
   pub next-step : (from : ℕ) → from < length t → pick (isFree (getD t from 0)) from (nextFree t (from + 1)) ≡ nextFree t from
   next-step from h =
@@ -87,18 +82,22 @@ module _ (t : List ℕ) where
     abbrev start : ℕ
     start = blockStart P
 
+    -- no place that comes before p is free
+    abbrev NoneBefore : Type 0
+    NoneBefore = (q : ℕ) → Before (order (length t) P) q p → isFree (getD t q 0) ≡ false
+
     -- where what comes before is the places from one up to another, the next free place tells it
     one-run :
         (from to : ℕ) → to ≤ length t → {Ahead : ℕ → Type 0} → Comes (length t) P p Ahead →
         ((q : ℕ) → Ahead q → (from ≤ q) × (q < to)) → ((q : ℕ) → from ≤ q → q < to → Ahead q) →
-        Tells (noneFree t from to) ((q : ℕ) → Before (order (length t) P) q p → isFree (getD t q 0) ≡ false)
+        Tells (noneFree t from to) NoneBefore
     one-run from to h comes there back =
         record {
           holds = λ e q b. let run = there q (before-shows (length t) P whole in-order comes in-table q b) in tells-none from to h .holds e q (run .0) (run .1);
           told = λ none. tells-none from to h .told (λ q low high. none q (before-told (length t) P whole in-order comes in-table q (back q low high)));
         }
 
-    right-run : P ≤ p → p < start + tableBlock → Tells (noneFree t (rightStart P p) p) ((q : ℕ) → Before (order (length t) P) q p → isFree (getD t q 0) ≡ false)
+    right-run : P ≤ p → p < start + tableBlock → Tells (noneFree t (rightStart P p) p) NoneBefore
     right-run from high =
         let comes = comes-right (length t) P whole in-order p from high in
         byLt (P - start) (p - P)
@@ -107,7 +106,7 @@ module _ (t : List ℕ) where
         rw (le-ltb (P - start) (p - P) near)
         (one-run (P + 1 - (p - P)) p (omega arith) comes (λ q ahead. (omega (arith, ahead), ahead .2)) (λ q low below. (omega arith, omega arith, below))))
 
-    left-run : start ≤ p → p < P → Tells (noneFree t (p + 1) (leftEnd P p)) ((q : ℕ) → Before (order (length t) P) q p → isFree (getD t q 0) ≡ false)
+    left-run : start ≤ p → p < P → Tells (noneFree t (p + 1) (leftEnd P p)) NoneBefore
     left-run low before =
         let comes = comes-left (length t) P whole in-order p low before in
         byLt (P + (P - p)) (start + tableBlock)
@@ -119,7 +118,7 @@ module _ (t : List ℕ) where
         (one-run (p + 1) (start + tableBlock) (omega arith) comes (λ q ahead. (omega (arith, ahead), ahead .2)) (λ q from below. (omega arith, omega arith, below))))
 
     -- a place of an earlier table block has two runs before it
-    two-runs : p < start → Tells (noneFree t start (length t) && noneFree t 0 p) ((q : ℕ) → Before (order (length t) P) q p → isFree (getD t q 0) ≡ false)
+    two-runs : p < start → Tells (noneFree t start (length t) && noneFree t 0 p) NoneBefore
     two-runs earlier =
         let comes = comes-earlier (length t) P whole in-order p earlier in
         let both = tells-both (tells-none start (length t) (omega arith)) (tells-none 0 p (omega arith)) in

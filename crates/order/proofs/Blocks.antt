@@ -1,17 +1,16 @@
 -- What the search of a held table block says of the table, for any test and any order of the block's places: the place that it finds, moved to where the block starts, is the first of these places that passes in the table, and where it finds none there is none. Blocks that rise are searched one after another.
 -- Assumes nothing.
-use Prim.Native.Nat.{ℕ, suc, _+_, _-_, _<_, _≤_}
+use Prim.Native.Nat.{ℕ, _+_, _-_, _<_, _≤_}
 use mathlib.Core.Path.{_≡_, sym, _∙_, ap}
-use mathlib.Core.Bool.{Bool, true, false}
-use mathlib.Core.List.{List, _∷_, _++_, map, List·Memᴰ}
+use mathlib.Core.Bool.{Bool}
+use mathlib.Core.List.{List, _++_, map, List·Memᴰ}
 use native.Mathlib.Omega.{arith}
-use native.Mathlib.Numerals.{add-one}
 use native.Mathlib.Nat.{add-zero}
 use lib.ListN.{length, getD, take, drop}
 use lib.Seq.{getD-take, getD-drop}
 use Rattle.paper.specs.Limits.{tableBlock}
 use Rattle.seek.specs.Search.{firstOr, rising}
-use Rattle.seek.proofs.Searches.{firstOr-here, firstOr-next, firstOr-alike, firstOr-default, firstOr-map, firstOr-map-none, firstOr-past, firstOr-early, firstOr-late, rising-map, rising-append, rising-inside}
+use Rattle.seek.proofs.Searches.{firstOr-alike, firstOr-default, firstOr-map, firstOr-map-none, firstOr-past, firstOr-early, firstOr-late, rising-map, rising-append, rising-inside}
 
 -- the descriptor at a place of a table, or of a block of it, passes a test
 abbrev pub passesAt : (ℕ → Bool) → List ℕ → ℕ → Bool
@@ -86,26 +85,3 @@ module _ (passes : ℕ → Bool) (t : List ℕ) where
         let nowhere : firstIn (rising start tableBlock) ≡ length t = ap firstIn (sym (block-run start)) ∙ block-none passes t start (rising 0 tableBlock) within held holds place found (length t) none in
         ap firstIn split
         ∙ firstOr-late (passesAt passes t) (length t) (rising start tableBlock) (λ x m. omega (arith, rising-inside start tableBlock x m .1)) (rising (start + tableBlock) (to - (start + tableBlock))) (omega arith)
-
-  -- a run that is over has nothing to search
-  pub run-over : (start to : ℕ) → to ≤ start → firstIn (rising start (to - start)) ≡ length t
-  unfolding firstOr rising
-  run-over start to over = let none : to - start ≡ 0 = omega arith in rw none
-
--- a block searched rising, place by place
-module _ (passes : ℕ → Bool) (default place : ℕ) where
-  left : place < tableBlock → rising place (tableBlock - place) ≡ place ∷ rising (place + 1) (tableBlock - (place + 1))
-  unfolding rising
-  left here = let one-more : tableBlock - place ≡ suc (tableBlock - (place + 1)) = omega arith in rw (one-more, add-one place)
-
-  pub place-stops : place < tableBlock → passes place ≡ true → firstOr default passes (rising place (tableBlock - place)) ≡ place
-  place-stops here stops = rw (left here) (firstOr-here passes default place (rising (place + 1) (tableBlock - (place + 1))) stops)
-
-  pub place-passed :
-      place < tableBlock → passes place ≡ false →
-      firstOr default passes (rising place (tableBlock - place)) ≡ firstOr default passes (rising (place + 1) (tableBlock - (place + 1)))
-  place-passed here fails = rw (left here) (firstOr-next passes default place (rising (place + 1) (tableBlock - (place + 1))) fails)
-
-  pub places-over : tableBlock ≤ place → firstOr default passes (rising place (tableBlock - place)) ≡ default
-  unfolding firstOr rising
-  places-over over = let none : tableBlock - place ≡ 0 = omega arith in rw none

@@ -1,11 +1,12 @@
 -- The laws of a search through a list in the list's own order: what it finds passes and is the first that does, parts are searched one after another, and the default stands where none passes; and the laws of rising runs.
 -- Assumes nothing.
-use Prim.Native.Nat.{ℕ, zero, suc, _+_, _<_, _≤_}
+use Prim.Native.Nat.{ℕ, zero, suc, _+_, _-_, _<_, _≤_}
 use mathlib.Core.Path.{_≡_, refl, sym, _∙_, ap, subst}
 use mathlib.Core.Bool.{Bool, true, false}
 use mathlib.Core.Logic.{⊎-elim}
 use mathlib.Core.List.{List, [], _∷_, _++_, map, List·Memᴰ, List·Memᴰ·head, List·Memᴰ·tail, List·Memᴰ·not-nil, List·Memᴰ·cases-cons, Memᴰ·append-right}
 use native.Mathlib.Omega.{arith}
+use native.Mathlib.Numerals.{add-one}
 use native.Mathlib.Nat.{add-zero, zero-add, add-suc, suc-add}
 use lib.ListN.{length}
 use Rattle.paper.proofs.Cases.{byBool, byEq}
@@ -196,3 +197,20 @@ unfolding rising
 rising-map base first zero = refl
 rising-map base first (suc count) =
     ap (λ (l : List ℕ). (base + first) ∷ l) (rising-map base (suc first) count ∙ ap (λ (k : ℕ). rising k count) (add-suc base first))
+
+-- a run up to a bound, searched number by number: its first is what is found, or leaves the search to those after it, and a run that is over has none
+module _ (passes : ℕ → Bool) (default from to : ℕ) where
+  left : from < to → rising from (to - from) ≡ from ∷ rising (from + 1) (to - (from + 1))
+  unfolding rising
+  left more = let one-more : to - from ≡ suc (to - (from + 1)) = omega arith in rw (one-more, add-one from)
+
+  pub run-here : from < to → passes from ≡ true → firstOr default passes (rising from (to - from)) ≡ from
+  run-here more e = rw (left more) (firstOr-here passes default from (rising (from + 1) (to - (from + 1))) e)
+
+  pub run-next :
+      from < to → passes from ≡ false → firstOr default passes (rising from (to - from)) ≡ firstOr default passes (rising (from + 1) (to - (from + 1)))
+  run-next more e = rw (left more) (firstOr-next passes default from (rising (from + 1) (to - (from + 1))) e)
+
+  pub run-over : to ≤ from → firstOr default passes (rising from (to - from)) ≡ default
+  unfolding firstOr rising
+  run-over over = let none : to - from ≡ 0 = omega arith in rw none

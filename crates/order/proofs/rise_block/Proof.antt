@@ -5,8 +5,8 @@ use mathlib.Core.Path.{_≡_, refl, sym, _∙_}
 use native.Mathlib.Omega.{arith}
 use Rattle.paper.specs.Limits.{tableBlock}
 use Rattle.seek.specs.Search.{firstOr, rising}
+use Rattle.seek.proofs.Searches.{run-here, run-next, run-over}
 use Rattle.order.specs.Order.{stopsAt}
-use Rattle.order.proofs.Blocks.{place-stops, place-passed, places-over}
 use Rattle.order.proofs.rise_block.Statement.{statement}
 use Rattle.order.proofs.rise_block.Tie as tie
 
@@ -32,7 +32,7 @@ stops-requires c κs = tt
 
 returns : tie.Need-returns Inv-loop μ-loop
 returns c =
-    sym (c .before .before .before .loop .inv .0 ∙ place-stops (stopsAt (c .before .before .before .before .args .t1) (c .before .before .before .before .args .sought)) tableBlock (c .before .before .before .loop .place) (c .before .before .loop-test .taken) (sym (c .before .stops .ensures) ∙ c .if1 .taken))
+    sym (c .before .before .before .loop .inv .0 ∙ run-here (stopsAt (c .before .before .before .before .args .t1) (c .before .before .before .before .args .sought)) tableBlock (c .before .before .before .loop .place) tableBlock (c .before .before .loop-test .taken) (sym (c .before .stops .ensures) ∙ c .if1 .taken))
 
 add-place : tie.Need-add-place Inv-loop μ-loop
 add-place c = omega arith
@@ -42,14 +42,14 @@ loop-less c = omega arith
 
 loop-again : tie.Need-loop-again Inv-loop μ-loop
 loop-again c = (
-  c .before .before .before .loop .inv .0 ∙ place-passed (stopsAt (c .before .before .before .before .args .t1) (c .before .before .before .before .args .sought)) tableBlock (c .before .before .before .loop .place) (c .before .before .loop-test .taken) (sym (c .before .stops .ensures) ∙ c .if1 .left),
+  c .before .before .before .loop .inv .0 ∙ run-next (stopsAt (c .before .before .before .before .args .t1) (c .before .before .before .before .args .sought)) tableBlock (c .before .before .before .loop .place) tableBlock (c .before .before .loop-test .taken) (sym (c .before .stops .ensures) ∙ c .if1 .left),
   omega arith,
 )
 
 returns-2 : tie.Need-returns-2 Inv-loop μ-loop
 returns-2 c =
     let over : c .before .loop .place ≡ tableBlock = omega arith in
-    over ∙ sym (c .before .loop .inv .0 ∙ places-over (stopsAt (c .before .before .args .t1) (c .before .before .args .sought)) tableBlock (c .before .loop .place) (omega arith))
+    over ∙ sym (c .before .loop .inv .0 ∙ run-over (stopsAt (c .before .before .args .t1) (c .before .before .args .sought)) tableBlock (c .before .loop .place) tableBlock (omega arith))
 
 pub rise-block-spec : {M : Type 1} → statement M
 rise-block-spec =

@@ -7,8 +7,9 @@ use denote.Ref.{now}
 use lib.ListN.{length}
 use Rattle.paper.specs.Limits.{tableBlock}
 use Rattle.seek.specs.Search.{firstOr, rising}
+use Rattle.seek.proofs.Searches.{run-over}
 use Rattle.order.specs.Order.{stops, stopsAt}
-use Rattle.order.proofs.Blocks.{run-found, run-passed, run-over}
+use Rattle.order.proofs.Blocks.{run-found, run-passed}
 use Rattle.order.proofs.search_rising.Statement.{statement}
 use Rattle.order.proofs.search_rising.Tie as tie
 
@@ -50,7 +51,7 @@ loop-again c =
     (omega arith, c .before .before .before .before .loop .inv .1 ∙ passed)
 
 returns-2 : tie.Need-returns-2 Inv-loop μ-loop
-returns-2 c = sym (c .before .loop .inv .1 ∙ run-over (stops (c .before .before .before .args .sought)) (now (c .before .before .before .args .table)) (c .before .loop .start) (c .before .before .before .args .to) (c .loop-test .left))
+returns-2 c = sym (c .before .loop .inv .1 ∙ run-over (stopsAt (now (c .before .before .before .args .table)) (c .before .before .before .args .sought)) (length (now (c .before .before .before .args .table))) (c .before .loop .start) (c .before .before .before .args .to) (c .loop-test .left))
 
 pub search-rising-spec : {M : Type 1} → statement M
 search-rising-spec =
