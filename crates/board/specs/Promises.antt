@@ -120,8 +120,8 @@ abbrev pub TellsCounted : (Counted → Type 0) → TbCounted → Type 0
 TellsCounted Promise r = Tells saidCounted Promise (countedFields r)
 
 -- refusal, number
-abbrev pub headedFields : TbHeaded → ℕ × ℕ
-headedFields r = (r .refusal, r .block)
+abbrev pub headedFields : TbHeaded → ℕ × ℕ × ℕ
+headedFields r = (r .refusal, r .code, r .block)
 
 abbrev pub TellsHeaded : (Head → Type 0) → TbHeaded → Type 0
 TellsHeaded Promise r = Tells saidHead Promise (headedFields r)

@@ -105,10 +105,11 @@ pub struct TbCounted {
     pub null: u32,
 }
 
-// The number that a header carries.
+// What the number of a header says: the code, and the block.
 #[repr(C)]
 pub struct TbHeaded {
     pub refusal: u32,
+    pub code: u32,
     pub block: u32,
 }
 
@@ -291,8 +292,16 @@ pub fn headed(answer: Head) -> TbHeaded
     ensures { λ result. ⌜ headedFields result ≡ saidHead answer ⌝ }
 {
     match answer {
-        Head::Number(block) => TbHeaded { refusal: 0, block },
-        Head::Refused(refusal) => TbHeaded { refusal, block: 0 },
+        Head::Of(code, block) => TbHeaded {
+            refusal: 0,
+            code,
+            block,
+        },
+        Head::Refused(refusal) => TbHeaded {
+            refusal,
+            code: 0,
+            block: 0,
+        },
     }
 }
 

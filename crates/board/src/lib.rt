@@ -254,20 +254,21 @@ pub extern "C" fn tb_spare_first(shape: Shape, r: u32, list: &[u32], room: &mut 
     answers::written(spares::first_table(shape, r, list, room))
 }
 
-// Writes the image of a block's data, good or forced, and answers its length. Checks 14, 7.
+// Writes the image of a block's data, good or forced, with the code that tells where the block is, and answers its length. Checks 14, 5, 22, 7.
 #[no_mangle]
 pub extern "C" fn tb_image_write(
     block: u32,
+    code: u32,
     data: &[u8],
     forced: bool,
     room: &mut [u8],
 ) -> TbWritten
-    ensures { λ result. ⌜ TellsWritten (λ answer. Write block (now («data» .entry)) forced (now (room .entry)) answer (now (room .exit))) result ⌝ }
+    ensures { λ result. ⌜ TellsWritten (λ answer. Write block code (now («data» .entry)) forced (now (room .entry)) answer (now (room .exit))) result ⌝ }
 {
-    answers::written(image::write(block, data, forced, room))
+    answers::written(image::write(block, code, data, forced, room))
 }
 
-// The number that the header of an image carries. Checks 14, 15.
+// The code and the block that the header of an image says. Checks 14, 15, 16.
 #[no_mangle]
 pub extern "C" fn tb_image_header(image: &[u8]) -> TbHeaded
     ensures { λ result. ⌜ TellsHeaded (Header (now (image .entry))) result ⌝ }
@@ -275,12 +276,12 @@ pub extern "C" fn tb_image_header(image: &[u8]) -> TbHeaded
     answers::headed(image::header(image))
 }
 
-// The verdict on the image of a block. Checks 14, 15, 16, then 17 or 18.
+// The verdict on the image of a block with a code. Checks 14, 15, 16, then 17 or 18.
 #[no_mangle]
-pub extern "C" fn tb_image_judge(image: &[u8], block: u32) -> TbJudged
-    ensures { λ result. ⌜ TellsJudged (ImageVerdict (now (image .entry)) block) result ⌝ }
+pub extern "C" fn tb_image_judge(image: &[u8], block: u32, code: u32) -> TbJudged
+    ensures { λ result. ⌜ TellsJudged (ImageVerdict (now (image .entry)) block code) result ⌝ }
 {
-    answers::judged(image::judge(image, block))
+    answers::judged(image::judge(image, block, code))
 }
 
 // The verdict on a block from the images of its home track and of its spare's track. Checks 1, 7, 11, 5, 14, 15 to 18.

@@ -1,15 +1,17 @@
--- Document 01, "Sector image": what an image holds, for any number of data bytes, and the checks of an image and of its writer.
+-- Document 01, "Sector image", and document 02, Q-4: what an image holds, for any number of data bytes, and the checks of an image and of its writer.
 use Prim.Native.Nat.{ℕ, _+_, _≤_}
 use mathlib.Core.Bool.{Bool, not}
 use mathlib.Core.List.{List, _++_}
-use lib.Dec.{eqb, ltb}
+use lib.Dec.{eqb, ltb, leb}
 use lib.ListN.{length, take, drop, replicate}
 use Rattle.paper.specs.Checks.{pick, refuse, _orElse_}
 use Rattle.paper.specs.Limits.{headerSize, imageExtra}
-use Rattle.paper.specs.Refusals.{noRoom, wrongLength, noAddress, otherBlock, forcedError, badCode}
+use Rattle.paper.specs.Refusals.{noSuchBlock, noRoom, wrongLength, noAddress, otherBlock, forcedError, badCode, unknownCode}
+use Rattle.words.specs.Coded.{codeUnit, wordOf, codeOf}
 use Rattle.words.specs.Words.{bytes16, word16At, word32At, bytesOf, entriesAt}
 use Rattle.seek.specs.Count.{times}
 use Rattle.image.specs.Code.{dataCode, complement, carried}
+use Rattle.image.specs.Header.{isKnown, mayHead}
 
 -- copies of the number in a header
 abbrev pub copiesMade : ℕ
@@ -59,21 +61,32 @@ copiesFault image = refuse (ltb (times (headerOf image) (copies image)) copiesLe
 abbrev pub codeFault : ℕ → ℕ → ℕ
 codeFault stored found = pick (eqb stored found) 0 (pick (eqb stored (complement found)) forcedError badCode)
 
--- 15, 16, then 17 or 18: checks of what an image of the right length holds, which is to name the number
+-- 15, 16, then 17 or 18: checks of what an image of the right length holds, which is to carry the number
 unfoldable pub contentsFault : ℕ → List ℕ → ℕ → ℕ
 contentsFault size image number =
     copiesFault image
     orElse (refuse (not (eqb (headerOf image) number)) otherBlock
     orElse codeFault (storedIn size image) (foundIn size image))
 
--- 14, 15: checks of a header
+-- the same where a block and a code are expected: no number says a block of more than 28 bits or a fourth code, and such a pair is never met
+unfoldable pub pairFault : ℕ → List ℕ → ℕ → ℕ → ℕ
+pairFault size image block code = pick (mayHead code block) (contentsFault size image (wordOf code block)) (copiesFault image orElse otherBlock)
+
+-- 14, 15, 16: checks of a header by itself, which is to have one of the three codes
 unfoldable pub headerFault : ℕ → List ℕ → ℕ
-headerFault size image = lengthFault (size + imageExtra) image orElse copiesFault image
+headerFault size image =
+    lengthFault (size + imageExtra) image
+    orElse (copiesFault image
+    orElse refuse (not (isKnown (codeOf (headerOf image)))) otherBlock)
 
 -- 14 to 18: checks of an image
-unfoldable pub imageFault : ℕ → List ℕ → ℕ → ℕ
-imageFault size image number = lengthFault (size + imageExtra) image orElse contentsFault size image number
+unfoldable pub imageFault : ℕ → List ℕ → ℕ → ℕ → ℕ
+imageFault size image block code = lengthFault (size + imageExtra) image orElse pairFault size image block code
 
--- 14, 7: checks of the writer
-unfoldable pub writeFault : ℕ → List ℕ → List ℕ → ℕ
-writeFault size bytes room = lengthFault size bytes orElse refuse (ltb (length room) (size + imageExtra)) noRoom
+-- 14, 5, 22, 7: checks of the writer
+unfoldable pub writeFault : ℕ → ℕ → ℕ → List ℕ → List ℕ → ℕ
+writeFault size block code bytes room =
+    lengthFault size bytes
+    orElse (refuse (leb codeUnit block) noSuchBlock
+    orElse (refuse (not (isKnown code)) unknownCode
+    orElse refuse (ltb (length room) (size + imageExtra)) noRoom))

@@ -1,12 +1,14 @@
--- Document 01, "Refusal numbers" and "Sector image": exactly when each number is given for an image, for any number of data bytes.
+-- Document 01, "Refusal numbers" and "Sector image", and document 02, Q-4: exactly when each number is given for an image, for any number of data bytes.
 use Prim.Native.Nat.{ℕ, _+_}
 use mathlib.Core.Path.{_≡_}
 use mathlib.Core.List.{List}
 use Rattle.paper.specs.Exactly.{When, _andThen_}
-use Rattle.paper.specs.Conditions.{NoRoom, OtherLength}
+use Rattle.paper.specs.Conditions.{NotBelow, NoRoom, OtherLength}
 use Rattle.paper.specs.Limits.{imageExtra}
-use Rattle.paper.specs.Refusals.{noRoom, wrongLength, noAddress, otherBlock, forcedError, badCode}
+use Rattle.paper.specs.Refusals.{noSuchBlock, noRoom, wrongLength, noAddress, otherBlock, forcedError, badCode, unknownCode}
+use Rattle.words.specs.Coded.{codeUnit, codeOf}
 use Rattle.image.specs.Code.{complement}
+use Rattle.image.specs.Header.{Known, Says}
 use Rattle.image.specs.Image.{Stands, storedIn, foundIn}
 
 -- exactly when 14 is given for bytes that must have a length
@@ -25,22 +27,35 @@ GoodCode size image = storedIn size image ≡ foundIn size image
 abbrev pub ForcedCode : ℕ → List ℕ → Type 0
 ForcedCode size image = storedIn size image ≡ complement (foundIn size image)
 
--- exactly when each number is given for an image of the right length that is to name a number
-pub data ContentsJudged (size : ℕ) (image : List ℕ) (number : ℕ) : ℕ → Type 0 where
-  no-address : ((m : ℕ) → Stands image m → ⊥) → ContentsJudged size image number noAddress
-  other-block : (m : ℕ) → Stands image m → (m ≡ number → ⊥) → ContentsJudged size image number otherBlock
-  good : Stands image number → GoodCode size image → ContentsJudged size image number 0
-  forced : Stands image number → ForcedCode size image → ContentsJudged size image number forcedError
-  neither : Stands image number → (GoodCode size image → ⊥) → (ForcedCode size image → ⊥) → ContentsJudged size image number badCode
+-- exactly when each number is given for an image of the right length whose header is to say a block and a code
+pub data ContentsJudged (size : ℕ) (image : List ℕ) (block code : ℕ) : ℕ → Type 0 where
+  no-address : ((m : ℕ) → Stands image m → ⊥) → ContentsJudged size image block code noAddress
+  other-block : (m : ℕ) → Stands image m → (Says m code block → ⊥) → ContentsJudged size image block code otherBlock
+  good : (m : ℕ) → Stands image m → Says m code block → GoodCode size image → ContentsJudged size image block code 0
+  forced : (m : ℕ) → Stands image m → Says m code block → ForcedCode size image → ContentsJudged size image block code forcedError
+  neither : (m : ℕ) → Stands image m → Says m code block → (GoodCode size image → ⊥) → (ForcedCode size image → ⊥) → ContentsJudged size image block code badCode
+
+-- a number stands in the header, and its code is none of the three
+pub record FourthCode (image : List ℕ) : Type 0 where
+  pub number : ℕ
+  pub stands : Stands image number
+  pub fourth : Known (codeOf number) → ⊥
 
 -- exactly when the header's reader gives each number
 abbrev pub HeaderJudged : ℕ → List ℕ → ℕ → Type 0
-HeaderJudged size image = LengthJudged (size + imageExtra) image andThen CopiesJudged image
+HeaderJudged size image =
+    LengthJudged (size + imageExtra) image
+    andThen (CopiesJudged image
+    andThen When otherBlock (FourthCode image))
 
 -- exactly when the verdict is each number
-abbrev pub ImageJudged : ℕ → List ℕ → ℕ → ℕ → Type 0
-ImageJudged size image number = LengthJudged (size + imageExtra) image andThen ContentsJudged size image number
+abbrev pub ImageJudged : ℕ → List ℕ → ℕ → ℕ → ℕ → Type 0
+ImageJudged size image block code = LengthJudged (size + imageExtra) image andThen ContentsJudged size image block code
 
 -- exactly when the writer gives each number
-abbrev pub WriteJudged : ℕ → List ℕ → List ℕ → ℕ → Type 0
-WriteJudged size bytes room = LengthJudged size bytes andThen When noRoom (NoRoom (size + imageExtra) room)
+abbrev pub WriteJudged : ℕ → ℕ → ℕ → List ℕ → List ℕ → ℕ → Type 0
+WriteJudged size block code bytes room =
+    LengthJudged size bytes
+    andThen (When noSuchBlock (NotBelow codeUnit block)
+    andThen (When unknownCode (Known code → ⊥)
+    andThen When noRoom (NoRoom (size + imageExtra) room)))

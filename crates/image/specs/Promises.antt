@@ -10,19 +10,20 @@ use Rattle.paper.specs.Promise.{Gives, written}
 use Rattle.paper.specs.Limits.{dataSize, headerSize, imageExtra}
 use Rattle.paper.specs.declared.Written.{Written}
 use Rattle.paper.specs.declared.Written.the-variants.{Length}
+use Rattle.words.specs.Coded.{wordOf, codeOf, numberOf}
 use Rattle.image.specs.declared.Head.{Head}
-use Rattle.image.specs.declared.Head.the-variants.{Number, Refused as NoHead}
+use Rattle.image.specs.declared.Head.the-variants.{Of, Refused as NoHead}
 use Rattle.image.specs.declared.Verdict.{Verdict}
 use Rattle.image.specs.declared.Verdict.the-variants.{Good, Refused as NotGood}
 use Rattle.image.specs.Image.{headerOf, dataOf, imageOf, headerFault, imageFault, writeFault}
 
--- refusal, number
-abbrev pub saidHead : Head → ℕ × ℕ
-saidHead (Number number) = (0, number)
-saidHead (NoHead fault) = (fault, 0)
+-- refusal, code, block
+abbrev pub saidHead : Head → ℕ × ℕ × ℕ
+saidHead (Of code block) = (0, code, block)
+saidHead (NoHead fault) = (fault, 0, 0)
 
 abbrev pub GivesHead : ℕ → Head → Head → Type 0
-GivesHead = Gives saidHead (λ fault. (fault, 0)) NoHead
+GivesHead = Gives saidHead (λ fault. (fault, 0, 0)) NoHead
 
 -- refusal
 abbrev pub saidVerdict : Verdict → ℕ
@@ -37,30 +38,32 @@ pub record Lends (bytes : RefT (List ℕ)) (at : ℕ) (held : List ℕ) (part : 
   pub holds : part .now ≡ held
   pub lies : part .ptr ≡ (bytes .ptr .0, at + bytes .ptr .1)
 
--- the image's length; the room then holds the image in its first places
-abbrev pub WriteSized : ℕ → ℕ → List ℕ → Bool → List ℕ → Written → List ℕ → Type 0
-WriteSized size number bytes forced room = FillsWritten (writeFault size bytes room) (Length (size + imageExtra)) room (written (imageOf number bytes forced) room)
+-- the image's length; the room then holds the image in its first places, whose header carries the word of the code and the block
+abbrev pub WriteSized : ℕ → ℕ → ℕ → List ℕ → Bool → List ℕ → Written → List ℕ → Type 0
+WriteSized size block code bytes forced room =
+    FillsWritten (writeFault size block code bytes room) (Length (size + imageExtra)) room (written (imageOf (wordOf code block) bytes forced) room)
 
+-- the code and the block of the number that the header carries
 abbrev pub HeaderSized : ℕ → List ℕ → Head → Type 0
-HeaderSized size image = GivesHead (headerFault size image) (Number (headerOf image))
+HeaderSized size image = GivesHead (headerFault size image) (Of (codeOf (headerOf image)) (numberOf (headerOf image)))
 
-abbrev pub JudgeSized : ℕ → List ℕ → ℕ → Verdict → Type 0
-JudgeSized size image number = GivesVerdict (imageFault size image number) Good
+abbrev pub JudgeSized : ℕ → List ℕ → ℕ → ℕ → Verdict → Type 0
+JudgeSized size image block code = GivesVerdict (imageFault size image block code) Good
 
 -- the part that is handed back: the data where it lies, or the empty part at the start of the image
-abbrev pub DataSized : ℕ → RefT (List ℕ) → ℕ → RefT (List ℕ) → Type 0
-DataSized size image number =
-    answer (imageFault size (image .now) number) (λ fault. Lends image 0 []) (Lends image headerSize (dataOf size (image .now)))
+abbrev pub DataSized : ℕ → RefT (List ℕ) → ℕ → ℕ → RefT (List ℕ) → Type 0
+DataSized size image block code =
+    answer (imageFault size (image .now) block code) (λ fault. Lends image 0 []) (Lends image headerSize (dataOf size (image .now)))
 
 -- the public calls, at 512 data bytes
-abbrev pub Write : ℕ → List ℕ → Bool → List ℕ → Written → List ℕ → Type 0
+abbrev pub Write : ℕ → ℕ → List ℕ → Bool → List ℕ → Written → List ℕ → Type 0
 Write = WriteSized dataSize
 
 abbrev pub Header : List ℕ → Head → Type 0
 Header = HeaderSized dataSize
 
-abbrev pub Judge : List ℕ → ℕ → Verdict → Type 0
+abbrev pub Judge : List ℕ → ℕ → ℕ → Verdict → Type 0
 Judge = JudgeSized dataSize
 
-abbrev pub Data : RefT (List ℕ) → ℕ → RefT (List ℕ) → Type 0
+abbrev pub Data : RefT (List ℕ) → ℕ → ℕ → RefT (List ℕ) → Type 0
 Data = DataSized dataSize

@@ -1,14 +1,16 @@
-// The image of a sector: four copies of a number, the data, and the 16-bit code of the data; written, read and judged for any number of data bytes, by the public calls for 512.
+// The image of a sector: four copies of a number, which says a code and a block, the data, and the 16-bit code of the data; written, read and judged for any number of data bytes, by the public calls for 512.
 ghost use mathlib.Core.Path.{_≡_};
 ghost use Prim.Native.Nat.{_+_, _<_, _≤_, _^_};
 ghost use lib.ListN.{length, replicate};
 ghost use lib.Seq.{sets};
 ghost use Rattle.paper.specs.Promise.{written};
 ghost use Rattle.paper.specs.Limits.{headerSize, imageExtra};
+ghost use Rattle.words.specs.Coded.{codeOf};
 ghost use Rattle.words.specs.Words.{bytesOf};
 ghost use Rattle.seek.specs.Count.{times};
 ghost use Rattle.image.specs.Code.{codeAfter, dataCode, carried};
-ghost use Rattle.image.specs.Image.{copiesMade, copies, headerOf, imageOf, copiesFault, codeFault, contentsFault, headerFault, imageFault, writeFault};
+ghost use Rattle.image.specs.Header.{atHome, isKnown, mayHead};
+ghost use Rattle.image.specs.Image.{copiesMade, copies, headerOf, imageOf, copiesFault, codeFault, contentsFault, pairFault, headerFault, imageFault, writeFault};
 ghost use Rattle.image.specs.Promises.{WriteSized, HeaderSized, JudgeSized, DataSized, Write, Header, Judge, Data};
 use paper::BAD_CODE;
 use paper::DATA_SIZE;
@@ -17,18 +19,26 @@ use paper::HEADER_SIZE;
 use paper::IMAGE_EXTRA;
 use paper::NO_ADDRESS;
 use paper::NO_ROOM;
+use paper::NO_SUCH_BLOCK;
 use paper::OTHER_BLOCK;
 use paper::START_CODE;
+use paper::UNKNOWN_CODE;
 use paper::WRONG_LENGTH;
 use paper::Written;
+use words::AT_PRIMARY;
+use words::CODE_UNIT;
+use words::ELSEWHERE;
+
+// The code of a header whose block is at home. The other two, which descriptors have too, stand in `words`.
+pub const AT_HOME: u32 = 0;
 
 const COPIES_LEAST: u32 = 3;
 
 const CODE_MOST: u16 = 0xFFFF;
 
-// The number that a header carries.
+// What the number of a header says: the code, and the block.
 pub enum Head {
-    Number(u32),
+    Of(u32, u32),
     Refused(u32),
 }
 
@@ -37,6 +47,11 @@ pub enum Verdict {
     Good,
     Refused(u32),
 }
+
+// The constant is that of the definitions.
+fn code_agrees()
+    ensures { λ result. do ⌜ (← ⟦AT_HOME⟧ .entry) ≡ atHome ⌝ }
+{}
 
 // The code after one word more.
 fn code_after(code: u16, word: u16) -> u16
@@ -134,7 +149,45 @@ pub fn contents_fault(size: usize, image: &[u8], number: u32) -> u32
     code_fault(stored, found)
 }
 
-// 14 or 15 for an image, else 0.
+// Whether a code is one of the three that a header may have.
+fn is_known(code: u32) -> bool
+    ensures { λ result. ⌜ result ≡ isKnown code ⌝ }
+{
+    if code == AT_HOME {
+        return true;
+    }
+    if code == AT_PRIMARY {
+        return true;
+    }
+    code == ELSEWHERE
+}
+
+// Whether some number says the code and the block.
+fn may_head(code: u32, block: u32) -> bool
+    ensures { λ result. ⌜ result ≡ mayHead code block ⌝ }
+{
+    if !is_known(code) {
+        return false;
+    }
+    block < CODE_UNIT
+}
+
+// 15, 16, 17 or 18 for an image of the right length whose header is to say a block and a code, else 0. Only a pair that a number can say is made into one.
+fn pair_fault(size: usize, image: &[u8], block: u32, code: u32) -> u32
+    requires { ⌜ length (now image) ≡ size + imageExtra ⌝ }
+    ensures { λ result. ⌜ result ≡ pairFault size (now (image .entry)) block code ⌝ }
+{
+    if may_head(code, block) {
+        return contents_fault(size, image, words::word_of(code, block));
+    }
+    let fault = copies_fault(image);
+    if fault != 0 {
+        return fault;
+    }
+    OTHER_BLOCK
+}
+
+// 14, 15 or 16 for the header of an image, else 0.
 fn header_fault(size: usize, image: &[u8]) -> u32
     requires { ⌜ size + imageExtra < 2 ^ 32 ⌝ }
     ensures { λ result. ⌜ result ≡ headerFault size (now (image .entry)) ⌝ }
@@ -142,27 +195,40 @@ fn header_fault(size: usize, image: &[u8]) -> u32
     if image.len() != size + IMAGE_EXTRA {
         return WRONG_LENGTH;
     }
-    copies_fault(image)
+    let fault = copies_fault(image);
+    if fault != 0 {
+        return fault;
+    }
+    if !is_known(words::code_of(header_of(image))) {
+        return OTHER_BLOCK;
+    }
+    0
 }
 
 // 14 to 18 for an image, else 0.
-fn image_fault(size: usize, image: &[u8], number: u32) -> u32
+fn image_fault(size: usize, image: &[u8], block: u32, code: u32) -> u32
     requires { ⌜ size + imageExtra < 2 ^ 32 ⌝ }
-    ensures { λ result. ⌜ result ≡ imageFault size (now (image .entry)) number ⌝ }
+    ensures { λ result. ⌜ result ≡ imageFault size (now (image .entry)) block code ⌝ }
 {
     if image.len() != size + IMAGE_EXTRA {
         return WRONG_LENGTH;
     }
-    contents_fault(size, image, number)
+    pair_fault(size, image, block, code)
 }
 
-// 14 or 7 for the data to write and the room for its image, else 0.
-fn write_fault(size: usize, bytes: &[u8], room: &[u8]) -> u32
+// 14, 5, 22 or 7 for the data to write, its block and code, and the room for its image, else 0.
+fn write_fault(size: usize, block: u32, code: u32, bytes: &[u8], room: &[u8]) -> u32
     requires { ⌜ size + imageExtra < 2 ^ 32 ⌝ }
-    ensures { λ result. ⌜ result ≡ writeFault size (now (bytes .entry)) (now (room .entry)) ⌝ }
+    ensures { λ result. ⌜ result ≡ writeFault size block code (now (bytes .entry)) (now (room .entry)) ⌝ }
 {
     if bytes.len() != size {
         return WRONG_LENGTH;
+    }
+    if CODE_UNIT <= block {
+        return NO_SUCH_BLOCK;
+    }
+    if !is_known(code) {
+        return UNKNOWN_CODE;
     }
     if room.len() < size + IMAGE_EXTRA {
         return NO_ROOM;
@@ -204,20 +270,27 @@ fn put_image(number: u32, bytes: &[u8], forced: bool, room: &mut [u8])
     words::put16(room, HEADER_SIZE + bytes.len(), code);
 }
 
-// Writes the image of data of a size. Checks 14, 7.
-fn write_sized(size: usize, number: u32, bytes: &[u8], forced: bool, room: &mut [u8]) -> Written
+// Writes the image of data of a size. Checks 14, 5, 22, 7.
+fn write_sized(
+    size: usize,
+    block: u32,
+    code: u32,
+    bytes: &[u8],
+    forced: bool,
+    room: &mut [u8],
+) -> Written
     requires { ⌜ size + imageExtra < 2 ^ 32 ⌝ }
-    ensures { λ result. ⌜ WriteSized size number (now (bytes .entry)) forced (now (room .entry)) result (now (room .exit)) ⌝ }
+    ensures { λ result. ⌜ WriteSized size block code (now (bytes .entry)) forced (now (room .entry)) result (now (room .exit)) ⌝ }
 {
-    let fault = write_fault(size, bytes, room);
+    let fault = write_fault(size, block, code, bytes, room);
     if fault != 0 {
         return Written::Refused(fault);
     }
-    put_image(number, bytes, forced, room);
+    put_image(words::word_of(code, block), bytes, forced, room);
     Written::Length((size + IMAGE_EXTRA) as u32)
 }
 
-// The number that the header of an image carries. Checks 14, 15.
+// The code and the block that the header of an image says. Checks 14, 15, 16.
 fn header_sized(size: usize, image: &[u8]) -> Head
     requires { ⌜ size + imageExtra < 2 ^ 32 ⌝ }
     ensures { λ result. ⌜ HeaderSized size (now (image .entry)) result ⌝ }
@@ -226,15 +299,16 @@ fn header_sized(size: usize, image: &[u8]) -> Head
     if fault != 0 {
         return Head::Refused(fault);
     }
-    Head::Number(header_of(image))
+    let number = header_of(image);
+    Head::Of(words::code_of(number), words::number_of(number))
 }
 
-// The verdict on an image that is to name a number. Checks 14, 15, 16, then the code.
-fn judge_sized(size: usize, image: &[u8], number: u32) -> Verdict
+// The verdict on an image whose header is to say a block and a code. Checks 14, 15, 16, then 17 or 18.
+fn judge_sized(size: usize, image: &[u8], block: u32, code: u32) -> Verdict
     requires { ⌜ size + imageExtra < 2 ^ 32 ⌝ }
-    ensures { λ result. ⌜ JudgeSized size (now (image .entry)) number result ⌝ }
+    ensures { λ result. ⌜ JudgeSized size (now (image .entry)) block code result ⌝ }
 {
-    let fault = image_fault(size, image, number);
+    let fault = image_fault(size, image, block, code);
     if fault != 0 {
         return Verdict::Refused(fault);
     }
@@ -242,41 +316,41 @@ fn judge_sized(size: usize, image: &[u8], number: u32) -> Verdict
 }
 
 // The data of a good image where it lies, else the empty part at the image's start.
-fn data_sized(size: usize, image: &[u8], number: u32) -> &[u8]
+fn data_sized(size: usize, image: &[u8], block: u32, code: u32) -> &[u8]
     requires { ⌜ size + imageExtra < 2 ^ 32 ⌝ }
-    ensures { λ result. ⌜ DataSized size (image .entry) number result ⌝ }
+    ensures { λ result. ⌜ DataSized size (image .entry) block code result ⌝ }
 {
-    let fault = image_fault(size, image, number);
+    let fault = image_fault(size, image, block, code);
     if fault != 0 {
         return &image[0..0];
     }
     &image[HEADER_SIZE..HEADER_SIZE + size]
 }
 
-// Writes the image of a block's data, good or forced. Checks 14, 7.
-pub fn write(block: u32, data: &[u8], forced: bool, room: &mut [u8]) -> Written
-    ensures { λ result. ⌜ Write block (now («data» .entry)) forced (now (room .entry)) result (now (room .exit)) ⌝ }
+// Writes the image of a block's data, good or forced, with the code that tells where the block is. Checks 14, 5, 22, 7.
+pub fn write(block: u32, code: u32, data: &[u8], forced: bool, room: &mut [u8]) -> Written
+    ensures { λ result. ⌜ Write block code (now («data» .entry)) forced (now (room .entry)) result (now (room .exit)) ⌝ }
 {
-    write_sized(DATA_SIZE, block, data, forced, room)
+    write_sized(DATA_SIZE, block, code, data, forced, room)
 }
 
-// The number that the header of an image carries. Checks 14, 15.
+// The code and the block that the header of an image says. Checks 14, 15, 16.
 pub fn header(image: &[u8]) -> Head
     ensures { λ result. ⌜ Header (now (image .entry)) result ⌝ }
 {
     header_sized(DATA_SIZE, image)
 }
 
-// The verdict on the image of a block. Checks 14, 15, 16, then 17 or 18.
-pub fn judge(image: &[u8], block: u32) -> Verdict
-    ensures { λ result. ⌜ Judge (now (image .entry)) block result ⌝ }
+// The verdict on the image of a block with a code. Checks 14, 15, 16, then 17 or 18.
+pub fn judge(image: &[u8], block: u32, code: u32) -> Verdict
+    ensures { λ result. ⌜ Judge (now (image .entry)) block code result ⌝ }
 {
-    judge_sized(DATA_SIZE, image, block)
+    judge_sized(DATA_SIZE, image, block, code)
 }
 
-// The 512 bytes of a good image of a block where they lie; the empty part at the image's start exactly when the verdict refuses.
-pub fn data(image: &[u8], block: u32) -> &[u8]
-    ensures { λ result. ⌜ Data (image .entry) block result ⌝ }
+// The 512 bytes of a good image of a block with a code where they lie; the empty part at the image's start exactly when the verdict refuses.
+pub fn data(image: &[u8], block: u32, code: u32) -> &[u8]
+    ensures { λ result. ⌜ Data (image .entry) block code result ⌝ }
 {
-    data_sized(DATA_SIZE, image, block)
+    data_sized(DATA_SIZE, image, block, code)
 }

@@ -6,33 +6,28 @@ ghost use Rattle.shape.specs.Shapes.{Shaped};
 ghost use Rattle.layout.specs.Layouts.{Spared, driveFault, driveOf, sectorsPerTrack, homeSector, spareSector, homeCylinder, spareCylinder};
 ghost use Rattle.layout.specs.Steps.{Laid};
 ghost use Rattle.layout.specs.Sides.{isHome, blockOfHome, placeOfSpare};
-ghost use Rattle.layout.specs.Descriptors.{free, atPrimary, elsewhere, unusable, null, codeUnit, codeOf, numberOf, primary, isAllocated, names};
+ghost use Rattle.layout.specs.Descriptors.{free, unusable, null, primary, isAllocated, names};
 use paper::OUT_OF_RANGE;
 use paper::SPARES_MOST;
 use shape::Shape;
+pub use words::AT_PRIMARY;
+pub use words::CODE_UNIT;
+pub use words::ELSEWHERE;
+pub use words::code_of;
+pub use words::number_of;
 
-// The codes of a descriptor stand here and not in `paper`, since a descriptor is a revectored drive's alone.
+// The codes that a descriptor alone has; those that it shares with a header stand in `words`.
 pub const FREE: u32 = 0;
-
-pub const AT_PRIMARY: u32 = 2;
-
-pub const ELSEWHERE: u32 = 3;
 
 pub const UNUSABLE: u32 = 4;
 
 pub const NULL: u32 = 8;
 
-// 2²⁸: the low 28 bits of a descriptor are its number.
-pub const CODE_UNIT: u32 = 268_435_456;
-
 // The constants are those of the definitions.
 fn codes_agree()
     ensures { λ result. do ⌜ (← ⟦FREE⟧ .entry) ≡ free ⌝ }
-    ensures { λ result. do ⌜ (← ⟦AT_PRIMARY⟧ .entry) ≡ atPrimary ⌝ }
-    ensures { λ result. do ⌜ (← ⟦ELSEWHERE⟧ .entry) ≡ elsewhere ⌝ }
     ensures { λ result. do ⌜ (← ⟦UNUSABLE⟧ .entry) ≡ unusable ⌝ }
     ensures { λ result. do ⌜ (← ⟦NULL⟧ .entry) ≡ null ⌝ }
-    ensures { λ result. do ⌜ (← ⟦CODE_UNIT⟧ .entry) ≡ codeUnit ⌝ }
 {}
 
 // The numbers of a revectored drive: T tracks, H heads, l home sectors and r spares of a track, T × r spares and T × l home blocks.
@@ -80,20 +75,6 @@ pub fn drive_of(shape: Shape, r: u32) -> Drive
         spares: tracks * r,
         blocks: tracks * (shape.sectors - r),
     }
-}
-
-// The code of a descriptor. Only other crates call this.
-pub fn code_of(word: u32) -> u32
-    ensures { λ result. ⌜ result ≡ codeOf word ⌝ }
-{
-    word / CODE_UNIT
-}
-
-// The number of a descriptor. Only other crates call this.
-pub fn number_of(word: u32) -> u32
-    ensures { λ result. ⌜ result ≡ numberOf word ⌝ }
-{
-    word % CODE_UNIT
 }
 
 // Whether a descriptor is allocated. Only other crates call this.

@@ -17,7 +17,7 @@ notRising = 3
 abbrev pub outside : ℕ
 outside = 4
 
--- the drive has no block of this number
+-- the drive has no block of this number, or no header can carry it
 abbrev pub noSuchBlock : ℕ
 noSuchBlock = 5
 
@@ -59,7 +59,7 @@ wrongLength = 14
 abbrev pub noAddress : ℕ
 noAddress = 15
 
--- the header names another block
+-- the header does not say the block and the code that are expected, or its code is none of the three
 abbrev pub otherBlock : ℕ
 otherBlock = 16
 
@@ -70,3 +70,7 @@ forcedError = 17
 -- the code matches neither way
 abbrev pub badCode : ℕ
 badCode = 18
+
+-- there is no such code to write into a header
+abbrev pub unknownCode : ℕ
+unknownCode = 22

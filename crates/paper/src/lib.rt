@@ -2,7 +2,7 @@
 ghost use mathlib.Core.Path.{_≡_};
 ghost use Prim.Native.Nat.{_≤_};
 ghost use Rattle.paper.specs.Checks.{oneIf};
-ghost use Rattle.paper.specs.Refusals.{outOfRange, tooLong, notRising, outside, noSuchBlock, noSuchSector, noRoom, badPage, strayCursor, badOption, badTable, noSpare, wrongLength, noAddress, otherBlock, forcedError, badCode};
+ghost use Rattle.paper.specs.Refusals.{outOfRange, tooLong, notRising, outside, noSuchBlock, noSuchSector, noRoom, badPage, strayCursor, badOption, badTable, noSpare, wrongLength, noAddress, otherBlock, forcedError, badCode, unknownCode};
 ghost use Rattle.paper.specs.Limits.{unitsMost, cylindersMost, headsMost, sectorsLeast, sectorsMost, listMost, sparesMost, tableBlock, dataSize, headerSize, imageExtra, pageFrame, entrySize, pageMost, optionMost, spaceMost, kindMost, listingMost, startCode, within, sizeFault};
 
 pub const OUT_OF_RANGE: u32 = 1;
@@ -40,6 +40,8 @@ pub const OTHER_BLOCK: u32 = 16;
 pub const FORCED_ERROR: u32 = 17;
 
 pub const BAD_CODE: u32 = 18;
+
+pub const UNKNOWN_CODE: u32 = 22;
 
 pub const UNITS_MOST: u32 = 16_777_216;
 
@@ -98,6 +100,7 @@ fn refusals_agree()
     ensures { λ result. do ⌜ (← ⟦OTHER_BLOCK⟧ .entry) ≡ otherBlock ⌝ }
     ensures { λ result. do ⌜ (← ⟦FORCED_ERROR⟧ .entry) ≡ forcedError ⌝ }
     ensures { λ result. do ⌜ (← ⟦BAD_CODE⟧ .entry) ≡ badCode ⌝ }
+    ensures { λ result. do ⌜ (← ⟦UNKNOWN_CODE⟧ .entry) ≡ unknownCode ⌝ }
 {}
 
 // Each limit and size of the code is that of the definitions.

@@ -24,7 +24,7 @@ lentFault size shape r t scratch b home spare = blockFault shape r t scratch b o
 -- 15 to 18: checks of the sector image that the block lies on
 abbrev pub lyingFault : ℕ → Shape → ℕ → List ℕ → ℕ → List ℕ → List ℕ → ℕ
 lyingFault size shape r t b home spare =
-    contentsFault size (imageFor size (driveOf shape r) t b home spare) (headerFor (driveOf shape r) t b)
+    contentsFault size (imageFor size (driveOf shape r) t b home spare) (headerFor t b)
 
 -- 1, 7, 11, 5, 14, 15 to 18: checks of a read of a block
 unfoldable pub blockReadFault : ℕ → Shape → ℕ → List ℕ → List ℕ → ℕ → List ℕ → List ℕ → ℕ

@@ -1,4 +1,4 @@
--- Document 01, "Refusal numbers" and "Sector image": exactly when each number is given for a read, for any number of data bytes.
+-- Document 01, "Refusal numbers" and "Sector image", and document 02, Q-4: exactly when each number is given for a read, for any number of data bytes.
 use Prim.Native.Nat.{ℕ}
 use mathlib.Core.Logic.{_⊎_}
 use mathlib.Core.List.{List}
@@ -10,18 +10,18 @@ use Rattle.layout.specs.declared.Drive.{Drive}
 use Rattle.layout.specs.Layouts.{driveOf}
 use Rattle.table.specs.Rules.{BlockJudged}
 use Rattle.image.specs.Judged.{ContentsJudged}
-use Rattle.reading.specs.Tracks.{Seated, bytesIn, imageAt, headerFor}
+use Rattle.reading.specs.Tracks.{Seated, bytesIn, imageAt}
 
 -- exactly when 14 is given: either image is not S sector images long
 abbrev pub LengthsJudged : ℕ → Shape → List ℕ → List ℕ → ℕ → Type 0
 LengthsJudged size shape home spare =
     When wrongLength (OtherLength (bytesIn size (shape .sectors)) home ⊎ OtherLength (bytesIn size (shape .sectors)) spare)
 
--- exactly when each number is given for the sector image where the block lies
+-- exactly when each number is given for the sector image where the block lies, whose header is to say the block and the code that the table says
 pub data LyingJudged (size : ℕ) (drive : Drive) (t : List ℕ) (b : ℕ) (home spare : List ℕ) : ℕ → Type 0 where
   lies :
-      {k : ℕ} (track : List ℕ) (sector : ℕ) → Seated drive t b home spare track sector →
-      ContentsJudged size (imageAt size (bytesIn size sector) track) (headerFor drive t b) k → LyingJudged size drive t b home spare k
+      {k : ℕ} (track : List ℕ) (sector code : ℕ) → Seated drive t b home spare track sector code →
+      ContentsJudged size (imageAt size (bytesIn size sector) track) b code k → LyingJudged size drive t b home spare k
 
 -- exactly when a read of a block gives each number
 abbrev pub BlockReadJudged : ℕ → Shape → ℕ → List ℕ → List ℕ → ℕ → List ℕ → List ℕ → ℕ → Type 0

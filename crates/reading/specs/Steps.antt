@@ -5,8 +5,8 @@ use mathlib.Core.List.{List}
 use Rattle.layout.specs.declared.Drive.{Drive}
 use Rattle.table.specs.Lookup.{isReplaced}
 use Rattle.reading.specs.declared.Seat.{Seat}
-use Rattle.reading.specs.Tracks.{sectorIn}
+use Rattle.reading.specs.Tracks.{sectorIn, headerFor}
 
--- whether a block lies on a spare, and on which sector of the track
+-- whether a block lies on a spare, on which sector of the track, and the number that the header there must carry
 abbrev pub seatOf : Drive → List ℕ → ℕ → Seat
-seatOf drive t b = record { replaced = isReplaced t b; sector = sectorIn drive t b }
+seatOf drive t b = record { replaced = isReplaced t b; sector = sectorIn drive t b; header = headerFor t b }

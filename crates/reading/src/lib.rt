@@ -8,7 +8,7 @@ ghost use Rattle.image.specs.Image.{contentsFault};
 ghost use Rattle.layout.specs.Steps.{Laid};
 ghost use Rattle.table.specs.Scratch.{Scratched};
 ghost use Rattle.table.specs.Steps.{Obeys};
-ghost use Rattle.reading.specs.Tracks.{headerFor, imageAt};
+ghost use Rattle.reading.specs.Tracks.{imageAt};
 ghost use Rattle.reading.specs.Steps.{seatOf};
 ghost use Rattle.reading.specs.Faults.{lentFault};
 ghost use Rattle.reading.specs.Promises.{SpotSized, JudgeSized, DataSized, Judge, Data, Spots};
@@ -24,13 +24,14 @@ use paper::IMAGE_EXTRA;
 use paper::WRONG_LENGTH;
 use shape::Shape;
 
-// Where a block lies: whether on a spare, and on which sector of the track.
+// Where a block lies: whether on a spare, and on which sector of the track; and the number that the header there must carry.
 struct Seat {
     replaced: bool,
     sector: usize,
+    header: u32,
 }
 
-// Where a block lies: a spare that names it comes before its home.
+// Where a block lies, and its header there: on a spare that names it, with the descriptor for its header, else at home with its own number.
 fn seat_of(drive: Drive, table: &[u32], block: u32) -> Seat
     requires { ⌜ Laid drive ⌝ }
     requires { ⌜ Obeys drive (now table) ⌝ }
@@ -42,19 +43,14 @@ fn seat_of(drive: Drive, table: &[u32], block: u32) -> Seat
         return Seat {
             replaced: true,
             sector: drive.l as usize + place % drive.r as usize,
+            header: table[place],
         };
     }
     Seat {
         replaced: false,
         sector: (block % drive.l) as usize,
+        header: block,
     }
-}
-
-// The header that the sector of a block must carry.
-fn header_for(drive: Drive, table: &[u32], block: u32) -> u32
-    ensures { λ result. ⌜ result ≡ headerFor drive (now (table .entry)) block ⌝ }
-{
-    block
 }
 
 // The image of the track that a block lies on.
@@ -130,7 +126,7 @@ fn spot_sized<'a>(
         size,
         track_of(seat.replaced, home, spare),
         start,
-        header_for(drive, table, block),
+        seat.header,
     );
     if found != 0 {
         return Spot::Refused(found);

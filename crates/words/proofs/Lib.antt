@@ -4,3 +4,4 @@ pub mod Stores
 pub mod Digits
 pub mod Places
 pub mod Runs
+pub mod Coded
