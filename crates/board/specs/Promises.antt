@@ -119,7 +119,7 @@ countedFields r = (r .refusal, r .free, r .primary, r .elsewhere, r .unusable, r
 abbrev pub TellsCounted : (Counted → Type 0) → TbCounted → Type 0
 TellsCounted Promise r = Tells saidCounted Promise (countedFields r)
 
--- refusal, number
+-- refusal, code, block
 abbrev pub headedFields : TbHeaded → ℕ × ℕ × ℕ
 headedFields r = (r .refusal, r .code, r .block)
 
