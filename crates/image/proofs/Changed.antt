@@ -11,26 +11,25 @@ use Rattle.words.specs.Words.{Bytes}
 use Rattle.words.proofs.Bounds.{below-take, below-drop}
 use Rattle.words.proofs.Places.{word16-after}
 use Rattle.image.specs.Code.{dataCode}
-use Rattle.image.specs.Image.{dataOf, storedIn, foundIn, contentsFault, imageFault}
+use Rattle.image.specs.Image.{dataOf, storedIn, foundIn, pairFault, imageFault}
 use Rattle.image.specs.Judged.{GoodCode, ContentsJudged}
 use Rattle.image.proofs.Coding.{one-byte}
 use Rattle.image.proofs.Images.{length-data}
-use Rattle.image.proofs.Exact.{image-sector, image-length, sector-exactly}
+use Rattle.image.proofs.Exact.{image-pair, image-length, pair-exactly}
 
-module _ (size : ℕ) (image : List ℕ) (number : ℕ) where
-  good-of : (k : ℕ) → ContentsJudged size image number k → k ≡ 0 → GoodCode size image
+module _ (size : ℕ) (image : List ℕ) (block code : ℕ) where
+  good-of : (k : ℕ) → ContentsJudged size image block code k → k ≡ 0 → GoodCode size image
   good-of k (ContentsJudged.no-address none) e = absurd (omega arith)
   good-of k (ContentsJudged.other-block m stands other) e = absurd (omega arith)
-  good-of k (ContentsJudged.good stands same) e = same
-  good-of k (ContentsJudged.forced stands same) e = absurd (omega arith)
-  good-of k (ContentsJudged.neither stands other neither) e = absurd (omega arith)
+  good-of k (ContentsJudged.good head same) e = same
+  good-of k (ContentsJudged.forced head same) e = absurd (omega arith)
+  good-of k (ContentsJudged.neither head other neither) e = absurd (omega arith)
 
   -- the stored code of a good image is the one found
-  pub good-code : contentsFault size image number ≡ 0 → GoodCode size image
-  good-code = good-of (contentsFault size image number) (sector-exactly image size number .judged)
-
-  pub good-image : imageFault size image number ≡ 0 → GoodCode size image
-  good-image none = good-code (sym (image-sector image size number (image-length image size number none)) ∙ none)
+  good-image : imageFault size image block code ≡ 0 → GoodCode size image
+  good-image none =
+      good-of (pairFault size image block code) (pair-exactly image size block code .judged)
+      (sym (image-pair image size block code (image-length image size block code none)) ∙ none)
 
 module _ (size : ℕ) (image : List ℕ) (k byte : ℕ) (inside : k < size) where
   pub stored-kept : storedIn size (set image (headerSize + k) byte) ≡ storedIn size image
@@ -42,16 +41,16 @@ module _ (size : ℕ) (image : List ℕ) (k byte : ℕ) (inside : k < size) wher
   data-changed = rw (drop-set-add headerSize image k byte) (take-set-lt size (drop headerSize image) k byte inside)
 
   pub changed-byte :
-      (number count : ℕ) → size ≡ 2 * count → Bytes image → byte < 256 → (byte ≡ getD image (headerSize + k) 0 → ⊥) →
-      imageFault size image number ≡ 0 → imageFault size (set image (headerSize + k) byte) number ≡ 0 → ⊥
+      (block code count : ℕ) → size ≡ 2 * count → Bytes image → byte < 256 → (byte ≡ getD image (headerSize + k) 0 → ⊥) →
+      imageFault size image block code ≡ 0 → imageFault size (set image (headerSize + k) byte) block code ≡ 0 → ⊥
   unfolding foundIn dataOf
-  changed-byte number count even h l apart good again =
+  changed-byte block code count even h l apart good again =
       let kept = dataOf size image in
-      let long : length kept ≡ size = length-data size image (image-length image size number good) in
+      let long : length kept ≡ size = length-data size image (image-length image size block code good) in
       let changed = set image (headerSize + k) byte in
       let bytes = below-take size (drop headerSize image) (omega arith) (below-drop headerSize image h) in
       let held : getD kept k 0 ≡ getD image (headerSize + k) 0 = getD-take size (drop headerSize image) k 0 inside ∙ getD-drop headerSize image k 0 in
-      let first : storedIn size image ≡ dataCode kept = good-image size image number good in
-      let second : storedIn size changed ≡ dataCode (dataOf size changed) = good-image size changed number again in
+      let first : storedIn size image ≡ dataCode kept = good-image size image block code good in
+      let second : storedIn size changed ≡ dataCode (dataOf size changed) = good-image size changed block code again in
       let same : dataCode (set kept k byte) ≡ dataCode kept = sym (ap dataCode data-changed) ∙ sym second ∙ stored-kept ∙ first in
       apart (one-byte count kept bytes (long ∙ even) k byte l (rw long inside) same ∙ held)

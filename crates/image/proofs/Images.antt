@@ -21,10 +21,9 @@ use Rattle.words.proofs.Stores.{sets-append}
 use Rattle.seek.proofs.Times.{times-all}
 use Rattle.image.specs.Code.{dataCode, complement, carried}
 use Rattle.image.specs.Image.{copiesMade, copies, Stands, headerOf, dataOf, storedIn, foundIn, imageOf, contentsFault}
-use Rattle.image.specs.Judged.{ContentsJudged}
 use Rattle.image.proofs.Coding.{codeOf-below}
 use Rattle.image.proofs.Copies.{stands-header}
-use Rattle.image.proofs.Exact.{sector-exactly}
+use Rattle.image.proofs.Exact.{sector-good, sector-forced}
 
 pub replicate-below : {bound : ℕ} (count n : ℕ) → 0 < bound → n < bound → Below bound (replicate count n)
 replicate-below zero n some h k = some
@@ -127,11 +126,11 @@ module _ (number : ℕ) where
     pub written-good : contentsFault (length bytes) (imageOf number bytes false) number ≡ 0
     unfolding foundIn carried
     written-good =
-        sector-exactly (imageOf number bytes false) (length bytes) number .only 0
-        (ContentsJudged.good (written-stands bytes false fits) (written-code bytes false h ∙ sym (ap dataCode (written-data bytes false))))
+        sector-good (imageOf number bytes false) (length bytes) number (written-stands bytes false fits)
+        (written-code bytes false h ∙ sym (ap dataCode (written-data bytes false)))
 
     pub written-forced : contentsFault (length bytes) (imageOf number bytes true) number ≡ forcedError
     unfolding foundIn carried
     written-forced =
-        sector-exactly (imageOf number bytes true) (length bytes) number .only forcedError
-        (ContentsJudged.forced (written-stands bytes true fits) (written-code bytes true h ∙ sym (ap (λ (found : List ℕ). complement (dataCode found)) (written-data bytes true))))
+        sector-forced (imageOf number bytes true) (length bytes) number (written-stands bytes true fits)
+        (written-code bytes true h ∙ sym (ap (λ (found : List ℕ). complement (dataCode found)) (written-data bytes true)))

@@ -50,9 +50,9 @@ module _ (bytes : RefT (List ℕ)) (at : ℕ) (held : List ℕ) (bytes′ : RefT
   part-one zero = lends-one bytes′ at′ held′
   part-one (suc fault) = lends-one bytes at held
 
-module _ (size : ℕ) (image : RefT (List ℕ)) (number : ℕ) where
+module _ (size : ℕ) (image : RefT (List ℕ)) (block code : ℕ) where
   abbrev fault : ℕ
-  fault = imageFault size (image .now) number
+  fault = imageFault size (image .now) block code
 
   abbrev Empty : RefT (List ℕ) → Type 0
   Empty = Lends image 0 []
@@ -60,26 +60,26 @@ module _ (size : ℕ) (image : RefT (List ℕ)) (number : ℕ) where
   abbrev Whole : RefT (List ℕ) → Type 0
   Whole = Lends image headerSize (dataOf size (image .now))
 
-  pub lends-empty : (part : RefT (List ℕ)) → (imageFault size (image .now) number ≡ 0 → ⊥) → Lends image 0 [] part → DataSized size image number part
+  pub lends-empty : (part : RefT (List ℕ)) → (imageFault size (image .now) block code ≡ 0 → ⊥) → Lends image 0 [] part → DataSized size image block code part
   lends-empty part = refuses-part Empty Whole part fault
 
-  module _ (part : RefT (List ℕ)) (lent : DataSized size image number part) where
-    pub refused-empty : (imageFault size (image .now) number ≡ 0 → ⊥) → part .now ≡ []
+  module _ (part : RefT (List ℕ)) (lent : DataSized size image block code part) where
+    pub refused-empty : (imageFault size (image .now) block code ≡ 0 → ⊥) → part .now ≡ []
     refused-empty some = part-refused Empty Whole part fault some lent .holds
 
-    pub accepted-data : imageFault size (image .now) number ≡ 0 → part .now ≡ dataOf size (image .now)
+    pub accepted-data : imageFault size (image .now) block code ≡ 0 → part .now ≡ dataOf size (image .now)
     accepted-data none = part-accepted Empty Whole part fault none lent .holds
 
-    pub accepted-lies : imageFault size (image .now) number ≡ 0 → part .ptr ≡ (image .ptr .0, headerSize + image .ptr .1)
+    pub accepted-lies : imageFault size (image .now) block code ≡ 0 → part .ptr ≡ (image .ptr .0, headerSize + image .ptr .1)
     accepted-lies none = part-accepted Empty Whole part fault none lent .lies
 
-    pub empty-refused : 0 < size → part .now ≡ [] → imageFault size (image .now) number ≡ 0 → ⊥
+    pub empty-refused : 0 < size → part .now ≡ [] → imageFault size (image .now) block code ≡ 0 → ⊥
     empty-refused some empty none =
-        let long : length (dataOf size (image .now)) ≡ size = length-data size (image .now) (image-length (image .now) size number none) in
+        let long : length (dataOf size (image .now)) ≡ size = length-data size (image .now) (image-length (image .now) size block code none) in
         omega (arith, ap length (sym (accepted-data none) ∙ empty))
 
   -- two parts that the promise allows hold the same and lie at the same place
   pub data-one :
       (first second : RefT (List ℕ)) →
-      DataSized size image number first → DataSized size image number second → (first .now ≡ second .now) × (first .ptr ≡ second .ptr)
+      DataSized size image block code first → DataSized size image block code second → (first .now ≡ second .now) × (first .ptr ≡ second .ptr)
   data-one = part-one image 0 [] image headerSize (dataOf size (image .now)) fault

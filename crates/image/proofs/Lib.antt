@@ -1,6 +1,7 @@
 pub mod Xor
 pub mod Coding
 pub mod Copies
+pub mod Headers
 pub mod Exact
 pub mod Images
 pub mod Changed

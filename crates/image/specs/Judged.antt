@@ -27,13 +27,19 @@ GoodCode size image = storedIn size image ≡ foundIn size image
 abbrev pub ForcedCode : ℕ → List ℕ → Type 0
 ForcedCode size image = storedIn size image ≡ complement (foundIn size image)
 
+-- a number stands in the header that says this code and this block
+pub record HeadSays (image : List ℕ) (code block : ℕ) : Type 0 where
+  pub number : ℕ
+  pub stands : Stands image number
+  pub says : Says number code block
+
 -- exactly when each number is given for an image of the right length whose header is to say a block and a code
 pub data ContentsJudged (size : ℕ) (image : List ℕ) (block code : ℕ) : ℕ → Type 0 where
   no-address : ((m : ℕ) → Stands image m → ⊥) → ContentsJudged size image block code noAddress
   other-block : (m : ℕ) → Stands image m → (Says m code block → ⊥) → ContentsJudged size image block code otherBlock
-  good : (m : ℕ) → Stands image m → Says m code block → GoodCode size image → ContentsJudged size image block code 0
-  forced : (m : ℕ) → Stands image m → Says m code block → ForcedCode size image → ContentsJudged size image block code forcedError
-  neither : (m : ℕ) → Stands image m → Says m code block → (GoodCode size image → ⊥) → (ForcedCode size image → ⊥) → ContentsJudged size image block code badCode
+  good : HeadSays image code block → GoodCode size image → ContentsJudged size image block code 0
+  forced : HeadSays image code block → ForcedCode size image → ContentsJudged size image block code forcedError
+  neither : HeadSays image code block → (GoodCode size image → ⊥) → (ForcedCode size image → ⊥) → ContentsJudged size image block code badCode
 
 -- a number stands in the header, and its code is none of the three
 pub record FourthCode (image : List ℕ) : Type 0 where

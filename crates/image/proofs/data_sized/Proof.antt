@@ -25,7 +25,7 @@ part-result-end c = search needs
 returns : tie.Need-returns
 returns c =
     let a = c .before .before .before .before .args in
-    lends-empty (a .size) (a .image) (a .number) _ (λ none. c .before .if1 .taken (c .before .before .image-fault .ensures ∙ none)) (record { holds = refl; lies = refl })
+    lends-empty (a .size) (a .image) (a .block) (a .code) _ (λ none. c .before .if1 .taken (c .before .before .image-fault .ensures ∙ none)) (record { holds = refl; lies = refl })
 
 add-result : tie.Need-add-result
 add-result c = search needs
@@ -39,12 +39,12 @@ part-result-start-2 c = search needs
 part-result-end-2 : tie.Need-part-result-end-2
 part-result-end-2 c =
     let a = c .before .before .before .args in
-    omega (arith, image-length (a .image .now) (a .size) (a .number) (sym (c .before .image-fault .ensures) ∙ c .if1 .left))
+    omega (arith, image-length (a .image .now) (a .size) (a .block) (a .code) (sym (c .before .image-fault .ensures) ∙ c .if1 .left))
 
 returns-2 : tie.Need-returns-2
 returns-2 c =
     let a = c .before .before .before .before .args in
-    let none : imageFault (a .size) (a .image .now) (a .number) ≡ 0 = sym (c .before .before .image-fault .ensures) ∙ c .before .if1 .left in
+    let none : imageFault (a .size) (a .image .now) (a .block) (a .code) ≡ 0 = sym (c .before .before .image-fault .ensures) ∙ c .before .if1 .left in
     rw none (record { holds = data-part (a .size) (a .image .now); lies = refl })
 
 pub data-sized-spec : {M : Type 1} → statement M
