@@ -16,15 +16,21 @@ use Rattle.paper.proofs.Rows.{Tells, tells-eq, tells-not, row, rows, rows-passe
 use Rattle.shape.specs.declared.Shape.{Shape}
 use Rattle.layout.specs.declared.Drive.{Drive}
 use Rattle.layout.specs.Layouts.{driveOf}
+use Rattle.layout.proofs.Sectors.{blocks-few}
 use Rattle.table.specs.Rules.{Sound, blockFault, BlockJudged}
 use Rattle.table.specs.Steps.{Obeys}
-use Rattle.table.proofs.Exact.{sound-obeys, block-sound, block-below, block-exactly}
+use Rattle.table.proofs.Exact.{sound-laid, sound-obeys, block-sound, block-below, block-exactly}
+use Rattle.words.specs.Coded.{codeUnit}
 use Rattle.image.specs.Image.{contentsFault}
 use Rattle.image.proofs.Exact.{sector-exactly}
-use Rattle.reading.specs.Tracks.{trackOf, sectorIn, bytesIn, imageAt, imageFor, headerFor}
+use Rattle.reading.specs.Tracks.{trackOf, sectorIn, bytesIn, imageAt, imageFor, codeFor, headerFor}
 use Rattle.reading.specs.Faults.{otherTracks, lentFault, blockReadFault}
 use Rattle.reading.specs.Judged.{LengthsJudged, LyingJudged, lies, BlockReadJudged}
-use Rattle.reading.proofs.Tracks.{seated, seated-only}
+use Rattle.reading.proofs.Tracks.{seated, seated-only, header-says}
+
+-- a block of a drive is one that a header can carry
+pub block-few : {shape : Shape} {r : ℕ} {t : List ℕ} {b : ℕ} → Sound shape r t → b < driveOf shape r .blocks → b < codeUnit
+block-few sound below = omega (arith, blocks-few (sound-laid sound))
 
 -- what is known of a drive, a table, a block and two images that pass 11, 5 and 14, and 1 before them
 pub record Lent (size : ℕ) (shape : Shape) (r : ℕ) (t : List ℕ) (b : ℕ) (home spare : List ℕ) : Type 0 where
@@ -33,21 +39,22 @@ pub record Lent (size : ℕ) (shape : Shape) (r : ℕ) (t : List ℕ) (b : ℕ) 
   pub home-long : length home ≡ bytesIn size (shape .sectors)
   pub spare-long : length spare ≡ bytesIn size (shape .sectors)
 
--- of a table that obeys its rules the sector image where a block lies gives one number
+-- of a table that obeys its rules, and a block of so few bits that a header can carry it, the sector image where the block lies gives one number
 pub lying-exactly :
-    (size : ℕ) (drive : Drive) (t : List ℕ) (b : ℕ) (home spare : List ℕ) → Obeys drive t →
-    Exactly (LyingJudged size drive t b home spare) (contentsFault size (imageFor size drive t b home spare) (headerFor drive t b))
-lying-exactly size drive t b home spare o = record { judged = judged; only = only }
+    (size : ℕ) (drive : Drive) (t : List ℕ) (b : ℕ) (home spare : List ℕ) → Obeys drive t → b < codeUnit →
+    Exactly (LyingJudged size drive t b home spare) (contentsFault size (imageFor size drive t b home spare) (headerFor t b))
+lying-exactly size drive t b home spare o few = record { judged = judged; only = only }
   where
-    judged : LyingJudged size drive t b home spare (contentsFault size (imageFor size drive t b home spare) (headerFor drive t b))
+    judged : LyingJudged size drive t b home spare (contentsFault size (imageFor size drive t b home spare) (headerFor t b))
     judged =
-        lies (trackOf t b home spare) (sectorIn drive t b) (seated drive t b home spare)
-        (sector-exactly (imageFor size drive t b home spare) size (headerFor drive t b) .judged)
+        lies (trackOf t b home spare) (sectorIn drive t b) (codeFor t b) (seated drive t b home spare)
+        (sector-exactly (imageFor size drive t b home spare) size (headerFor t b) b (codeFor t b) (header-says t b few) .judged)
 
-    only : (k : ℕ) → LyingJudged size drive t b home spare k → contentsFault size (imageFor size drive t b home spare) (headerFor drive t b) ≡ k
-    only k (lies track sector seat found) =
+    only : (k : ℕ) → LyingJudged size drive t b home spare k → contentsFault size (imageFor size drive t b home spare) (headerFor t b) ≡ k
+    only k (lies track sector code seat found) =
         let one = seated-only drive t b home spare o seat in
-        rw (one .0, one .1) (sector-exactly (imageAt size (bytesIn size sector) track) size (headerFor drive t b) .only k found)
+        rw (one .0, one .1)
+        (sector-exactly (imageAt size (bytesIn size sector) track) size (headerFor t b) b code (rw (one .2) at (header-says t b few)) .only k found)
 
 module _ (size : ℕ) (shape : Shape) (home spare : List ℕ) where
   tells-other-length : Tells (otherTracks size shape home spare) ((length home ≡ bytesIn size (shape .sectors) → ⊥) ⊎ (length spare ≡ bytesIn size (shape .sectors) → ⊥))
@@ -84,4 +91,5 @@ module _ (size : ℕ) (shape : Shape) (r : ℕ) (t scratch : List ℕ) (b : ℕ)
       (λ none.
       rows (LengthsJudged size shape home spare) (LyingJudged size (driveOf shape r) t b home spare)
       (row (tells-other-length size shape home spare) wrongLength)
-      (lying-exactly size (driveOf shape r) t b home spare (sound-obeys (block-sound shape r t scratch b none)))))
+      (lying-exactly size (driveOf shape r) t b home spare (sound-obeys (block-sound shape r t scratch b none))
+      (block-few (block-sound shape r t scratch b none) (block-below shape r t scratch b none)))))

@@ -59,7 +59,10 @@ module _ (size : ℕ) (shape : Shape) (r : ℕ) (t : List ℕ) (b : ℕ) where
     pub seat-replaced : seat .replaced ≡ isReplaced t b
     seat-replaced = ap (λ (s : Seat). s .replaced) found
 
-    -- the track and the header by it are those of the block
+    seat-header : seat .header ≡ headerFor t b
+    seat-header = ap (λ (s : Seat). s .header) found
+
+    -- the track by it is that of the block, and so is what is judged there
     module _ (home spare : RefT (List ℕ)) {track : RefT (List ℕ)} (given-track : track ≡ pick (seat .replaced) spare home) where
       pub seat-track : track .now ≡ trackOf t b (home .now) (spare .now)
       seat-track =
@@ -68,10 +71,9 @@ module _ (size : ℕ) (shape : Shape) (r : ℕ) (t : List ℕ) (b : ℕ) where
           ∙ track-now t b home spare
 
       pub seat-fault :
-          {number fault : ℕ} → number ≡ headerFor drive t b →
-          fault ≡ contentsFault size (imageAt size (seat .sector * (size + imageExtra)) (track .now)) number →
+          {fault : ℕ} → fault ≡ contentsFault size (imageAt size (seat .sector * (size + imageExtra)) (track .now)) (seat .header) →
           fault ≡ lyingFault size shape r t b (home .now) (spare .now)
-      seat-fault header judged = judged ∙ rw (header, seat-track, seat-sector, is-drive)
+      seat-fault judged = judged ∙ rw (seat-header, seat-track, seat-sector)
 
 module _ (size : ℕ) (shape : Shape) (r : ℕ) (t scratch : List ℕ) (b : ℕ) (home spare : List ℕ) where
   pub read-lent : {fault : ℕ} → fault ≡ lentFault size shape r t scratch b home spare → (fault ≡ 0 → ⊥) → blockReadFault size shape r t scratch b home spare ≡ fault

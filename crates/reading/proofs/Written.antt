@@ -1,4 +1,4 @@
--- A read of a block whose sector holds a written image of it answers as it was written, whatever stands elsewhere in either track, a stale image at home included.
+-- A read of a block whose sector holds a written image of it, with the header that the table says, answers as it was written, whatever stands elsewhere in either track, a stale image at home included; with any other header it is refused 16.
 -- Assumes nothing.
 use Prim.Native.Nat.{ℕ, _+_, _%_, _^_, _<_, _≤_}
 use mathlib.Core.Path.{_≡_, sym, _∙_}
@@ -9,21 +9,21 @@ use lib.ListN.{length, getD}
 use lib.Seq.{sets}
 use denote.Ref.{RefT}
 use Rattle.paper.specs.Limits.{imageExtra}
-use Rattle.paper.specs.Refusals.{forcedError}
+use Rattle.paper.specs.Refusals.{otherBlock, forcedError}
 use Rattle.words.specs.Words.{Bytes}
 use Rattle.words.proofs.Stores.{part-sets}
 use Rattle.shape.specs.declared.Shape.{Shape}
 use Rattle.layout.specs.Layouts.{driveOf}
-use Rattle.layout.specs.Descriptors.{Names}
-use Rattle.layout.proofs.Sectors.{blocks-few}
 use Rattle.image.specs.Image.{imageOf}
-use Rattle.image.proofs.Images.{length-image, written-data, written-good, written-forced}
-use Rattle.reading.specs.Tracks.{Seated, on-spare, bytesIn, imageAt, imageFor, headerFor}
+use Rattle.image.proofs.Headers.{word-fits}
+use Rattle.image.proofs.Exact.{sector-other}
+use Rattle.image.proofs.Images.{length-image, written-stands, written-data, written-good, written-forced}
+use Rattle.reading.specs.Tracks.{Seated, bytesIn, imageAt, imageFor, headerFor}
 use Rattle.reading.specs.Faults.{lentFault, blockReadFault}
 use Rattle.reading.specs.Promises.{DataSized}
-use Rattle.reading.proofs.Tracks.{seated-only}
-use Rattle.table.proofs.Exact.{sound-laid, sound-obeys}
-use Rattle.reading.proofs.Exact.{Lent, lent-shows}
+use Rattle.reading.proofs.Tracks.{seated-only, code-known}
+use Rattle.table.proofs.Exact.{sound-obeys}
+use Rattle.reading.proofs.Exact.{block-few, Lent, lent-shows}
 use Rattle.reading.proofs.Spots.{read-lying}
 use Rattle.reading.proofs.Parts.{refused-empty, accepted-data}
 
@@ -38,63 +38,69 @@ image-stored start track number bytes forced inside =
 
 -- the header of a block fits its copies
 pub header-fits :
-    {size : ℕ} {shape : Shape} {r : ℕ} {t : List ℕ} {b : ℕ} {home spare : List ℕ} → Lent size shape r t b home spare → headerFor (driveOf shape r) t b < 2 ^ 32
+    {size : ℕ} {shape : Shape} {r : ℕ} {t : List ℕ} {b : ℕ} {home spare : List ℕ} → Lent size shape r t b home spare → headerFor t b < 2 ^ 32
 unfolding headerFor
-header-fits lent = omega (arith, lent .below, blocks-few (sound-laid (lent .sound)))
+header-fits {t = t} {b = b} lent = word-fits (code-known t b) (block-few (lent .sound) (lent .below))
 
 module _ (size : ℕ) (shape : Shape) (r : ℕ) (t scratch : List ℕ) (b : ℕ) where
   -- the sector image where a block lies
   lies-there :
-      {home spare track : List ℕ} {sector : ℕ} {image : List ℕ} → lentFault size shape r t scratch b home spare ≡ 0 →
-      Seated (driveOf shape r) t b home spare track sector → imageAt size (bytesIn size sector) track ≡ image →
+      {home spare track : List ℕ} {sector code : ℕ} {image : List ℕ} → lentFault size shape r t scratch b home spare ≡ 0 →
+      Seated (driveOf shape r) t b home spare track sector code → imageAt size (bytesIn size sector) track ≡ image →
       imageFor size (driveOf shape r) t b home spare ≡ image
-  lies-there {home} {spare} {track} {sector} none seat held =
+  lies-there {home} {spare} {track} {sector} {code} none seat held =
       let one = seated-only (driveOf shape r) t b home spare (sound-obeys (lent-shows size shape r t scratch b home spare none .sound)) seat in
       rw (one .0, one .1) held
 
   module _ (bytes : List ℕ) (long : length bytes ≡ size) (h : Bytes bytes) where
     module _
         {home spare track : List ℕ}
-        {sector : ℕ}
+        {sector code : ℕ}
         (none : lentFault size shape r t scratch b home spare ≡ 0)
-        (seat : Seated (driveOf shape r) t b home spare track sector)
+        (seat : Seated (driveOf shape r) t b home spare track sector code)
       where
         -- good as it was written
-        pub good-read : imageAt size (bytesIn size sector) track ≡ imageOf (headerFor (driveOf shape r) t b) bytes false → blockReadFault size shape r t scratch b home spare ≡ 0
+        pub good-read : imageAt size (bytesIn size sector) track ≡ imageOf (headerFor t b) bytes false → blockReadFault size shape r t scratch b home spare ≡ 0
         good-read held =
             read-lying size shape r t scratch b home spare none
-            ∙ rw (lies-there none seat held, ← long) (written-good (headerFor (driveOf shape r) t b) bytes (header-fits (lent-shows size shape r t scratch b home spare none)) h)
+            ∙ rw (lies-there none seat held, ← long) (written-good (headerFor t b) bytes (header-fits (lent-shows size shape r t scratch b home spare none)) h)
 
         -- or forced
-        pub forced-read : imageAt size (bytesIn size sector) track ≡ imageOf (headerFor (driveOf shape r) t b) bytes true → blockReadFault size shape r t scratch b home spare ≡ forcedError
+        pub forced-read : imageAt size (bytesIn size sector) track ≡ imageOf (headerFor t b) bytes true → blockReadFault size shape r t scratch b home spare ≡ forcedError
         forced-read held =
             read-lying size shape r t scratch b home spare none
-            ∙ rw (lies-there none seat held, ← long) (written-forced (headerFor (driveOf shape r) t b) bytes (header-fits (lent-shows size shape r t scratch b home spare none)) h)
+            ∙ rw (lies-there none seat held, ← long) (written-forced (headerFor t b) bytes (header-fits (lent-shows size shape r t scratch b home spare none)) h)
+
+        -- and 16 with any other header
+        pub other-read :
+            (number : ℕ) (forced : Bool) → number < 2 ^ 32 → (number ≡ headerFor t b → ⊥) → imageAt size (bytesIn size sector) track ≡ imageOf number bytes forced →
+            blockReadFault size shape r t scratch b home spare ≡ otherBlock
+        other-read number forced fits other held =
+            read-lying size shape r t scratch b home spare none
+            ∙ rw (lies-there none seat held) (sector-other (imageOf number bytes forced) size (headerFor t b) number (written-stands number bytes forced fits) other)
 
     module _
         (home spare part : RefT (List ℕ))
         (given-part : DataSized size shape r t scratch b home spare part)
         {track : List ℕ}
-        {sector : ℕ}
+        {sector code : ℕ}
         (none : lentFault size shape r t scratch b (home .now) (spare .now) ≡ 0)
-        (seat : Seated (driveOf shape r) t b (home .now) (spare .now) track sector)
+        (seat : Seated (driveOf shape r) t b (home .now) (spare .now) track sector code)
       where
         -- exactly the data comes back, or an empty part
-        pub good-part : imageAt size (bytesIn size sector) track ≡ imageOf (headerFor (driveOf shape r) t b) bytes false → part .now ≡ bytes
+        pub good-part : imageAt size (bytesIn size sector) track ≡ imageOf (headerFor t b) bytes false → part .now ≡ bytes
         good-part held =
             accepted-data size shape r t scratch b home spare part given-part (good-read none seat held)
-            ∙ rw (lies-there none seat held, ← long) (written-data (headerFor (driveOf shape r) t b) bytes false)
+            ∙ rw (lies-there none seat held, ← long) (written-data (headerFor t b) bytes false)
 
-        pub forced-part : imageAt size (bytesIn size sector) track ≡ imageOf (headerFor (driveOf shape r) t b) bytes true → part .now ≡ []
+        pub forced-part : imageAt size (bytesIn size sector) track ≡ imageOf (headerFor t b) bytes true → part .now ≡ []
         forced-part held =
             refused-empty size shape r t scratch b home spare part given-part
             (λ passed. let same : forcedError ≡ 0 = sym (forced-read none seat held) ∙ passed in omega arith)
 
-    -- an older image of a replaced block may still stand at its home
-    pub stale-home :
-        (home spare part : RefT (List ℕ)) → DataSized size shape r t scratch b home spare part → lentFault size shape r t scratch b (home .now) (spare .now) ≡ 0 →
-        (q : ℕ) → q < length t → Names (getD t q 0) b → (old : List ℕ) →
-        imageAt size (bytesIn size (b % driveOf shape r .l)) (home .now) ≡ imageOf (headerFor (driveOf shape r) t b) old false →
-        imageAt size (bytesIn size (driveOf shape r .l + q % r)) (spare .now) ≡ imageOf (headerFor (driveOf shape r) t b) bytes false →
-        part .now ≡ bytes
-    stale-home home spare part given-part none q in-table named old stale held = good-part home spare part given-part none (on-spare q in-table named) held
+        pub other-part :
+            (number : ℕ) (forced : Bool) → number < 2 ^ 32 → (number ≡ headerFor t b → ⊥) → imageAt size (bytesIn size sector) track ≡ imageOf number bytes forced →
+            part .now ≡ []
+        other-part number forced fits other held =
+            refused-empty size shape r t scratch b home spare part given-part
+            (λ passed. let same : otherBlock ≡ 0 = sym (other-read none seat number forced fits other held) ∙ passed in omega arith)

@@ -43,47 +43,44 @@ mul-start c =
 track-of-requires : tie.Need-track-of-requires
 track-of-requires c κs = search needs
 
-header-for-requires : tie.Need-header-for-requires
-header-for-requires c κs = search needs
-
 part-fault-requires : tie.Need-part-fault-requires
 part-fault-requires c κs =
-    let a = c .before .before .before .before .before .before .before .before .before .before .before .before .before .before .args in
-    let lent = lent-shows _ _ _ _ _ _ _ _ (sym (c .before .before .before .before .before .before .before .before .lent-fault .ensures .0) ∙ c .before .before .before .before .before .if1 .left) in
-    rw (seat-sector (a .size) (a .shape) (a .r) (a .table .now) (a .block) (c .before .before .before .before .drive-of .ensures) (c .before .before .before .seat-of .ensures), seat-track (a .size) (a .shape) (a .r) (a .table .now) (a .block) (c .before .before .before .before .drive-of .ensures) (c .before .before .before .seat-of .ensures) (a .home) (a .spare) (c .before .track-of .ensures), track-long lent) (lies-inside lent)
+    let a = c .before .before .before .before .before .before .before .before .before .before .before .before .before .args in
+    let lent = lent-shows _ _ _ _ _ _ _ _ (sym (c .before .before .before .before .before .before .before .lent-fault .ensures .0) ∙ c .before .before .before .before .if1 .left) in
+    rw (seat-sector (a .size) (a .shape) (a .r) (a .table .now) (a .block) (c .before .before .before .drive-of .ensures) (c .before .before .seat-of .ensures), seat-track (a .size) (a .shape) (a .r) (a .table .now) (a .block) (c .before .before .before .drive-of .ensures) (c .before .before .seat-of .ensures) (a .home) (a .spare) (c .track-of .ensures), track-long lent) (lies-inside lent)
 
 same-length-2 : tie.Need-same-length-2
 same-length-2 c = search needs
 
 returns-2 : tie.Need-returns-2
 returns-2 c = (
-  let a = c .before .before .before .before .before .before .before .before .before .before .before .before .before .before .before .before .args in
-      let found = seat-fault (a .size) (a .shape) (a .r) (a .table .now) (a .block) (c .before .before .before .before .before .before .drive-of .ensures) (c .before .before .before .before .before .seat-of .ensures) (a .home) (a .spare) (c .before .before .before .track-of .ensures) (c .before .before .header-for .ensures) (c .before .part-fault .ensures) in
-      spot-refused _ _ _ _ _ _ _ _ (read-lying _ _ _ _ _ _ _ _ (sym (c .before .before .before .before .before .before .before .before .before .before .lent-fault .ensures .0) ∙ c .before .before .before .before .before .before .before .if1 .left) ∙ sym found) (c .if2 .taken),
-  c .before .before .before .before .before .before .before .before .before .before .lent-fault .ensures .1,
+  let a = c .before .before .before .before .before .before .before .before .before .before .before .before .before .before .before .args in
+      let found = seat-fault (a .size) (a .shape) (a .r) (a .table .now) (a .block) (c .before .before .before .before .before .drive-of .ensures) (c .before .before .before .before .seat-of .ensures) (a .home) (a .spare) (c .before .before .track-of .ensures) (c .before .part-fault .ensures) in
+      spot-refused _ _ _ _ _ _ _ _ (read-lying _ _ _ _ _ _ _ _ (sym (c .before .before .before .before .before .before .before .before .before .lent-fault .ensures .0) ∙ c .before .before .before .before .before .before .if1 .left) ∙ sym found) (c .if2 .taken),
+  c .before .before .before .before .before .before .before .before .before .lent-fault .ensures .1,
 )
 
 add-offset : tie.Need-add-offset
 add-offset c =
-    let a = c .before .before .before .before .before .before .before .before .before .before .before .before .before .before .before .before .args in
-    let lent = lent-shows _ _ _ _ _ _ _ _ (sym (c .before .before .before .before .before .before .before .before .before .before .lent-fault .ensures .0) ∙ c .before .before .before .before .before .before .before .if1 .left) in
-    rw (seat-sector (a .size) (a .shape) (a .r) (a .table .now) (a .block) (c .before .before .before .before .before .before .drive-of .ensures) (c .before .before .before .before .before .seat-of .ensures)) (omega (arith, end-fits lent (c .before .before .before .before .before .before .before .before .before .before .before .before .before .before .before .before .pre)))
+    let a = c .before .before .before .before .before .before .before .before .before .before .before .before .before .before .before .args in
+    let lent = lent-shows _ _ _ _ _ _ _ _ (sym (c .before .before .before .before .before .before .before .before .before .lent-fault .ensures .0) ∙ c .before .before .before .before .before .before .if1 .left) in
+    rw (seat-sector (a .size) (a .shape) (a .r) (a .table .now) (a .block) (c .before .before .before .before .before .drive-of .ensures) (c .before .before .before .before .seat-of .ensures)) (omega (arith, end-fits lent (c .before .before .before .before .before .before .before .before .before .before .before .before .before .before .before .pre)))
 
 cast-offset : tie.Need-cast-offset
 cast-offset c =
-    let a = c .before .before .before .before .before .before .before .before .before .before .before .before .before .before .before .before .args in
-    let lent = lent-shows _ _ _ _ _ _ _ _ (sym (c .before .before .before .before .before .before .before .before .before .before .lent-fault .ensures .0) ∙ c .before .before .before .before .before .before .before .if1 .left) in
-    rw (seat-sector (a .size) (a .shape) (a .r) (a .table .now) (a .block) (c .before .before .before .before .before .before .drive-of .ensures) (c .before .before .before .before .before .seat-of .ensures)) (omega (arith, end-fits lent (c .before .before .before .before .before .before .before .before .before .before .before .before .before .before .before .before .pre)))
+    let a = c .before .before .before .before .before .before .before .before .before .before .before .before .before .before .before .args in
+    let lent = lent-shows _ _ _ _ _ _ _ _ (sym (c .before .before .before .before .before .before .before .before .before .lent-fault .ensures .0) ∙ c .before .before .before .before .before .before .if1 .left) in
+    rw (seat-sector (a .size) (a .shape) (a .r) (a .table .now) (a .block) (c .before .before .before .before .before .drive-of .ensures) (c .before .before .before .before .seat-of .ensures)) (omega (arith, end-fits lent (c .before .before .before .before .before .before .before .before .before .before .before .before .before .before .before .pre)))
 
 same-length-3 : tie.Need-same-length-3
 same-length-3 c = search needs
 
 returns-3 : tie.Need-returns-3
 returns-3 c = (
-  let a = c .before .before .before .before .before .before .before .before .before .before .before .before .before .before .before .before .before .args in
-      let found = seat-fault (a .size) (a .shape) (a .r) (a .table .now) (a .block) (c .before .before .before .before .before .before .before .drive-of .ensures) (c .before .before .before .before .before .before .seat-of .ensures) (a .home) (a .spare) (c .before .before .before .before .track-of .ensures) (c .before .before .before .header-for .ensures) (c .before .before .part-fault .ensures) in
-      spot-found _ _ _ _ _ _ _ _ (read-lying _ _ _ _ _ _ _ _ (sym (c .before .before .before .before .before .before .before .before .before .before .before .lent-fault .ensures .0) ∙ c .before .before .before .before .before .before .before .before .if1 .left) ∙ sym found ∙ c .before .if2 .left) (rw (← seat-sector (a .size) (a .shape) (a .r) (a .table .now) (a .block) (c .before .before .before .before .before .before .before .drive-of .ensures) (c .before .before .before .before .before .before .seat-of .ensures), ← seat-replaced (a .size) (a .shape) (a .r) (a .table .now) (a .block) (c .before .before .before .before .before .before .before .drive-of .ensures) (c .before .before .before .before .before .before .seat-of .ensures), c .if3 .taken)),
-  c .before .before .before .before .before .before .before .before .before .before .before .lent-fault .ensures .1,
+  let a = c .before .before .before .before .before .before .before .before .before .before .before .before .before .before .before .before .args in
+      let found = seat-fault (a .size) (a .shape) (a .r) (a .table .now) (a .block) (c .before .before .before .before .before .before .drive-of .ensures) (c .before .before .before .before .before .seat-of .ensures) (a .home) (a .spare) (c .before .before .before .track-of .ensures) (c .before .before .part-fault .ensures) in
+      spot-found _ _ _ _ _ _ _ _ (read-lying _ _ _ _ _ _ _ _ (sym (c .before .before .before .before .before .before .before .before .before .before .lent-fault .ensures .0) ∙ c .before .before .before .before .before .before .before .if1 .left) ∙ sym found ∙ c .before .if2 .left) (rw (← seat-sector (a .size) (a .shape) (a .r) (a .table .now) (a .block) (c .before .before .before .before .before .before .drive-of .ensures) (c .before .before .before .before .before .seat-of .ensures), ← seat-replaced (a .size) (a .shape) (a .r) (a .table .now) (a .block) (c .before .before .before .before .before .before .drive-of .ensures) (c .before .before .before .before .before .seat-of .ensures), c .if3 .taken)),
+  c .before .before .before .before .before .before .before .before .before .before .lent-fault .ensures .1,
 )
 
 same-length-4 : tie.Need-same-length-4
@@ -91,10 +88,10 @@ same-length-4 c = search needs
 
 returns-4 : tie.Need-returns-4
 returns-4 c = (
-  let a = c .before .before .before .before .before .before .before .before .before .before .before .before .before .before .before .before .before .args in
-      let found = seat-fault (a .size) (a .shape) (a .r) (a .table .now) (a .block) (c .before .before .before .before .before .before .before .drive-of .ensures) (c .before .before .before .before .before .before .seat-of .ensures) (a .home) (a .spare) (c .before .before .before .before .track-of .ensures) (c .before .before .before .header-for .ensures) (c .before .before .part-fault .ensures) in
-      spot-found _ _ _ _ _ _ _ _ (read-lying _ _ _ _ _ _ _ _ (sym (c .before .before .before .before .before .before .before .before .before .before .before .lent-fault .ensures .0) ∙ c .before .before .before .before .before .before .before .before .if1 .left) ∙ sym found ∙ c .before .if2 .left) (rw (← seat-sector (a .size) (a .shape) (a .r) (a .table .now) (a .block) (c .before .before .before .before .before .before .before .drive-of .ensures) (c .before .before .before .before .before .before .seat-of .ensures), ← seat-replaced (a .size) (a .shape) (a .r) (a .table .now) (a .block) (c .before .before .before .before .before .before .before .drive-of .ensures) (c .before .before .before .before .before .before .seat-of .ensures), c .if3 .left)),
-  c .before .before .before .before .before .before .before .before .before .before .before .lent-fault .ensures .1,
+  let a = c .before .before .before .before .before .before .before .before .before .before .before .before .before .before .before .before .args in
+      let found = seat-fault (a .size) (a .shape) (a .r) (a .table .now) (a .block) (c .before .before .before .before .before .before .drive-of .ensures) (c .before .before .before .before .before .seat-of .ensures) (a .home) (a .spare) (c .before .before .before .track-of .ensures) (c .before .before .part-fault .ensures) in
+      spot-found _ _ _ _ _ _ _ _ (read-lying _ _ _ _ _ _ _ _ (sym (c .before .before .before .before .before .before .before .before .before .before .lent-fault .ensures .0) ∙ c .before .before .before .before .before .before .before .if1 .left) ∙ sym found ∙ c .before .if2 .left) (rw (← seat-sector (a .size) (a .shape) (a .r) (a .table .now) (a .block) (c .before .before .before .before .before .before .drive-of .ensures) (c .before .before .before .before .before .seat-of .ensures), ← seat-replaced (a .size) (a .shape) (a .r) (a .table .now) (a .block) (c .before .before .before .before .before .before .drive-of .ensures) (c .before .before .before .before .before .seat-of .ensures), c .if3 .left)),
+  c .before .before .before .before .before .before .before .before .before .before .lent-fault .ensures .1,
 )
 
 pub spot-sized-spec : {M : Type 1} → statement M
@@ -109,7 +106,6 @@ spot-sized-spec =
     add-start
     mul-start
     track-of-requires
-    header-for-requires
     part-fault-requires
     same-length-2
     returns-2
