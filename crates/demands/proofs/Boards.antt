@@ -10,7 +10,7 @@ use lib.Seq.{sets}
 use denote.Ref.{RefT}
 use Rattle.paper.specs.Checks.{pick, refuse, _orElse_, answer}
 use Rattle.paper.specs.Limits.{tableBlock, dataSize, headerSize, imageExtra}
-use Rattle.paper.specs.Refusals.{noSuchBlock, noRoom, badTable, noSpare, otherBlock, forcedError}
+use Rattle.paper.specs.Refusals.{noSuchBlock, noRoom, badTable, noSpare, otherBlock, forcedError, unknownCode}
 use Rattle.paper.specs.declared.Placed.{Placed}
 use Rattle.paper.specs.declared.Placed.the-variants.{At, Refused as NotPlaced}
 use Rattle.seek.specs.Search.{firstOr, rising}
@@ -41,7 +41,7 @@ use Rattle.format.specs.declared.Formatted.{Formatted}
 use Rattle.format.specs.declared.Formatted.the-variants.{Done, Refused as NotFormatted}
 use Rattle.layout.specs.declared.Drive.{Drive}
 use Rattle.layout.specs.Layouts.{driveOf, driveFault, homeSector, spareSector, homeCylinder, spareCylinder}
-use Rattle.layout.specs.Descriptors.{free, unusable, wordOf, numberOf, primary, isAllocated, names}
+use Rattle.layout.specs.Descriptors.{free, unusable, codeUnit, wordOf, codeOf, numberOf, primary, isAllocated, names}
 use Rattle.table.specs.Rules.{tableFault, blockFault as spareBlockFault}
 use Rattle.table.specs.Scratch.{scratchFault}
 use Rattle.table.specs.Places.{tableLength}
@@ -58,10 +58,13 @@ use Rattle.spares.specs.declared.Shifted.{Shifted}
 use Rattle.spares.specs.declared.Shifted.the-variants.{By, Refused as NotShifted}
 use Rattle.spares.specs.declared.Counted.{Counted}
 use Rattle.spares.specs.declared.Counted.the-variants.{Counts, Refused as NotCounted}
-use Rattle.image.specs.Image.{copiesMade, headerOf, storedIn, foundIn, dataOf, imageOf, lengthFault, copiesFault, contentsFault}
+use Rattle.image.specs.Header.{isKnown}
+use Rattle.image.specs.Image.{copiesMade, headerOf, storedIn, foundIn, dataOf, imageOf, lengthFault, copiesFault, codeFault, contentsFault}
+use Rattle.image.specs.declared.Head.{Head}
+use Rattle.image.specs.declared.Head.the-variants.{Of, Refused as NoHead}
 use Rattle.image.specs.declared.Verdict.{Verdict}
 use Rattle.image.specs.declared.Verdict.the-variants.{Good, Refused as NotGood}
-use Rattle.reading.specs.Tracks.{bytesIn, imageAt}
+use Rattle.reading.specs.Tracks.{bytesIn, imageAt, imageFor}
 use Rattle.reading.specs.Faults.{lentFault}
 use Rattle.demands.specs.Inputs.{few, eight}
 
@@ -104,9 +107,9 @@ newer = replicate 512 1
 unfoldable pub blank : List ℕ
 blank = replicate (bytesIn dataSize 5) 0
 
--- the same with a good image of block 6 on one sector
-unfoldable pub trackWith : ℕ → List ℕ → List ℕ
-trackWith sector bytes = sets blank (bytesIn dataSize sector) (imageOf 6 bytes false)
+-- the same with a good image on one sector, whose header carries this number
+unfoldable pub trackWith : ℕ → ℕ → List ℕ → List ℕ
+trackWith sector number bytes = sets blank (bytesIn dataSize sector) (imageOf number bytes false)
 
 -- an image of block 6 with a code that is neither that of its data, 5A3C, nor the complement, A5C3
 unfoldable pub damaged : List ℕ
@@ -362,13 +365,41 @@ takesLowest shape r t scratch b = (
 -- Boards for images.
 
 -- image::judge: takes every mismatch for a forced error
-abbrev pub everyForced : List ℕ → ℕ → Verdict
-everyForced image number =
+abbrev pub everyForced : List ℕ → ℕ → ℕ → Verdict
+everyForced image block code =
     answer
     (lengthFault (dataSize + imageExtra) image
     orElse (copiesFault image
-    orElse (refuse (not (eqb (headerOf image) number)) otherBlock
+    orElse (refuse (not (isKnown code && (eqb (codeOf (headerOf image)) code && eqb (numberOf (headerOf image)) block))) otherBlock
     orElse refuse (not (eqb (storedIn dataSize image) (foundIn dataSize image))) forcedError)))
+    NotGood Good
+
+-- image::judge: makes a word of whatever block and code are expected, and compares it
+abbrev pub comparesWord : List ℕ → ℕ → ℕ → Verdict
+comparesWord image block code = answer (lengthFault (dataSize + imageExtra) image orElse contentsFault dataSize image (wordOf code block)) NotGood Good
+
+-- image::header: answers whatever code the header has
+abbrev pub answersFourth : List ℕ → Head
+answersFourth image =
+    answer (lengthFault (dataSize + imageExtra) image orElse copiesFault image) NoHead (Of (codeOf (headerOf image)) (numberOf (headerOf image)))
+
+-- image::write: checks 14, 22, 5, 7
+abbrev pub codeFirst : ℕ → ℕ → List ℕ → List ℕ → ℕ
+codeFirst block code bytes room =
+    lengthFault dataSize bytes
+    orElse (refuse (not (isKnown code)) unknownCode
+    orElse (refuse (leb codeUnit block) noSuchBlock
+    orElse refuse (ltb (length room) (dataSize + imageExtra)) noRoom))
+
+-- reading::judge: of the header compares the block alone
+abbrev pub comparesBlock : Shape → ℕ → List ℕ → List ℕ → ℕ → List ℕ → List ℕ → Verdict
+comparesBlock shape r t scratch b home spare =
+    let image = imageFor dataSize (driveOf shape r) t b home spare in
+    answer
+    (lentFault dataSize shape r t scratch b home spare
+    orElse (copiesFault image
+    orElse (refuse (not (eqb (numberOf (headerOf image)) b)) otherBlock
+    orElse codeFault (storedIn dataSize image) (foundIn dataSize image))))
     NotGood Good
 
 -- the part of lent bytes that begins at a place of them

@@ -48,7 +48,7 @@ use Rattle.spares.specs.declared.Counted.{Counted}
 use Rattle.spares.specs.declared.Counted.the-variants.{Counts, Refused as NotCounted}
 use Rattle.image.specs.Promises.{saidHead, saidVerdict, GivesHead, GivesVerdict}
 use Rattle.image.specs.declared.Head.{Head}
-use Rattle.image.specs.declared.Head.the-variants.{Number, Refused as NoHead}
+use Rattle.image.specs.declared.Head.the-variants.{Of, Refused as NoHead}
 use Rattle.image.specs.declared.Verdict.{Verdict}
 use Rattle.image.specs.declared.Verdict.the-variants.{Good, Refused as NotGood}
 use Rattle.reading.specs.Promises.{saidSpot, GivesSpot}
@@ -160,7 +160,7 @@ module _ {Judged : ℕ → Type 0} {fault : ℕ} (exactly : Exactly Judged fault
       by-the-numbers (λ numbers. numbers .0) (λ k. refl) refl (λ k result. result ≡ NotCounted k) (λ k e. ap (λ (r : Counted). saidCounted r .0) e)
       (λ clash. let z : _≡_ {A = ℕ} 0 1 = cc in absurd (omega arith)) given exactly
 
-  pub head-by : {number : ℕ} {result : Head} → GivesHead fault (Number number) result → HeadBy Judged result
+  pub head-by : {code block : ℕ} {result : Head} → GivesHead fault (Of code block) result → HeadBy Judged result
   head-by given =
       by-the-numbers (λ numbers. numbers .0) (λ k. refl) refl (λ k result. result ≡ NoHead k) (λ k e. ap (λ (r : Head). saidHead r .0) e)
       (λ clash. let z : _≡_ {A = ℕ} 0 1 = cc in absurd (omega arith)) given exactly

@@ -50,7 +50,7 @@ use Rattle.spares.proofs.Exact.{block-on-exactly as spare-block-on-exactly, blo
 use Rattle.table.proofs.Exact.{block-exactly}
 use Rattle.image.specs.Image.{imageFault}
 use Rattle.image.specs.Judged.{HeaderJudged, ImageJudged, WriteJudged}
-use Rattle.image.specs.Promises.{Write, Header, Judge, Data}
+use Rattle.image.specs.Promises.{WriteSized, HeaderSized, JudgeSized, DataSized}
 use Rattle.image.specs.declared.Head.{Head}
 use Rattle.image.specs.declared.Verdict.{Verdict}
 use Rattle.image.proofs.Exact.{header-exactly, judge-exactly, write-exactly, image-length}
@@ -59,7 +59,7 @@ use Rattle.image.proofs.Lent.{refused-empty, accepted-data}
 use Rattle.reading.specs.Tracks.{dataStart}
 use Rattle.reading.specs.Faults.{blockReadFault}
 use Rattle.reading.specs.Judged.{BlockReadJudged}
-use Rattle.reading.specs.Promises.{Judge as ReadJudge, Data as ReadData, Spots}
+use Rattle.reading.specs.Promises.{JudgeSized as ReadJudge, DataSized as ReadData, SpotSized as Spots}
 use Rattle.reading.specs.declared.answers.Spot.{Spot}
 use Rattle.reading.proofs.Exact.{read-exactly}
 use Rattle.reading.proofs.Parts.{read-length, refused-empty as read-refused-empty, accepted-data as read-accepted-data}
@@ -182,56 +182,58 @@ module _ (shape : Shape) (r : ℕ) (list room : List ℕ) (result : Written) (af
   spares-first-table-keeps = keeps (λ said. said .0) (λ k. refl) refl promise
 
 -- the sector image
-module _ (number : ℕ) (bytes : List ℕ) (forced : Bool) (room : List ℕ) (result : Written) (after : List ℕ) (promise : Write number bytes forced room result after) where
-  pub image-write : WrittenBy (WriteJudged dataSize bytes room) result
-  image-write = written-by (write-exactly dataSize bytes room) (fills-gives promise)
+module _ (size block code : ℕ) (bytes : List ℕ) (forced : Bool) (room : List ℕ) (result : Written) (after : List ℕ) (promise : WriteSized size block code bytes forced room result after) where
+  pub image-write : WrittenBy (WriteJudged size block code bytes room) result
+  image-write = written-by (write-exactly size block code bytes room) (fills-gives promise)
 
   pub image-write-keeps : Keeps (saidWritten result .0) room after
   image-write-keeps = keeps (λ said. said .0) (λ k. refl) refl promise
 
-pub image-header : (image : List ℕ) (result : Head) → Header image result → HeadBy (HeaderJudged dataSize image) result
-image-header image result promise = head-by (header-exactly image dataSize) promise
+pub image-header : (size : ℕ) (image : List ℕ) (result : Head) → HeaderSized size image result → HeadBy (HeaderJudged size image) result
+image-header size image result promise = head-by (header-exactly image size) promise
 
-pub image-judge : (image : List ℕ) (number : ℕ) (result : Verdict) → Judge image number result → VerdictBy (ImageJudged dataSize image number) result
-image-judge image number result promise = verdict-by (judge-exactly image dataSize number) promise
+pub image-judge : (size : ℕ) (image : List ℕ) (block code : ℕ) (result : Verdict) → JudgeSized size image block code result → VerdictBy (ImageJudged size image block code) result
+image-judge size image block code result promise = verdict-by (judge-exactly image size block code) promise
 
 -- the part is empty exactly where the verdict refuses
-pub image-data : (image : RefT (List ℕ)) (number : ℕ) (part : RefT (List ℕ)) → Data image number part → PartBy (ImageJudged dataSize (image .now) number) dataSize (part .now)
-image-data image number part promise =
+pub image-data :
+    (size : ℕ) (image : RefT (List ℕ)) (block code : ℕ) (part : RefT (List ℕ)) → DataSized size image block code part →
+    PartBy (ImageJudged size (image .now) block code) size (part .now)
+image-data size image block code part promise =
     record {
-      number = imageFault dataSize (image .now) number;
-      exactly = judge-exactly (image .now) dataSize number;
-      refused-empty = refused-empty dataSize image number part promise;
+      number = imageFault size (image .now) block code;
+      exactly = judge-exactly (image .now) size block code;
+      refused-empty = refused-empty size image block code part promise;
       accepted-whole =
           λ passes.
-          ap length (accepted-data dataSize image number part promise passes)
-          ∙ length-data dataSize (image .now) (image-length (image .now) dataSize number passes);
+          ap length (accepted-data size image block code part promise passes)
+          ∙ length-data size (image .now) (image-length (image .now) size block code passes);
     }
 
 -- a read of a revectored block
-module _ (shape : Shape) (r : ℕ) (t scratch : List ℕ) (b : ℕ) where
+module _ (size : ℕ) (shape : Shape) (r : ℕ) (t scratch : List ℕ) (b : ℕ) where
   pub reading-judge :
-      (home spare : List ℕ) (result : Verdict) → ReadJudge shape r t scratch b home spare result →
-      VerdictBy (BlockReadJudged dataSize shape r t scratch b home spare) result
-  reading-judge home spare result promise = verdict-by (read-exactly dataSize shape r t scratch b home spare) promise
+      (home spare : List ℕ) (result : Verdict) → ReadJudge size shape r t scratch b home spare result →
+      VerdictBy (BlockReadJudged size shape r t scratch b home spare) result
+  reading-judge home spare result promise = verdict-by (read-exactly size shape r t scratch b home spare) promise
 
   pub reading-spot :
-      (home spare : List ℕ) (result : Spot) → Spots shape r t scratch b home spare result →
-      SpotBy (BlockReadJudged dataSize shape r t scratch b home spare) result
-  reading-spot home spare result promise = spot-by (read-exactly dataSize shape r t scratch b home spare) (isReplaced t b) (dataStart dataSize (driveOf shape r) t b) promise
+      (home spare : List ℕ) (result : Spot) → Spots size shape r t scratch b home spare result →
+      SpotBy (BlockReadJudged size shape r t scratch b home spare) result
+  reading-spot home spare result promise = spot-by (read-exactly size shape r t scratch b home spare) (isReplaced t b) (dataStart size (driveOf shape r) t b) promise
 
   pub reading-data :
-      (home spare part : RefT (List ℕ)) → ReadData shape r t scratch b home spare part →
-      PartBy (BlockReadJudged dataSize shape r t scratch b (home .now) (spare .now)) dataSize (part .now)
+      (home spare part : RefT (List ℕ)) → ReadData size shape r t scratch b home spare part →
+      PartBy (BlockReadJudged size shape r t scratch b (home .now) (spare .now)) size (part .now)
   reading-data home spare part promise =
       record {
-        number = blockReadFault dataSize shape r t scratch b (home .now) (spare .now);
-        exactly = read-exactly dataSize shape r t scratch b (home .now) (spare .now);
-        refused-empty = read-refused-empty dataSize shape r t scratch b home spare part promise;
+        number = blockReadFault size shape r t scratch b (home .now) (spare .now);
+        exactly = read-exactly size shape r t scratch b (home .now) (spare .now);
+        refused-empty = read-refused-empty size shape r t scratch b home spare part promise;
         accepted-whole =
             λ passes.
-            ap length (read-accepted-data dataSize shape r t scratch b home spare part promise passes)
-            ∙ read-length dataSize shape r t scratch b (home .now) (spare .now) passes;
+            ap length (read-accepted-data size shape r t scratch b home spare part promise passes)
+            ∙ read-length size shape r t scratch b (home .now) (spare .now) passes;
       }
 
 -- each sentence, call by call

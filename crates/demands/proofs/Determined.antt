@@ -107,27 +107,29 @@ module _ (shape : Shape) (r : ℕ) (t scratch : List ℕ) where
 pub spares-first-table : (shape : Shape) (r : ℕ) (list room : List ℕ) → OneFilled (FirstTable shape r list room)
 spares-first-table shape r list room = fills-determines _ _ _ _ _ _ _
 
-pub image-write : (number : ℕ) (bytes : List ℕ) (forced : Bool) (room : List ℕ) → OneFilled (Image.Write number bytes forced room)
-image-write number bytes forced room = fills-determines _ _ _ _ _ _ _
+module _ (size : ℕ) where
+  pub image-write : (block code : ℕ) (bytes : List ℕ) (forced : Bool) (room : List ℕ) → OneFilled (Image.WriteSized size block code bytes forced room)
+  image-write block code bytes forced room = fills-determines _ _ _ _ _ _ _
 
-pub image-header : (image : List ℕ) → OneResult (Image.Header image)
-image-header image = gives-determines _ _ _ _ _
+  pub image-header : (image : List ℕ) → OneResult (Image.HeaderSized size image)
+  image-header image = gives-determines _ _ _ _ _
 
-pub image-judge : (image : List ℕ) (number : ℕ) → OneResult (Image.Judge image number)
-image-judge image number = gives-determines _ _ _ _ _
+  pub image-judge : (image : List ℕ) (block code : ℕ) → OneResult (Image.JudgeSized size image block code)
+  image-judge image block code = gives-determines _ _ _ _ _
 
-pub image-data : (image : RefT (List ℕ)) (number : ℕ) → OneLent (Image.Data image number)
-image-data image number first second one other = let same = data-one dataSize image number first second one other in λ i. (same .0 i, same .1 i)
+  pub image-data : (image : RefT (List ℕ)) (block code : ℕ) → OneLent (Image.DataSized size image block code)
+  image-data image block code first second one other =
+      let same = data-one size image block code first second one other in λ i. (same .0 i, same .1 i)
 
-module _ (shape : Shape) (r : ℕ) (t scratch : List ℕ) (b : ℕ) where
-  pub reading-judge : (home spare : List ℕ) → OneResult (Reading.Judge shape r t scratch b home spare)
+module _ (size : ℕ) (shape : Shape) (r : ℕ) (t scratch : List ℕ) (b : ℕ) where
+  pub reading-judge : (home spare : List ℕ) → OneResult (Reading.JudgeSized size shape r t scratch b home spare)
   reading-judge home spare = gives-determines _ _ _ _ _
 
-  pub reading-data : (home spare : RefT (List ℕ)) → OneLent (Reading.Data shape r t scratch b home spare)
+  pub reading-data : (home spare : RefT (List ℕ)) → OneLent (Reading.DataSized size shape r t scratch b home spare)
   reading-data home spare first second one other =
-      let same = read-one dataSize shape r t scratch b home spare first second one other in λ i. (same .0 i, same .1 i)
+      let same = read-one size shape r t scratch b home spare first second one other in λ i. (same .0 i, same .1 i)
 
-  pub reading-spot : (home spare : List ℕ) → OneResult (Reading.Spots shape r t scratch b home spare)
+  pub reading-spot : (home spare : List ℕ) → OneResult (Reading.SpotSized size shape r t scratch b home spare)
   reading-spot home spare = gives-determines _ _ _ _ _
 
 -- what is left of scratch
@@ -135,8 +137,9 @@ pub scratch : (shape : Shape) (r : ℕ) (before : List ℕ) → OneResult (Scrat
 scratch shape r before first second one other = one ∙ sym other
 
 -- what an image holds has one verdict
-pub one-verdict : (image : List ℕ) (number j k : ℕ) → ContentsJudged dataSize image number j → ContentsJudged dataSize image number k → j ≡ k
-one-verdict image number j k = sector-one image dataSize number j k
+pub one-verdict :
+    (size : ℕ) (image : List ℕ) (block code j k : ℕ) → ContentsJudged size image block code j → ContentsJudged size image block code k → j ≡ k
+one-verdict size image block code j k = sector-one image size block code j k
 
 -- each of them
 pub each-determined : EachDetermined

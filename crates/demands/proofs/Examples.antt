@@ -1,22 +1,27 @@
 -- The paper's "Numbers to try" and ours beside them: every row of the table holds. Where a block lies is told by the walk, which is the definition; the rest is computed.
 -- Assumes nothing.
-use Prim.Native.Nat.{ℕ, suc, _+_, _≤_}
-use mathlib.Core.Path.{_≡_, refl, sym, _∙_}
+use Prim.Native.Nat.{ℕ, suc, _+_, _<_, _≤_}
+use mathlib.Core.Path.{_≡_, refl, sym, _∙_, ap}
 use mathlib.Core.Bool.{Bool, true, false, not, true≢false}
-use mathlib.Core.List.{List, [], _∷_}
+use mathlib.Core.Logic.{inl, inr}
+use mathlib.Core.List.{List, [], _∷_, _++_}
 use native.Mathlib.Omega.{arith}
 use lib.Dec.{eqb}
 use lib.IntN.{ℤ, pos}
-use lib.ListN.{length, getD, set, replicate, length-replicate}
+use lib.ListN.{length, getD, set, replicate, length-append, length-replicate}
 use borrow.Author.Tests.{lt-ltb, le-ltb}
 use Rattle.paper.specs.Answers.{saidNamed}
-use Rattle.paper.specs.Limits.{dataSize, imageExtra}
-use Rattle.paper.specs.Refusals.{noSpare}
+use Rattle.paper.specs.Limits.{dataSize, headerSize, imageExtra}
+use Rattle.paper.specs.Refusals.{noSpare, otherBlock}
 use Rattle.paper.specs.Promise.{Gives, Fills}
-use Rattle.paper.specs.Checks.{answer}
+use Rattle.paper.specs.Checks.{refuse, _orElse_, answer}
+use Rattle.paper.proofs.Chain.{answer-refused}
 use Rattle.paper.proofs.Kept.{gives, fills}
-use Rattle.words.specs.Words.{bytes16, bytes32, bytesOf, word16At}
-use Rattle.seek.specs.Count.{countBelow}
+use Rattle.paper.proofs.Rows.{tells-false}
+use Rattle.words.specs.Coded.{codeUnit, wordOf, numberOf}
+use Rattle.words.specs.Words.{bytes16, bytes32, bytesOf, word16At, word32At, entriesAt, Bytes}
+use Rattle.words.proofs.Runs.{length-bytesOf}
+use Rattle.seek.specs.Count.{countBelow, times}
 use Rattle.seek.specs.Every.{allBelow}
 use Rattle.seek.proofs.Everys.{every-here}
 use Rattle.seek.specs.Lowest.{firstBelow, faultBelow}
@@ -44,6 +49,7 @@ use Rattle.table.specs.Scratch.{Enough}
 use Rattle.table.proofs.Exact.{table-sound, table-alike, block-passes}
 use Rattle.table.specs.Places.{tableLength}
 use Rattle.table.specs.Lookup.{placeOf, liesOn, lyingOn}
+use Rattle.table.proofs.Lookups.{tells-replaced}
 use Rattle.table.specs.Counting.{censusOf}
 use Rattle.order.specs.Order.{outward}
 use Rattle.replacing.specs.Replacing.{spareFor, NoneFree, movedIn}
@@ -55,11 +61,19 @@ use Rattle.spares.specs.Spares as Spares
 use Rattle.spares.specs.Promises.{saidCounted}
 use Rattle.spares.proofs.Accepted.{no-spare-told}
 use Rattle.image.specs.Code.{wordsOf, rotated, codeAfter, codeFrom, dataCode, carried}
-use Rattle.image.specs.Image.{storedIn, imageOf, writeFault}
-use Rattle.image.proofs.Exact.{length-passes}
+use Rattle.image.specs.declared.Verdict.{Verdict}
+use Rattle.image.specs.Header.{Known, isKnown, Says}
+use Rattle.image.specs.Image.{copiesMade, copies, Stands, headerOf, storedIn, imageOf, copiesFault, headerFault, writeFault}
+use Rattle.image.specs.Judged.{ContentsJudged}
+use Rattle.image.specs.Promises.{saidVerdict}
+use Rattle.image.proofs.Headers.{tells-known}
+use Rattle.image.proofs.Exact.{length-passes, image-pair, pair-exactly, write-passes}
+use Rattle.reading.specs.Promises as Reading
+use Rattle.demands.specs.Headers.{Expected, own, descriptor, Holding}
+use Rattle.demands.proofs.Headers.{headers}
 use Rattle.demands.specs.Relations.{AllowsOnly}
 use Rattle.demands.specs.Inputs.{chart, small, eight, holding, noneReplaced, afterSeven, afterEight, afterSix, sevenOnFive, eightOnThree, sevenOnSix, sixOnTwo, sevenOnSeven, zeroOnZero, sevenOnOne, sevenPastFour, tall, tallWith}
-use Rattle.demands.specs.Rows.{skip-sector, skip-block, format, spare-first, spare-replace, spare-full, spare-shift, spare-address, spare-sector, spare-block, spare-census, spare-short, image-write, Holds, AllHold, done, _also_, zeros, firstOne, lastOne, paperRows}
+use Rattle.demands.specs.Rows.{skip-sector, skip-block, format, spare-first, spare-replace, spare-full, spare-shift, spare-address, spare-sector, spare-block, spare-census, spare-short, image-write, image-heads, image-unwritten, image-header, image-judge, read-judge, Holds, AllHold, done, _also_, zeros, firstOne, lastOne, paperRows}
 
 module _ {Answer Said : Type 0} {said : Answer → Said} {nothing : ℕ → Said} {refused : ℕ → Answer} {fault : ℕ} {accepted : Answer} (alone : (k : ℕ) → said (refused k) ≡ nothing k) where
   -- a promise allows the answer that its chain makes, and what holds of every answer that it allows
@@ -187,15 +201,92 @@ module _ (shape : Shape) (r : ℕ) where
 code-carried :
     (forced : Bool) (bytes : List ℕ) {code : ℕ} → length bytes ≡ dataSize →
     ((number : ℕ) (room : List ℕ) → storedIn dataSize (written (imageOf number bytes forced) room) ≡ code) → Holds (image-write forced bytes code)
-unfolding writeFault
-code-carried forced bytes {code} long stored number room fits =
-    let none : writeFault dataSize bytes room ≡ 0 = rw (length-passes dataSize bytes long, le-ltb (length room) (dataSize + imageExtra) fits) in
+code-carried forced bytes {code} long stored block header-code below known room fits =
+    let none : writeFault dataSize block header-code bytes room ≡ 0 = write-passes dataSize block header-code bytes room (record { long = long; below = below; known = known; fits = fits }) in
     allows-room (λ k. refl) (rw none) (λ held. storedIn dataSize held ≡ code)
-    (rw none (stored number room))
+    (rw none (stored (wordOf header-code block) room))
+
+heads-made :
+    (block code : ℕ) {heads : List ℕ} → block < codeUnit → Known code →
+    ((bytes : List ℕ) (forced : Bool) (room : List ℕ) → copies (written (imageOf (wordOf code block) bytes forced) room) ≡ heads) → Holds (image-heads block code heads)
+heads-made block code {heads} below known made bytes forced room long fits =
+    let none : writeFault dataSize block code bytes room ≡ 0 = write-passes dataSize block code bytes room (record { long = long; below = below; known = known; fits = fits }) in
+    allows-room (λ k. refl) (rw none) (λ held. copies held ≡ heads) (rw none (made bytes forced room))
+
+-- a write that is refused, for its lengths, its block or its code
+not-written :
+    (block code data-length room-length refusal : ℕ) → (refusal ≡ 0 → ⊥) →
+    ((bytes room : List ℕ) → length bytes ≡ data-length → length room ≡ room-length → writeFault dataSize block code bytes room ≡ refusal) →
+    Holds (image-unwritten block code data-length room-length refusal)
+not-written block code data-length room-length refusal some given bytes forced room long room-long =
+    let fault : writeFault dataSize block code bytes room ≡ refusal = given bytes room long room-long in
+    allows-room (λ k. refl) (rw fault (answer-refused refusal _ _ some)) (λ held. held ≡ room) (rw fault (answer-refused refusal _ _ some))
+
+-- an image of the right length, whose header says what its copies are
+module _ (heads : List ℕ) (four : length heads ≡ copiesMade) (rest : List ℕ) (long : headerSize + length rest ≡ dataSize + imageExtra) where
+  whole-image : length (bytesOf heads ++ rest) ≡ dataSize + imageExtra
+  whole-image = length-append (bytesOf heads) rest ∙ omega (arith, length-bytesOf heads)
+
+header-told :
+    (heads : List ℕ) {figures : ℕ × ℕ × ℕ} → length heads ≡ copiesMade →
+    ((rest : List ℕ) → answer (copiesFault (bytesOf heads ++ rest) orElse refuse (not (isKnown (codeOf (headerOf (bytesOf heads ++ rest))))) otherBlock) (λ k. (k, 0, 0)) (0, codeOf (headerOf (bytesOf heads ++ rest)), numberOf (headerOf (bytesOf heads ++ rest))) ≡ figures) →
+    Holds (image-header heads figures)
+unfolding headerFault
+header-told heads four said rest long =
+    allows (λ k. refl) (rw (length-passes (dataSize + imageExtra) (bytesOf heads ++ rest) (whole-image heads four rest long)) (said rest))
+
+-- a header that does not say the block and the code is judged 16, whatever follows
+judge-told :
+    (heads : List ℕ) (block code number : ℕ) → length heads ≡ copiesMade → ((rest : List ℕ) → Stands (bytesOf heads ++ rest) number) → (Says number code block → ⊥) →
+    Holds (image-judge heads block code otherBlock)
+judge-told heads block code number four stands other rest long =
+    let image = bytesOf heads ++ rest in
+    allows (λ k. refl)
+    (rw
+    (image-pair image dataSize block code (whole-image heads four rest long)
+    ∙ pair-exactly image dataSize block code .only otherBlock (ContentsJudged.other-block number (stands rest) other)))
+
+-- what every verdict is that a read allows
+read-told :
+    (shape : Shape) (r : ℕ) (table : List ℕ) (block number refusal : ℕ) →
+    ((home spare bytes judged : List ℕ) → Bytes bytes → Holding dataSize shape r table block home spare number bytes false → Enough shape r judged →
+    (verdict : Verdict) → Reading.Judge shape r table judged block home spare verdict → saidVerdict verdict ≡ refusal) →
+    Holds (read-judge shape r table block number refusal)
+read-told shape r table block number refusal every home spare bytes are-bytes held scratch enough =
+    allows-where (λ k. refl) (every home spare bytes scratch are-bytes held enough)
+
+-- with the number that is expected, or with another of the three codes
+read-good : (shape : Shape) (r : ℕ) (table : List ℕ) (block number : ℕ) → Expected table block number → Holds (read-judge shape r table block number 0)
+read-good shape r table block number expected =
+    read-told shape r table block number 0
+    (λ home spare bytes judged are-bytes held enough verdict given.
+    ap saidVerdict (headers .expected-good dataSize shape r table judged block home spare number bytes expected are-bytes held enough verdict given))
+
+read-other :
+    (shape : Shape) (r : ℕ) (table : List ℕ) (block number code : ℕ) → Expected table block number → Known code → (codeOf number ≡ code → ⊥) →
+    Holds (read-judge shape r table block (wordOf code block) otherBlock)
+read-other shape r table block number code expected known other =
+    read-told shape r table block (wordOf code block) otherBlock
+    (λ home spare bytes judged are-bytes held enough verdict given.
+    ap saidVerdict (headers .other-code dataSize shape r table judged block home spare number code bytes false expected known other held enough verdict given))
+
+-- of the small drive: blocks 7 and 8 lie on places 4 and 5, and block 6 at home
+seven-expected : Expected afterEight 7 0x20000007
+seven-expected = descriptor 4 (omega arith) (inl refl, refl)
+
+eight-expected : Expected afterEight 8 0x30000008
+eight-expected = descriptor 5 (omega arith) (inr refl, refl)
+
+six-expected : Expected afterEight 6 6
+unfolding placeOf firstBelow
+six-expected = own (tells-false (tells-replaced afterEight 6) refl)
+
+not-known-one : Known 1 → ⊥
+not-known-one known = tells-false (tells-known 1) refl known
 
 -- every row of the table
 pub numbers-to-try : AllHold paperRows
-unfolding faultBelow passes isIn countBelow allBelow firstBelow firstOr rising placeOf outward passing badSpares badHomes marked replacedAll bytes16 bytes32 bytesOf word16At wordsOf rotated codeAfter codeFrom dataCode carried storedIn imageOf
+unfolding faultBelow passes isIn countBelow allBelow firstBelow firstOr rising placeOf outward passing badSpares badHomes marked replacedAll bytes16 bytes32 bytesOf word16At wordsOf rotated codeAfter codeFrom dataCode carried storedIn imageOf writeFault copies times headerOf copiesFault entriesAt word32At
 numbers-to-try =
     block-walked 848 chart 3 refl refl
     also block-walked 848 chart 57 refl refl
@@ -269,4 +360,29 @@ numbers-to-try =
     also lies-told tall 1 (set (tallWith 5 0x30000190) 259 0) 400 refl
     also lies-told tall 1 (set (tallWith 5 0x30000190) 4 0) 400 refl
     also lies-told tall 1 (set (tallWith 5 0x30000190) 6 0) 400 refl
+    also heads-made 7 0 (omega arith) (inl refl) (λ bytes forced room. refl)
+    also heads-made 7 2 (omega arith) (inr (inl refl)) (λ bytes forced room. refl)
+    also heads-made 268435455 3 (omega arith) (inr (inr refl)) (λ bytes forced room. refl)
+    also not-written 268435456 1 511 530 14 (λ none. omega arith) (λ bytes room long room-long. rw long)
+    also not-written 268435456 1 512 530 5 (λ none. omega arith) (λ bytes room long room-long. rw long)
+    also not-written 7 1 512 530 22 (λ none. omega arith) (λ bytes room long room-long. rw long)
+    also not-written 7 15 512 530 22 (λ none. omega arith) (λ bytes room long room-long. rw long)
+    also not-written 7 2 512 529 7 (λ none. omega arith) (λ bytes room long room-long. rw (long, room-long))
+    also header-told (0x30000007 ∷ 0x30000007 ∷ 0x30000007 ∷ 0x00000007 ∷ []) refl (λ rest. refl)
+    also header-told (replicate 4 0x10000007) refl (λ rest. refl)
+    also header-told (replicate 4 0x80000000) refl (λ rest. refl)
+    also header-told (replicate 4 0xffffffff) refl (λ rest. refl)
+    also header-told (0x20000007 ∷ 0x20000007 ∷ 0x00000007 ∷ 0x00000007 ∷ []) refl (λ rest. refl)
+    also judge-told (replicate 4 0x20000007) 7 0 0x20000007 refl (λ rest. omega arith) (λ says. omega (arith, says .code-is))
+    also judge-told (replicate 4 0x20000007) 7 1 0x20000007 refl (λ rest. omega arith) (λ says. omega (arith, says .code-is))
+    also judge-told (replicate 4 0x20000007) 7 3 0x20000007 refl (λ rest. omega arith) (λ says. omega (arith, says .code-is))
+    also judge-told (replicate 4 0x20000007) 268435463 1 0x20000007 refl (λ rest. omega arith) (λ says. omega (arith, says .code-is))
+    also judge-told (replicate 4 0x10000007) 7 1 0x10000007 refl (λ rest. omega arith) (λ says. not-known-one (says .known))
+    also read-good small 2 afterEight 7 0x20000007 seven-expected
+    also read-other small 2 afterEight 7 0x20000007 3 seven-expected (inr (inr refl)) (λ same. omega arith)
+    also read-other small 2 afterEight 7 0x20000007 0 seven-expected (inl refl) (λ same. omega arith)
+    also read-good small 2 afterEight 8 0x30000008 eight-expected
+    also read-other small 2 afterEight 8 0x30000008 2 eight-expected (inr (inl refl)) (λ same. omega arith)
+    also read-good small 2 afterEight 6 6 six-expected
+    also read-other small 2 afterEight 6 6 2 six-expected (inr (inl refl)) (λ same. omega arith)
     also done

@@ -10,6 +10,7 @@ pub mod Demand2Revectored
 pub mod Demand2Census
 pub mod NoHoles
 pub mod ReadsInPlace
+pub mod Headers
 pub mod Demand3
 pub mod Angles
 pub mod ThereAndBack

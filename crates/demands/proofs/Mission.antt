@@ -7,6 +7,7 @@ use Rattle.demands.proofs.Scratches.{scratches}
 use Rattle.demands.proofs.Demand2Skipped.{demand2-skipped}
 use Rattle.demands.proofs.Demand2Revectored.{address-names-block, address-of-sector, answered-lies, block-at-sector, every-block-answered, named-has-address, named-lies, never-on-unusable, never-share, no-spare-none-free, none-free-no-spare, none-is-vacant, one-descriptor, left-for-good, replacement-alters, sector-names-block, sector-of-address, shift-leads-there, stays-unusable, vacant-has-none}
 use Rattle.demands.proofs.ReadsInPlace.{reads-in-place}
+use Rattle.demands.proofs.Headers.{headers}
 use Rattle.demands.proofs.Demand2Census.{census-law}
 use Rattle.demands.proofs.NoHoles.{no-holes}
 use Rattle.demands.proofs.Demand3.{demand3}
@@ -40,4 +41,4 @@ demand2-revectored =
     }
 
 pub mission : Mission
-mission = record { answers = demand1; scratch = scratches; skipped-lies = demand2-skipped; revectored-lies = demand2-revectored; nights = demand3; unholed = no-holes; angles = angles }
+mission = record { answers = demand1; headers = headers; scratch = scratches; skipped-lies = demand2-skipped; revectored-lies = demand2-revectored; nights = demand3; unholed = no-holes; angles = angles }

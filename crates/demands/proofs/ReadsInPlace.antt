@@ -6,7 +6,6 @@ use mathlib.Core.List.{List}
 use native.Mathlib.Omega.{arith}
 use lib.ListN.{length, take, drop}
 use denote.Ref.{RefT}
-use Rattle.paper.specs.Limits.{dataSize}
 use Rattle.paper.specs.declared.Placed.the-variants.{At}
 use Rattle.paper.proofs.Cases.{byBool}
 use Rattle.paper.proofs.Kept.{gives-number}
@@ -24,7 +23,7 @@ use Rattle.image.specs.declared.Verdict.the-variants.{Good}
 use Rattle.image.specs.Promises.{saidVerdict, Lends}
 use Rattle.reading.specs.Tracks.{trackOf, sectorIn, imageAt, imageFor}
 use Rattle.reading.specs.Faults.{blockReadFault}
-use Rattle.reading.specs.Promises.{Judge, Data, Spots, saidSpot}
+use Rattle.reading.specs.Promises.{JudgeSized, DataSized, SpotSized, saidSpot}
 use Rattle.reading.specs.declared.answers.Spot.{Spot}
 use Rattle.reading.proofs.Alike.{Agree, agree-same, passes-either, verdict-alike, spot-alike, part-alike}
 use Rattle.reading.proofs.Parts.{refused-empty, empty-refused, accepted-data, accepted-part, read-length, data-at-spot}
@@ -32,7 +31,7 @@ use Rattle.reading.proofs.Tracks.{sector-lies, data-inside}
 use Rattle.demands.specs.Incident.{imageFrom}
 use Rattle.demands.specs.Reads.{LiesIn, at-home, on-spare, startAt, dataAt, AsLong, ReadsInPlace}
 
-module _ (shape : Shape) (r : ℕ) (t : List ℕ) (b : ℕ) where
+module _ (size : ℕ) (shape : Shape) (r : ℕ) (t : List ℕ) (b : ℕ) where
   -- the image that a block lies in is the one that the read takes
   lies-in : {Image : Type 0} (home spare : Image) {image : Image} → LiesIn t b home spare image → trackOf t b home spare ≡ image
   lies-in home spare (at-home none) = byBool (isReplaced t b) (λ e. absurd (none (tells-replaced t b .holds e))) (λ e. rw e)
@@ -49,15 +48,15 @@ module _ (shape : Shape) (r : ℕ) (t : List ℕ) (b : ℕ) where
         let is : s ≡ liesOn (driveOf shape r) t b = rw passes at (ap (λ (said : ℕ × ℕ). said .1) (placed .says)) in
         sector-lies (driveOf shape r) t b (sound-laid sound) ∙ (rw (sym is) (ap (λ (n : ℕ). s % n) (track-whole (sound .spared))))
 
-    its-image : (home spare : List ℕ) {track : List ℕ} → LiesIn t b home spare track → imageFor dataSize (driveOf shape r) t b home spare ≡ imageFrom (startAt shape s) track
+    pub its-image : (home spare : List ℕ) {track : List ℕ} → LiesIn t b home spare track → imageFor size (driveOf shape r) t b home spare ≡ imageFrom size (startAt size shape s) track
     unfolding imageAt
     its-image home spare lies = rw (its-sector, lies-in home spare lies)
 
     -- images as long as each other, with the same bytes on the sector of the block, agree
     agreeing :
         (home spare home′ spare′ : List ℕ) {track track′ : List ℕ} → LiesIn t b home spare track → LiesIn t b home′ spare′ track′ →
-        AsLong home home′ → AsLong spare spare′ → imageFrom (startAt shape s) track ≡ imageFrom (startAt shape s) track′ →
-        Agree dataSize (driveOf shape r) t b home spare home′ spare′
+        AsLong home home′ → AsLong spare spare′ → imageFrom size (startAt size shape s) track ≡ imageFrom size (startAt size shape s) track′ →
+        Agree size (driveOf shape r) t b home spare home′ spare′
     agreeing home spare home′ spare′ lies lies′ long long′ same =
         record {
           home-alike = long;
@@ -66,15 +65,15 @@ module _ (shape : Shape) (r : ℕ) (t : List ℕ) (b : ℕ) where
         }
 
   judged-by :
-      (judged home spare : List ℕ) (verdict : Verdict) → Judge shape r t judged b home spare verdict →
-      saidVerdict verdict ≡ blockReadFault dataSize shape r t judged b home spare
+      (judged home spare : List ℕ) (verdict : Verdict) → JudgeSized size shape r t judged b home spare verdict →
+      saidVerdict verdict ≡ blockReadFault size shape r t judged b home spare
   judged-by judged home spare verdict promise = gives-number promise (λ number. number) (λ k. refl) refl
 
   -- a block that is judged good is read without fault, with any scratch that is long enough
   good-passes :
-      (judged read home spare : List ℕ) → Judge shape r t judged b home spare Good → Enough shape r read → blockReadFault dataSize shape r t read b home spare ≡ 0
+      (judged read home spare : List ℕ) → JudgeSized size shape r t judged b home spare Good → Enough shape r read → blockReadFault size shape r t read b home spare ≡ 0
   good-passes judged read home spare good enough =
-      passes-either dataSize shape r t judged read b home spare (sym (judged-by judged home spare Good good)) enough
+      passes-either size shape r t judged read b home spare (sym (judged-by judged home spare Good good)) enough
 
   -- the images behind two references lie as the references do
   lies-now : {home spare track : RefT (List ℕ)} → LiesIn t b home spare track → LiesIn t b (home .now) (spare .now) (track .now)
@@ -83,19 +82,19 @@ module _ (shape : Shape) (r : ℕ) (t : List ℕ) (b : ℕ) where
 
   lent-in-place :
       (asked read : List ℕ) (s : ℕ) (home spare track part : RefT (List ℕ)) → SectorOf shape r t asked b (At s) → LiesIn t b home spare track →
-      blockReadFault dataSize shape r t read b (home .now) (spare .now) ≡ 0 → Data shape r t read b home spare part →
-      Lends track (dataAt shape s) (take dataSize (drop (dataAt shape s) (track .now))) part
+      blockReadFault size shape r t read b (home .now) (spare .now) ≡ 0 → DataSized size shape r t read b home spare part →
+      Lends track (dataAt size shape s) (take size (drop (dataAt size shape s) (track .now))) part
   lent-in-place asked read s home spare track part placed lies none lent =
       record {
         holds =
-            accepted-data dataSize shape r t read b home spare part lent none
-            ∙ (rw (lies-in (home .now) (spare .now) (lies-now lies), its-sector asked s placed) (data-inside dataSize (startAt shape s) (track .now)));
-        lies = rw (lies-in home spare lies, its-sector asked s placed) at (accepted-part dataSize shape r t read b home spare part lent none .lies);
+            accepted-data size shape r t read b home spare part lent none
+            ∙ (rw (lies-in (home .now) (spare .now) (lies-now lies), its-sector asked s placed) (data-inside size (startAt size shape s) (track .now)));
+        lies = rw (lies-in home spare lies, its-sector asked s placed) at (accepted-part size shape r t read b home spare part lent none .lies);
       }
 
   spot-said :
       (asked spotted : List ℕ) (s image : ℕ) (home spare : List ℕ) (spot : Spot) → SectorOf shape r t asked b (At s) → LiesIn t b 0 1 image →
-      blockReadFault dataSize shape r t spotted b home spare ≡ 0 → Spots shape r t spotted b home spare spot → saidSpot spot ≡ (0, image, dataAt shape s)
+      blockReadFault size shape r t spotted b home spare ≡ 0 → SpotSized size shape r t spotted b home spare spot → saidSpot spot ≡ (0, image, dataAt size shape s)
   spot-said asked spotted s image home spare spot placed (at-home none) passed spots =
       spots .says ∙ byBool (isReplaced t b) (λ e. absurd (none (tells-replaced t b .holds e))) (λ e. rw (passed, e, its-sector asked s placed))
   spot-said asked spotted s image home spare spot placed (on-spare moved) passed spots =
@@ -104,27 +103,27 @@ module _ (shape : Shape) (r : ℕ) (t : List ℕ) (b : ℕ) where
 pub reads-in-place : ReadsInPlace
 reads-in-place =
     record {
-      lends-in-place = λ shape r t asked judged read b s home spare track part placed lies good enough lent.
-          lent-in-place shape r t b asked read s home spare track part placed lies (good-passes shape r t b judged read (home .now) (spare .now) good enough) lent;
-      lends-whole = λ shape r t judged read b home spare part good enough lent.
-          let none = good-passes shape r t b judged read (home .now) (spare .now) good enough in
-          ap length (accepted-data dataSize shape r t read b home spare part lent none) ∙ read-length dataSize shape r t read b (home .now) (spare .now) none;
-      refused-empty = λ shape r t judged read b home spare part verdict enough judge lent some.
-          refused-empty dataSize shape r t read b home spare part lent
-          (λ none. some (judged-by shape r t b judged (home .now) (spare .now) verdict judge ∙ passes-either dataSize shape r t read judged b (home .now) (spare .now) none enough));
-      empty-refused = λ shape r t judged read b home spare part verdict judge enough lent empty none.
-          empty-refused dataSize shape r t read b home spare part lent (omega arith) empty
-          (passes-either dataSize shape r t judged read b (home .now) (spare .now) (sym (judged-by shape r t b judged (home .now) (spare .now) verdict judge) ∙ none) enough);
-      same-verdict = λ shape r t asked judged judged′ b s home spare track home′ spare′ track′ verdict again placed lies lies′ long long′ same enough enough′ first second.
+      lends-in-place = λ size shape r t asked judged read b s home spare track part placed lies good enough lent.
+          lent-in-place size shape r t b asked read s home spare track part placed lies (good-passes size shape r t b judged read (home .now) (spare .now) good enough) lent;
+      lends-whole = λ size shape r t judged read b home spare part good enough lent.
+          let none = good-passes size shape r t b judged read (home .now) (spare .now) good enough in
+          ap length (accepted-data size shape r t read b home spare part lent none) ∙ read-length size shape r t read b (home .now) (spare .now) none;
+      refused-empty = λ size shape r t judged read b home spare part verdict enough judge lent some.
+          refused-empty size shape r t read b home spare part lent
+          (λ none. some (judged-by size shape r t b judged (home .now) (spare .now) verdict judge ∙ passes-either size shape r t read judged b (home .now) (spare .now) none enough));
+      empty-refused = λ size some shape r t judged read b home spare part verdict judge enough lent empty none.
+          empty-refused size shape r t read b home spare part lent some empty
+          (passes-either size shape r t judged read b (home .now) (spare .now) (sym (judged-by size shape r t b judged (home .now) (spare .now) verdict judge) ∙ none) enough);
+      same-verdict = λ size shape r t asked judged judged′ b s home spare track home′ spare′ track′ verdict again placed lies lies′ long long′ same enough enough′ first second.
           first .answers
-          ∙ (verdict-alike dataSize shape r t judged judged′ enough enough′ b (agreeing shape r t b asked s placed home spare home′ spare′ lies lies′ long long′ same)
+          ∙ (verdict-alike size shape r t judged judged′ enough enough′ b (agreeing size shape r t b asked s placed home spare home′ spare′ lies lies′ long long′ same)
           ∙ sym (second .answers));
-      same-data = λ shape r t asked read read′ b s home spare track home′ spare′ track′ part again placed lies lies′ long long′ same enough enough′ first second.
-          part-alike dataSize shape r t read read′ enough enough′ b home spare home′ spare′ part again
-          (agreeing shape r t b asked s placed (home .now) (spare .now) (home′ .now) (spare′ .now) (lies-now shape r t b lies) (lies-now shape r t b lies′) long long′ same) first second;
-      spot-in-place = λ shape r t asked judged spotted b s image home spare spot placed lies good enough spots.
-          spot-said shape r t b asked spotted s image home spare spot placed lies (good-passes shape r t b judged spotted home spare good enough) spots;
-      data-at-spot = λ shape r t spotted read b home spare part spot enough enough′ spots lent.
-          rw (spots .answers ∙ spot-alike dataSize shape r t spotted read enough enough′ b (agree-same dataSize (driveOf shape r) t b (home .now) (spare .now)))
-          (data-at-spot dataSize shape r t read b home spare part lent);
+      same-data = λ size shape r t asked read read′ b s home spare track home′ spare′ track′ part again placed lies lies′ long long′ same enough enough′ first second.
+          part-alike size shape r t read read′ enough enough′ b home spare home′ spare′ part again
+          (agreeing size shape r t b asked s placed (home .now) (spare .now) (home′ .now) (spare′ .now) (lies-now size shape r t b lies) (lies-now size shape r t b lies′) long long′ same) first second;
+      spot-in-place = λ size shape r t asked judged spotted b s image home spare spot placed lies good enough spots.
+          spot-said size shape r t b asked spotted s image home spare spot placed lies (good-passes size shape r t b judged spotted home spare good enough) spots;
+      data-at-spot = λ size shape r t spotted read b home spare part spot enough enough′ spots lent.
+          rw (spots .answers ∙ spot-alike size shape r t spotted read enough enough′ b (agree-same size (driveOf shape r) t b (home .now) (spare .now)))
+          (data-at-spot size shape r t read b home spare part lent);
     }

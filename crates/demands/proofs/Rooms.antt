@@ -6,7 +6,7 @@ use mathlib.Core.Path.{_≡_, sym, ap, refl}
 use mathlib.Core.Bool.{Bool}
 use mathlib.Core.List.{List}
 use lib.ListN.{length, take}
-use Rattle.paper.specs.Limits.{dataSize, imageExtra}
+use Rattle.paper.specs.Limits.{imageExtra}
 use Rattle.paper.specs.declared.Written.the-variants.{Length}
 use Rattle.paper.specs.Promise.{written}
 use Rattle.paper.proofs.Writing.{written-first, written-rest}
@@ -24,8 +24,9 @@ use Rattle.layout.specs.Layouts.{driveOf}
 use Rattle.first_table.specs.Tables.{firstTable, firstTableFault, IsFirstTable}
 use Rattle.first_table.specs.Promises.{FirstTable}
 use Rattle.first_table.proofs.Exact.{first-obeys, first-made}
+use Rattle.words.specs.Coded.{wordOf}
 use Rattle.image.specs.Image.{imageOf, writeFault as imageWriteFault}
-use Rattle.image.specs.Promises.{Write}
+use Rattle.image.specs.Promises.{WriteSized}
 use Rattle.image.proofs.ThereAndBack.{room-image, room-rest}
 use Rattle.image.proofs.Exact.{write-shows}
 use Rattle.image.proofs.Images.{length-image}
@@ -87,18 +88,18 @@ first-table-hands shape r list room long after promise =
     (rw passes at (promise .holds)) in
     (hands, rw (hands .first) starts)
 
--- `image::write` hands back the 530 bytes of the image
+-- `image::write` hands back the bytes of the image
 pub image-write-hands :
-    (number : ℕ) (bytes : List ℕ) (forced : Bool) (room : List ℕ) (long : ℕ) (after : List ℕ) → Write number bytes forced room (Length long) after →
-    (long ≡ dataSize + imageExtra) × Handed (imageOf number bytes forced) room long after
-image-write-hands number bytes forced room long after promise =
-    let passes : imageWriteFault dataSize bytes room ≡ 0 = sym (gives-number (fills-gives promise) (λ said. said .0) (λ k. refl) refl) in
-    let is : long ≡ dataSize + imageExtra = rw passes at (ap (λ (said : ℕ × ℕ). said .1) (promise .says)) in (
+    (size block code : ℕ) (bytes : List ℕ) (forced : Bool) (room : List ℕ) (long : ℕ) (after : List ℕ) → WriteSized size block code bytes forced room (Length long) after →
+    (long ≡ size + imageExtra) × Handed (imageOf (wordOf code block) bytes forced) room long after
+image-write-hands size block code bytes forced room long after promise =
+    let passes : imageWriteFault size block code bytes room ≡ 0 = sym (gives-number (fills-gives promise) (λ said. said .0) (λ k. refl) refl) in
+    let is : long ≡ size + imageExtra = rw passes at (ap (λ (said : ℕ × ℕ). said .1) (promise .says)) in (
       is,
       record {
-        long-as = rw (length-image number bytes forced, write-shows dataSize bytes room passes .0) is;
-        first = rw (is, promise .holds) (room-image dataSize number bytes forced room passes);
-        rest = rw (is, promise .holds) (room-rest dataSize number bytes forced room passes);
+        long-as = rw (length-image (wordOf code block) bytes forced, write-shows size block code bytes room passes .long) is;
+        first = rw (is, promise .holds) (room-image size block code bytes forced room passes);
+        rest = rw (is, promise .holds) (room-rest size block code bytes forced room passes);
       },
     )
 

@@ -5,9 +5,7 @@ use mathlib.Core.Path.{_≡_, refl, sym, _∙_, ap}
 use mathlib.Core.Bool.{Bool}
 use mathlib.Core.List.{List}
 use native.Mathlib.Omega.{arith}
-use lib.ListN.{length}
 use Rattle.paper.specs.Exactly.{When, later}
-use Rattle.paper.specs.Limits.{dataSize}
 use Rattle.paper.specs.Refusals.{noSuchSector}
 use Rattle.paper.specs.declared.Placed.the-variants.{At}
 use Rattle.paper.proofs.Chain.{orElse-first, orElse-next}
@@ -24,13 +22,14 @@ use Rattle.shape.proofs.Bounds.{sector-below}
 use Rattle.shape.proofs.Exact.{shape-shows, place-shows, sector-of-exactly, address-of-exactly}
 use Rattle.shape.proofs.Inverse.{there-and-back, address-on-drive, back-and-there}
 use Rattle.page.proofs.Back.{write-then-read, read-then-write}
+use Rattle.words.specs.Coded.{wordOf}
 use Rattle.image.specs.Image.{imageOf, imageFault}
-use Rattle.image.specs.Promises.{Header, Judge}
+use Rattle.image.specs.Promises.{HeaderSized, JudgeSized}
 use Rattle.image.specs.declared.Verdict.the-variants.{Good}
 use Rattle.image.proofs.Coding.{one-bit}
 use Rattle.image.proofs.Changed.{changed-byte}
-use Rattle.image.proofs.Exact.{write-shows}
-use Rattle.image.proofs.ThereAndBack.{headed, header-answers, header-answered, image-names, image-good, image-forced, good-gives, forced-gives}
+use Rattle.image.proofs.Exact.{Writable, write-shows}
+use Rattle.image.proofs.ThereAndBack.{headed, header-answers, header-answered, image-names, image-good, image-forced, image-other, good-gives, forced-gives, other-gives}
 use Rattle.demands.specs.Demand1.{WrittenImage, EachAgain}
 use Rattle.demands.proofs.Rooms.{image-write-hands}
 
@@ -60,16 +59,16 @@ module _ (shape : Shape) where
       (ap At (sym (there-and-back shaped below))))
 
 -- an image that was written
-module _ {number : ℕ} {bytes : List ℕ} {forced : Bool} {image : List ℕ} (left : WrittenImage number bytes forced image) where
-  data-long : length bytes ≡ dataSize
-  data-long = write-shows dataSize bytes (left .room) (sym (gives-number (fills-gives (left .wrote)) (λ said. said .0) (λ k. refl) refl)) .0
+module _ {size block code : ℕ} {bytes : List ℕ} {forced : Bool} {image : List ℕ} (left : WrittenImage size block code bytes forced image) where
+  was-writable : Writable size block code bytes (left .room)
+  was-writable = write-shows size block code bytes (left .room) (sym (gives-number (fills-gives (left .wrote)) (λ said. said .0) (λ k. refl) refl))
 
-  image-is : image ≡ imageOf number bytes forced
-  image-is = left .is ∙ image-write-hands number bytes forced (left .room) (left .long) (left .after) (left .wrote) .1 .first
+  image-is : image ≡ imageOf (wordOf code block) bytes forced
+  image-is = left .is ∙ image-write-hands size block code bytes forced (left .room) (left .long) (left .after) (left .wrote) .1 .first
 
 -- a good verdict is that of an image without fault
-good-passes : (image : List ℕ) (number : ℕ) → Judge image number Good → imageFault dataSize image number ≡ 0
-good-passes image number good = sym (gives-number good (λ said. said) (λ k. refl) refl)
+good-passes : (size : ℕ) (image : List ℕ) (block code : ℕ) → JudgeSized size image block code Good → imageFault size image block code ≡ 0
+good-passes size image block code good = sym (gives-number good (λ said. said) (λ k. refl) refl)
 
 pub each-again : EachAgain
 each-again =
@@ -78,29 +77,42 @@ each-again =
       address-numbered = address-numbered;
       written-page-reads = write-then-read;
       read-page-writes = read-then-write;
-      header-stands = λ image number given. header-answered dataSize image number given refl;
+      header-stands = λ size image code block given. header-answered size image code block given refl;
       standing-header =
-          λ image number long stands.
-          let given : Header image (headed dataSize image) = gives (λ k. refl) refl in
-          rw (header-answers dataSize image number given long stands) at given;
+          λ size image code block long head.
+          let given : HeaderSized size image (headed size image) = gives (λ k. refl) refl in
+          rw (header-answers size image code block given long head) at given;
       written-names =
-          λ number bytes forced image left result promise.
-          (rw (image-is left) at (promise .answers)) ∙ image-names dataSize number bytes (data-long left) (left .fits) (left .are-bytes) forced;
+          λ size block code bytes forced image left result promise.
+          let w = was-writable left in
+          (rw (image-is left) at (promise .answers)) ∙ image-names size block code bytes (w .long) (w .below) (w .known) forced;
       written-good-judges =
-          λ number bytes image left result promise.
-          (rw (image-is left) at (promise .answers)) ∙ image-good dataSize number bytes (data-long left) (left .fits) (left .are-bytes);
+          λ size block code bytes image left result promise.
+          let w = was-writable left in
+          (rw (image-is left) at (promise .answers)) ∙ image-good size block code bytes (w .long) (w .below) (w .known) (left .are-bytes);
       written-good-gives =
-          λ number bytes image left part promise.
-          let given = good-gives dataSize number bytes (data-long left) (left .fits) (left .are-bytes) image part promise (image-is left) in
+          λ size block code bytes image left part promise.
+          let w = was-writable left in
+          let given = good-gives size block code bytes (w .long) (w .below) (w .known) (left .are-bytes) image part promise (image-is left) in
           record { holds = given .0; lies = given .1 };
       written-forced-judges =
-          λ number bytes image left result promise.
-          (rw (image-is left) at (promise .answers)) ∙ image-forced dataSize number bytes (data-long left) (left .fits) (left .are-bytes);
+          λ size block code bytes image left result promise.
+          let w = was-writable left in
+          (rw (image-is left) at (promise .answers)) ∙ image-forced size block code bytes (w .long) (w .below) (w .known) (left .are-bytes);
       written-forced-gives =
-          λ number bytes image left part promise.
-          forced-gives dataSize number bytes (data-long left) (left .fits) (left .are-bytes) image part promise (image-is left);
+          λ size block code bytes image left part promise.
+          let w = was-writable left in
+          forced-gives size block code bytes (w .long) (w .below) (w .known) (left .are-bytes) image part promise (image-is left);
+      written-other-judges =
+          λ size block code bytes forced image left other-block other-code other result promise.
+          let w = was-writable left in
+          (rw (image-is left) at (promise .answers)) ∙ image-other size block code bytes (w .long) (w .below) (w .known) forced other-block other-code other;
+      written-other-gives =
+          λ size block code bytes forced image left other-block other-code other part promise.
+          let w = was-writable left in
+          other-gives size block code bytes (w .long) (w .below) (w .known) forced other-block other-code other image part (image-is left) promise;
       changed-bit-changes-code = λ bytes are-bytes long k bit low inside. one-bit 256 bytes are-bytes long k bit low (rw long inside);
       changed-data-not-good =
-          λ image number k byte are-bytes inside low apart good again.
-          changed-byte dataSize image k byte inside number 256 refl are-bytes low apart (good-passes _ _ good) (good-passes _ _ again);
+          λ size words even image block code k byte are-bytes inside low apart good again.
+          changed-byte size image k byte inside block code words even are-bytes low apart (good-passes size _ _ _ good) (good-passes size _ _ _ again);
     }

@@ -15,7 +15,7 @@ use Rattle.paper.specs.Checks.{answer}
 use Rattle.paper.specs.Limits.{dataSize, headerSize, imageExtra}
 use Rattle.paper.specs.Exactly.{Exactly}
 use Rattle.paper.specs.Answers.{saidPlaced}
-use Rattle.paper.specs.Refusals.{badTable, outside, noSpare, forcedError, badCode}
+use Rattle.paper.specs.Refusals.{noSuchBlock, badTable, outside, noSpare, otherBlock, forcedError, badCode, unknownCode}
 use Rattle.paper.specs.declared.Placed.the-variants.{At}
 use Rattle.shape.specs.declared.Address.{Address}
 use Rattle.shape.specs.declared.Located.the-variants.{At as LocatedAt}
@@ -23,7 +23,7 @@ use Rattle.seek.specs.Count.{countBelow, times}
 use Rattle.seek.specs.Every.{allBelow}
 use Rattle.seek.specs.Lowest.{firstBelow, faultBelow}
 use Rattle.seek.specs.Search.{firstOr, rising}
-use Rattle.words.specs.Words.{bytes32, bytesOf, word16At, word32At, entriesAt}
+use Rattle.words.specs.Words.{bytes16, bytes32, bytesOf, word16At, word32At, entriesAt}
 use Rattle.words.proofs.Stores.{part-sets}
 use Rattle.lists.specs.Union.{isIn, into, union}
 use Rattle.skip.specs.Skipping.{Lies, goodsBefore, place}
@@ -61,18 +61,22 @@ use Rattle.spares.proofs.Exact.{replace-exactly}
 use Rattle.table.proofs.Exact.{sound-laid, sound-obeys, table-sound, table-exactly, block-exactly}
 use Rattle.image.specs.Code as Code
 use Rattle.image.specs.Code.{wordsOf, rotated, codeFrom}
-use Rattle.image.specs.Image.{copies, headerOf, storedIn, foundIn, dataOf, imageOf, copiesFault, contentsFault, imageFault}
-use Rattle.image.specs.Judged.{ImageJudged}
-use Rattle.image.specs.declared.Verdict.the-variants.{Refused as NotGood}
-use Rattle.image.proofs.Exact.{judge-exactly}
-use Rattle.image.proofs.Images.{replicate-below, length-image, written-data, written-good}
-use Rattle.reading.specs.Tracks.{Seated, on-spare, bytesIn, imageAt, sectorIn, headerFor}
-use Rattle.reading.specs.Faults.{lentFault}
+use Rattle.image.specs.Image.{copies, Stands, headerOf, storedIn, foundIn, dataOf, imageOf, copiesFault, codeFault, contentsFault, pairFault, headerFault, imageFault, writeFault}
+use Rattle.image.specs.Judged.{ContentsJudged, HeaderJudged, ImageJudged, WriteJudged}
+use Rattle.image.specs.declared.Head.the-variants.{Of}
+use Rattle.image.specs.declared.Verdict.the-variants.{Good, Refused as NotGood}
+use Rattle.image.proofs.Copies.{stands-header}
+use Rattle.image.proofs.Exact.{length-passes, address-passes, header-exactly, image-pair, pair-exactly, judge-exactly, write-exactly}
+use Rattle.image.proofs.Images.{replicate-below, length-image, written-stands, written-data, written-good}
+use Rattle.reading.specs.Tracks.{Seated, on-spare, bytesIn, imageAt, imageFor, sectorIn, codeFor, headerFor}
+use Rattle.reading.specs.Faults.{lentFault, blockReadFault}
+use Rattle.reading.specs.Judged.{BlockReadJudged}
+use Rattle.reading.proofs.Exact.{read-exactly}
 use Rattle.reading.specs.Promises.{AtSpot, in-spare}
 use Rattle.reading.proofs.Spots.{spotted}
 use Rattle.reading.specs.declared.answers.Spot.the-variants.{InSpare}
 use Rattle.reading.proofs.Tracks.{image-inside, data-inside}
-use Rattle.reading.proofs.Written.{good-read}
+use Rattle.reading.proofs.Written.{good-read, other-read}
 use Rattle.demands.specs.Relations.{Keeps, Handed, Onward, Counts}
 use Rattle.demands.proofs.Demand3.{Arrives}
 use Rattle.demands.specs.Demand2Revectored.{Alters, ShiftLeads}
@@ -81,7 +85,7 @@ use Rattle.demands.specs.Numbered.{PlacedBy}
 use Rattle.demands.specs.Angles.{Angled, BothAngled}
 use Rattle.demands.specs.Scratches.{LeavesScratch}
 use Rattle.demands.specs.Inputs.{few, chart, small, eight, eightZeros, holding, noneReplaced, afterSeven, afterSix, sevenOnFive, sevenOnOne, twoGroups, tall, tallWith}
-use Rattle.demands.proofs.Boards.{made, scan, lent, pageWith, begun, damaged, older, newer, blank, trackWith, refusesAll, sameSector, addsOnce, skipsNothing, opened, runsAhead, cursorAfter, sectorsAfter, madeUpEntries, writesEarly, madeUpLengths, takesSectors, Composes, sameSpare, sparesNone, leavesTable, groupByRemainder, offsetOnce, neverRound, stoppedOrder, stopsSearch, leavesOld, freesOld, killsEarly, madeUpCensus, censusWith, truncatedShift, wrappedShift, everyForced, homeImage, readsHome, leavesMark, clearsAccepted, clearsAll, rulesFirst, holesNear, stopsUnusable, takesLowest}
+use Rattle.demands.proofs.Boards.{made, scan, lent, pageWith, begun, damaged, older, newer, blank, trackWith, refusesAll, sameSector, addsOnce, skipsNothing, opened, runsAhead, cursorAfter, sectorsAfter, madeUpEntries, writesEarly, madeUpLengths, takesSectors, Composes, sameSpare, sparesNone, leavesTable, groupByRemainder, offsetOnce, neverRound, stoppedOrder, stopsSearch, leavesOld, freesOld, killsEarly, madeUpCensus, censusWith, truncatedShift, wrappedShift, everyForced, comparesWord, answersFourth, codeFirst, comparesBlock, homeImage, readsHome, leavesMark, clearsAccepted, clearsAll, rulesFirst, holesNear, stopsUnusable, takesLowest}
 
 -- a number that is given exactly is the only one
 no-other : {Rows : ℕ → Type 0} {number k : ℕ} → Exactly Rows number → (number ≡ k → ⊥) → Rows k → ⊥
@@ -342,57 +346,102 @@ unfolding laidOut word32At entriesAt faultBelow
 writes-early-keeps-not = (refl, λ keeps. omega (arith, ap (λ (l : List ℕ). getD l 0 0) (keeps (λ none. omega arith))))
 
 -- every mismatch taken for a forced error: the code is neither, and no row gives 17
-damaged-fault : imageFault dataSize damaged 6 ≡ badCode
-unfolding damaged imageFault contentsFault copiesFault headerOf times copies storedIn foundIn dataOf Code.dataCode codeFrom Code.codeAfter rotated wordsOf bytesOf bytes32 word16At word32At entriesAt
+damaged-fault : imageFault dataSize damaged 6 0 ≡ badCode
+unfolding damaged imageFault pairFault contentsFault copiesFault headerOf times copies storedIn foundIn dataOf Code.dataCode codeFrom Code.codeAfter rotated wordsOf bytesOf bytes32 word16At word32At entriesAt
 damaged-fault = refl
 
-pub every-forced-unjudged : (everyForced damaged 6 ≡ NotGood forcedError) × (ImageJudged dataSize damaged 6 forcedError → ⊥)
+pub every-forced-unjudged : (everyForced damaged 6 0 ≡ NotGood forcedError) × (ImageJudged dataSize damaged 6 0 forcedError → ⊥)
 unfolding damaged copiesFault headerOf times copies storedIn foundIn dataOf Code.dataCode codeFrom Code.codeAfter rotated wordsOf bytesOf bytes32 word16At word32At entriesAt
 every-forced-unjudged =
-    (refl, no-other (judge-exactly damaged dataSize 6) (λ same. let clash : badCode ≡ forcedError = sym damaged-fault ∙ same in omega arith))
+    (refl, no-other (judge-exactly damaged dataSize 6 0) (λ same. let clash : badCode ≡ forcedError = sym damaged-fault ∙ same in omega arith))
+
+older-long : length older ≡ dataSize
+older-long = length-replicate {A = ℕ} 512 0
+
+-- a word of block and code compared: block 268,435,463 and code 1 make the word of block 7 and code 2, whose good image is accepted; no row accepts it
+abbrev sevenAtPrimary : List ℕ
+sevenAtPrimary = imageOf 0x20000007 older false
+
+seven-contents : contentsFault dataSize sevenAtPrimary 0x20000007 ≡ 0
+seven-contents = rw older-long at (written-good 0x20000007 older (omega arith) (replicate-below 512 0 (omega arith) (omega arith)))
+
+pub compares-word-unjudged :
+    (comparesWord sevenAtPrimary 268435463 1 ≡ Good) × (ImageJudged dataSize sevenAtPrimary 268435463 1 0 → ⊥)
+compares-word-unjudged = (
+  rw (length-passes (dataSize + imageExtra) sevenAtPrimary seven-long, seven-contents),
+  no-other (judge-exactly sevenAtPrimary dataSize 268435463 1) (λ same. let clash : otherBlock ≡ 0 = sym aliased ∙ same in omega arith),
+)
+  where
+    seven-long : length sevenAtPrimary ≡ dataSize + imageExtra
+    seven-long = length-image 0x20000007 older false ∙ ap (λ (n : ℕ). n + imageExtra) older-long
+
+    aliased : imageFault dataSize sevenAtPrimary 268435463 1 ≡ otherBlock
+    aliased =
+        image-pair sevenAtPrimary dataSize 268435463 1 seven-long
+        ∙ pair-exactly sevenAtPrimary dataSize 268435463 1 .only otherBlock
+        (ContentsJudged.other-block 0x20000007 (written-stands 0x20000007 older false (omega arith)) (λ says. omega (arith, says .code-is)))
+
+-- a fourth code answered: the header says code 1 and block 7, and no row accepts it
+abbrev sevenFourth : List ℕ
+sevenFourth = imageOf 0x10000007 older false
+
+fourth-fault : headerFault dataSize sevenFourth ≡ otherBlock
+unfolding headerFault copiesFault headerOf times copies imageOf bytesOf bytes16 bytes32 word32At entriesAt
+fourth-fault = refl
+
+pub answers-fourth-unjudged : (answersFourth sevenFourth ≡ Of 1 7) × (HeaderJudged dataSize sevenFourth 0 → ⊥)
+unfolding copiesFault headerOf times copies imageOf bytesOf bytes16 bytes32 word32At entriesAt
+answers-fourth-unjudged = (refl, no-other (header-exactly sevenFourth dataSize) (λ same. let clash : otherBlock ≡ 0 = sym fourth-fault ∙ same in omega arith))
+
+-- 22 before 5: a block that no header can carry, with a fourth code, is refused 5, and no row gives 22
+block-fault : writeFault dataSize 268435456 1 older [] ≡ noSuchBlock
+unfolding writeFault
+block-fault = refl
+
+pub code-first-unjudged : (codeFirst 268435456 1 older [] ≡ unknownCode) × (WriteJudged dataSize 268435456 1 older [] unknownCode → ⊥)
+code-first-unjudged =
+    (refl, no-other (write-exactly dataSize 268435456 1 older []) (λ same. let clash : noSuchBlock ≡ unknownCode = sym block-fault ∙ same in omega arith))
 
 -- a track image is as long as before a sector image was stored in it
 blank-long : length blank ≡ bytesIn dataSize 5
 unfolding blank
 blank-long = length-replicate {A = ℕ} (bytesIn dataSize 5) 0
 
-track-long : (sector : ℕ) (bytes : List ℕ) → length (trackWith sector bytes) ≡ bytesIn dataSize 5
+track-long : (sector number : ℕ) (bytes : List ℕ) → length (trackWith sector number bytes) ≡ bytesIn dataSize 5
 unfolding trackWith
-track-long sector bytes = length-sets blank (bytesIn dataSize sector) (imageOf 6 bytes false) ∙ blank-long
+track-long sector number bytes = length-sets blank (bytesIn dataSize sector) (imageOf number bytes false) ∙ blank-long
 
 -- and has it in its place
 track-holds :
-    (sector : ℕ) (bytes : List ℕ) → sector < 5 → length bytes ≡ dataSize → imageAt dataSize (bytesIn dataSize sector) (trackWith sector bytes) ≡ imageOf 6 bytes false
+    (sector number : ℕ) (bytes : List ℕ) → sector < 5 → length bytes ≡ dataSize →
+    imageAt dataSize (bytesIn dataSize sector) (trackWith sector number bytes) ≡ imageOf number bytes false
 unfolding trackWith imageAt
-track-holds sector bytes below long =
-    let size : length (imageOf 6 bytes false) ≡ dataSize + imageExtra = length-image 6 bytes false ∙ ap (λ (n : ℕ). n + imageExtra) long in
+track-holds sector number bytes below long =
+    let size : length (imageOf number bytes false) ≡ dataSize + imageExtra = length-image number bytes false ∙ ap (λ (n : ℕ). n + imageExtra) long in
     rw size at
-    (part-sets blank (bytesIn dataSize sector) (imageOf 6 bytes false) (omega (arith, size, blank-long, image-inside dataSize sector 5 below)))
-
-older-long : length older ≡ dataSize
-older-long = length-replicate {A = ℕ} 512 0
+    (part-sets blank (bytesIn dataSize sector) (imageOf number bytes false) (omega (arith, size, blank-long, image-inside dataSize sector 5 below)))
 
 newer-long : length newer ≡ dataSize
 newer-long = length-replicate {A = ℕ} 512 1
 
--- block 6 lies on sector 4 of the second track
-six-on-spare : {Track : Type 0} (home spare : Track) → Seated (driveOf small 2) afterSix 6 home spare spare 4
+-- block 6 lies on sector 4 of the second track, and its descriptor has code 3
+six-on-spare : {Track : Type 0} (home spare : Track) → Seated (driveOf small 2) afterSix 6 home spare spare 4 3
 six-on-spare home spare = on-spare 3 (omega arith) (inr refl, refl)
 
 in-spare-holds :
     {size offset : ℕ} {home spare part : RefT (List ℕ)} → AtSpot size home spare part (InSpare offset) → part .now ≡ take size (drop offset (spare .now))
 in-spare-holds (in-spare lends) = lends .holds
 
-module _ (home spare : RefT (List ℕ)) (home-is : home .now ≡ trackWith 0 older) (spare-is : spare .now ≡ trackWith 4 newer) where
+module _ (home spare : RefT (List ℕ)) (home-is : home .now ≡ trackWith 0 6 older) (spare-is : spare .now ≡ trackWith 4 0x30000006 newer) where
   lent-passes : lentFault dataSize small 2 afterSix eightZeros 6 (home .now) (spare .now) ≡ 0
   unfolding lentFault allBelow firstOr rising
-  lent-passes = rw (home-is, spare-is, track-long 0 older, track-long 4 newer)
+  lent-passes = rw (home-is, spare-is, track-long 0 6 older, track-long 4 0x30000006 newer)
 
   home-holds : homeImage small 2 6 (home .now) ≡ imageOf 6 older false
-  home-holds = rw home-is (track-holds 0 older (omega arith) older-long)
+  home-holds = rw home-is (track-holds 0 6 older (omega arith) older-long)
 
-  spare-holds : imageAt dataSize (bytesIn dataSize 4) (spare .now) ≡ imageOf 6 newer false
-  spare-holds = rw spare-is (track-holds 4 newer (omega arith) newer-long)
+  spare-holds : imageAt dataSize (bytesIn dataSize 4) (spare .now) ≡ imageOf 0x30000006 newer false
+  spare-holds = rw spare-is (track-holds 4 0x30000006 newer (omega arith) newer-long)
 
   home-good : contentsFault dataSize (homeImage small 2 6 (home .now)) 6 ≡ 0
   home-good = rw home-holds (rw older-long at (written-good 6 older (omega arith) (replicate-below 512 0 (omega arith) (omega arith))))
@@ -401,13 +450,13 @@ module _ (home spare : RefT (List ℕ)) (home-is : home .now ≡ trackWith 0 old
   home-handed = rw (lent-passes, home-good, home-holds) (rw older-long at (written-data 6 older false))
 
   spare-spot : spotted dataSize small 2 afterSix eightZeros 6 (home .now) (spare .now) ≡ InSpare (bytesIn dataSize 4 + headerSize)
-  unfolding headerFor placeOf firstBelow sectorIn
+  unfolding headerFor codeFor placeOf firstBelow sectorIn
   spare-spot =
       rw (good-read dataSize small 2 afterSix eightZeros 6 newer newer-long (replicate-below 512 1 (omega arith) (omega arith)) lent-passes (six-on-spare (home .now) (spare .now)) spare-holds)
 
   spare-data : take dataSize (drop (bytesIn dataSize 4 + headerSize) (spare .now)) ≡ newer
   spare-data =
-      sym (data-inside dataSize (bytesIn dataSize 4) (spare .now)) ∙ (ap (dataOf dataSize) spare-holds ∙ (rw newer-long at (written-data 6 newer false)))
+      sym (data-inside dataSize (bytesIn dataSize 4) (spare .now)) ∙ (ap (dataOf dataSize) spare-holds ∙ (rw newer-long at (written-data 0x30000006 newer false)))
 
   -- home for every block: the older data is handed back, and it is not the part at the spot where block 6 lies
   pub reads-home-strays :
@@ -419,6 +468,36 @@ module _ (home spare : RefT (List ℕ)) (home-is : home .now ≡ trackWith 0 old
         let same : older ≡ newer = sym home-handed ∙ (in-spare-holds (rw spare-spot at part) ∙ spare-data) in
         omega (arith, ap (λ (l : List ℕ). getD l 0 0) same),
   )
+
+six-code : codeFault (storedIn dataSize (imageOf 6 older false)) (foundIn dataSize (imageOf 6 older false)) ≡ 0
+unfolding storedIn foundIn dataOf imageOf Code.carried Code.dataCode codeFrom Code.codeAfter rotated wordsOf bytesOf bytes32 bytes16 word16At
+six-code = refl
+
+-- the block alone compared: the image that was made for the home of block 6, on its spare as it is, is accepted, and no row accepts it
+module _ (home spare : List ℕ) (home-long : length home ≡ bytesIn dataSize 5) (spare-is : spare ≡ trackWith 4 6 older) where
+  moved-passes : lentFault dataSize small 2 afterSix eightZeros 6 home spare ≡ 0
+  unfolding lentFault allBelow firstOr rising
+  moved-passes = rw (home-long, spare-is, track-long 4 6 older)
+
+  moved-holds : imageFor dataSize (driveOf small 2) afterSix 6 home spare ≡ imageOf 6 older false
+  unfolding placeOf firstBelow sectorIn
+  moved-holds = rw spare-is (track-holds 4 6 older (omega arith) older-long)
+
+  moved-fault : blockReadFault dataSize small 2 afterSix eightZeros 6 home spare ≡ otherBlock
+  unfolding codeFor headerFor placeOf firstBelow
+  moved-fault =
+      other-read dataSize small 2 afterSix eightZeros 6 older 6 false (omega arith) (λ same. omega arith) moved-passes (six-on-spare home spare)
+      (rw spare-is (track-holds 4 6 older (omega arith) older-long))
+
+  pub compares-block-unjudged :
+      (comparesBlock small 2 afterSix eightZeros 6 home spare ≡ Good) × (BlockReadJudged dataSize small 2 afterSix eightZeros 6 home spare 0 → ⊥)
+  compares-block-unjudged = (
+    rw (moved-passes, moved-holds, address-passes (imageOf 6 older false) 6 stands, stands-header (imageOf 6 older false) 6 stands, six-code),
+    no-other (read-exactly dataSize small 2 afterSix eightZeros 6 home spare) (λ same. let clash : otherBlock ≡ 0 = sym moved-fault ∙ same in omega arith),
+  )
+    where
+      stands : Stands (imageOf 6 older false) 6
+      stands = written-stands 6 older false (omega arith)
 
 -- scratch: block 7 is named by places 3 and 4, so that the table is refused 11
 abbrev twice : List ℕ

@@ -96,11 +96,11 @@ pub record EachCall : Type 0 where
   pub spare-census : (r : ℕ) (t scratch : List ℕ) → SameAnswer NotCounted (λ shape. Spares.CensusOf shape r t scratch)
   pub spare-replace : (r : ℕ) (t scratch : List ℕ) (b : ℕ) → SameFilled NotReplaced t (λ shape. Spares.Replacement shape r t scratch b)
   pub spare-first : (r : ℕ) (list room : List ℕ) → SameFilled NotWritten room (λ shape. FirstTable shape r list room)
-  pub read-judge : (r : ℕ) (t scratch : List ℕ) (b : ℕ) (home spare : List ℕ) → SameAnswer NotGood (λ shape. Reading.Judge shape r t scratch b home spare)
-  pub read-spot : (r : ℕ) (t scratch : List ℕ) (b : ℕ) (home spare : List ℕ) → SameAnswer NotSpotted (λ shape. Reading.Spots shape r t scratch b home spare)
+  pub read-judge : (size r : ℕ) (t scratch : List ℕ) (b : ℕ) (home spare : List ℕ) → SameAnswer NotGood (λ shape. Reading.JudgeSized size shape r t scratch b home spare)
+  pub read-spot : (size r : ℕ) (t scratch : List ℕ) (b : ℕ) (home spare : List ℕ) → SameAnswer NotSpotted (λ shape. Reading.SpotSized size shape r t scratch b home spare)
   pub read-data :
-      (r : ℕ) (t scratch : List ℕ) (b : ℕ) (home spare : RefT (List ℕ)) →
-      InAnyGroups partShown (Lends home 0 []) (λ shape. Reading.Data shape r t scratch b home spare)
+      (size r : ℕ) (t scratch : List ℕ) (b : ℕ) (home spare : RefT (List ℕ)) →
+      InAnyGroups partShown (Lends home 0 []) (λ shape. Reading.DataSized size shape r t scratch b home spare)
   pub scratch-left : (r : ℕ) (before : List ℕ) → InAnyGroups (λ after. after) (λ after. after ≡ before) (λ shape. Scratched shape r before)
 
 pub record Angles : Type 0 where

@@ -1,6 +1,7 @@
 -- Demand 1: every call takes whatever it is handed, ends, and answers or refuses by the paper's numbers. The record `Demand1`, at the end, has a field for each sentence.
 -- That a call takes anything and ends is no field: none of the 27 calls below has a `requires`, and Rattle proves of each function that it is safe and ends.
-use Prim.Native.Nat.{ℕ, _+_, _^_, _<_, _≤_}
+-- What is said of images and of reads is said for any number of data bytes; the public calls are those at 512.
+use Prim.Native.Nat.{ℕ, _+_, _*_, _^_, _<_, _≤_}
 use mathlib.Core.Path.{_≡_}
 use mathlib.Core.Bool.{Bool, true, false}
 use mathlib.Core.List.{List, []}
@@ -10,12 +11,13 @@ use denote.Ref.{RefT}
 use Rattle.paper.specs.Answers.{saidWritten}
 use Rattle.paper.specs.Limits.{dataSize, headerSize, imageExtra}
 use Rattle.paper.specs.Promise.{written}
-use Rattle.paper.specs.Refusals.{forcedError}
+use Rattle.paper.specs.Refusals.{otherBlock, forcedError}
 use Rattle.paper.specs.declared.Placed.{Placed}
 use Rattle.paper.specs.declared.Placed.the-variants.{At}
 use Rattle.paper.specs.declared.Named.{Named}
 use Rattle.paper.specs.declared.Written.{Written}
 use Rattle.paper.specs.declared.Written.the-variants.{Length}
+use Rattle.words.specs.Coded.{wordOf}
 use Rattle.words.specs.Words.{Bytes}
 use Rattle.shape.specs.declared.Shape.{Shape}
 use Rattle.shape.specs.declared.Address.{Address}
@@ -50,12 +52,12 @@ use Rattle.spares.specs.declared.Counted.{Counted}
 use Rattle.spares.specs.Spares.{BlockOnJudged as SpareBlockOnJudged, BlockAtJudged as SpareBlockAtJudged, ReplaceJudged}
 use Rattle.spares.specs.Promises as Spares
 use Rattle.image.specs.declared.Head.{Head}
-use Rattle.image.specs.declared.Head.the-variants.{Number}
+use Rattle.image.specs.declared.Head.the-variants.{Of}
 use Rattle.image.specs.declared.Verdict.{Verdict}
 use Rattle.image.specs.declared.Verdict.the-variants.{Good, Refused as NotGood}
 use Rattle.image.specs.Code.{dataCode}
-use Rattle.image.specs.Image.{Stands, imageOf}
-use Rattle.image.specs.Judged.{ContentsJudged, HeaderJudged, ImageJudged, WriteJudged as ImageWriteJudged}
+use Rattle.image.specs.Image.{imageOf}
+use Rattle.image.specs.Judged.{HeadSays, ContentsJudged, HeaderJudged, ImageJudged, WriteJudged as ImageWriteJudged}
 use Rattle.image.specs.Promises as Image
 use Rattle.reading.specs.declared.answers.Spot.{Spot}
 use Rattle.reading.specs.Judged.{BlockReadJudged}
@@ -116,26 +118,28 @@ pub record EachByTheNumbers : Type 0 where
       WrittenBy (FirstTableJudged shape r list room) result
   -- the sector image
   pub image-write :
-      (number : ℕ) (bytes : List ℕ) (forced : Bool) (room : List ℕ) (result : Written) (after : List ℕ) → Image.Write number bytes forced room result after →
-      WrittenBy (ImageWriteJudged dataSize bytes room) result
-  pub image-header : (image : List ℕ) (result : Head) → Image.Header image result → HeadBy (HeaderJudged dataSize image) result
+      (size block code : ℕ) (bytes : List ℕ) (forced : Bool) (room : List ℕ) (result : Written) (after : List ℕ) →
+      Image.WriteSized size block code bytes forced room result after → WrittenBy (ImageWriteJudged size block code bytes room) result
+  pub image-header : (size : ℕ) (image : List ℕ) (result : Head) → Image.HeaderSized size image result → HeadBy (HeaderJudged size image) result
   pub image-judge :
-      (image : List ℕ) (number : ℕ) (result : Verdict) → Image.Judge image number result → VerdictBy (ImageJudged dataSize image number) result
-  -- the part is empty exactly where the verdict refuses, and else 512 bytes long
+      (size : ℕ) (image : List ℕ) (block code : ℕ) (result : Verdict) → Image.JudgeSized size image block code result →
+      VerdictBy (ImageJudged size image block code) result
+  -- the part is empty exactly where the verdict refuses, and else as long as the data
   pub image-data :
-      (image : RefT (List ℕ)) (number : ℕ) (part : RefT (List ℕ)) → Image.Data image number part →
-      PartBy (ImageJudged dataSize (image .now) number) dataSize (part .now)
+      (size : ℕ) (image : RefT (List ℕ)) (block code : ℕ) (part : RefT (List ℕ)) → Image.DataSized size image block code part →
+      PartBy (ImageJudged size (image .now) block code) size (part .now)
   -- a read of a revectored block
   pub reading-judge :
-      (shape : Shape) (r : ℕ) (t scratch : List ℕ) (b : ℕ) (home spare : List ℕ) (result : Verdict) → Reading.Judge shape r t scratch b home spare result →
-      VerdictBy (BlockReadJudged dataSize shape r t scratch b home spare) result
+      (size : ℕ) (shape : Shape) (r : ℕ) (t scratch : List ℕ) (b : ℕ) (home spare : List ℕ) (result : Verdict) →
+      Reading.JudgeSized size shape r t scratch b home spare result → VerdictBy (BlockReadJudged size shape r t scratch b home spare) result
   pub reading-spot :
-      (shape : Shape) (r : ℕ) (t scratch : List ℕ) (b : ℕ) (home spare : List ℕ) (result : Spot) → Reading.Spots shape r t scratch b home spare result →
-      SpotBy (BlockReadJudged dataSize shape r t scratch b home spare) result
+      (size : ℕ) (shape : Shape) (r : ℕ) (t scratch : List ℕ) (b : ℕ) (home spare : List ℕ) (result : Spot) →
+      Reading.SpotSized size shape r t scratch b home spare result → SpotBy (BlockReadJudged size shape r t scratch b home spare) result
   -- the part, in the same way
   pub reading-data :
-      (shape : Shape) (r : ℕ) (t scratch : List ℕ) (b : ℕ) (home spare part : RefT (List ℕ)) → Reading.Data shape r t scratch b home spare part →
-      PartBy (BlockReadJudged dataSize shape r t scratch b (home .now) (spare .now)) dataSize (part .now)
+      (size : ℕ) (shape : Shape) (r : ℕ) (t scratch : List ℕ) (b : ℕ) (home spare part : RefT (List ℕ)) →
+      Reading.DataSized size shape r t scratch b home spare part →
+      PartBy (BlockReadJudged size shape r t scratch b (home .now) (spare .now)) size (part .now)
 
 -- what is lent to each of the six calls that write stays as it was where the call refuses; what is left of scratch is said in `Scratches`
 pub record EachKeeps : Type 0 where
@@ -157,8 +161,8 @@ pub record EachKeeps : Type 0 where
       (shape : Shape) (r : ℕ) (list room : List ℕ) (result : Written) (after : List ℕ) → FirstTable shape r list room result after →
       Keeps (saidWritten result .0) room after
   pub image-write :
-      (number : ℕ) (bytes : List ℕ) (forced : Bool) (room : List ℕ) (result : Written) (after : List ℕ) → Image.Write number bytes forced room result after →
-      Keeps (saidWritten result .0) room after
+      (size block code : ℕ) (bytes : List ℕ) (forced : Bool) (room : List ℕ) (result : Written) (after : List ℕ) →
+      Image.WriteSized size block code bytes forced room result after → Keeps (saidWritten result .0) room after
 
 -- what each call that fills a room hands back; what a replacement does to its table is said by demand 2
 pub record EachHands : Type 0 where
@@ -180,10 +184,11 @@ pub record EachHands : Type 0 where
   pub spares-first-table :
       (shape : Shape) (r : ℕ) (list room : List ℕ) (long : ℕ) (after : List ℕ) → FirstTable shape r list room (Length long) after →
       Handed (firstTable (driveOf shape r) list) room long after × IsFirstTable (driveOf shape r) list (take long after)
-  -- the 530 bytes of an image
+  -- the bytes of an image, 18 more than its data, whose header carries the word of the code and the block
   pub image-write :
-      (number : ℕ) (bytes : List ℕ) (forced : Bool) (room : List ℕ) (long : ℕ) (after : List ℕ) → Image.Write number bytes forced room (Length long) after →
-      (long ≡ dataSize + imageExtra) × Handed (imageOf number bytes forced) room long after
+      (size block code : ℕ) (bytes : List ℕ) (forced : Bool) (room : List ℕ) (long : ℕ) (after : List ℕ) →
+      Image.WriteSized size block code bytes forced room (Length long) after →
+      (long ≡ size + imageExtra) × Handed (imageOf (wordOf code block) bytes forced) room long after
 
 -- the promise of each call allows one result, one content of each lent room, one part and one place of it
 pub record EachDetermined : Type 0 where
@@ -213,27 +218,26 @@ pub record EachDetermined : Type 0 where
   pub spares-census : (shape : Shape) (r : ℕ) (t scratch : List ℕ) → OneResult (Spares.CensusOf shape r t scratch)
   pub spares-first-table : (shape : Shape) (r : ℕ) (list room : List ℕ) → OneFilled (FirstTable shape r list room)
   -- the sector image, and a read of a revectored block
-  pub image-write : (number : ℕ) (bytes : List ℕ) (forced : Bool) (room : List ℕ) → OneFilled (Image.Write number bytes forced room)
-  pub image-header : (image : List ℕ) → OneResult (Image.Header image)
-  pub image-judge : (image : List ℕ) (number : ℕ) → OneResult (Image.Judge image number)
-  pub image-data : (image : RefT (List ℕ)) (number : ℕ) → OneLent (Image.Data image number)
-  pub reading-judge : (shape : Shape) (r : ℕ) (t scratch : List ℕ) (b : ℕ) (home spare : List ℕ) → OneResult (Reading.Judge shape r t scratch b home spare)
-  pub reading-spot : (shape : Shape) (r : ℕ) (t scratch : List ℕ) (b : ℕ) (home spare : List ℕ) → OneResult (Reading.Spots shape r t scratch b home spare)
-  pub reading-data : (shape : Shape) (r : ℕ) (t scratch : List ℕ) (b : ℕ) (home spare : RefT (List ℕ)) → OneLent (Reading.Data shape r t scratch b home spare)
+  pub image-write : (size block code : ℕ) (bytes : List ℕ) (forced : Bool) (room : List ℕ) → OneFilled (Image.WriteSized size block code bytes forced room)
+  pub image-header : (size : ℕ) (image : List ℕ) → OneResult (Image.HeaderSized size image)
+  pub image-judge : (size : ℕ) (image : List ℕ) (block code : ℕ) → OneResult (Image.JudgeSized size image block code)
+  pub image-data : (size : ℕ) (image : RefT (List ℕ)) (block code : ℕ) → OneLent (Image.DataSized size image block code)
+  pub reading-judge : (size : ℕ) (shape : Shape) (r : ℕ) (t scratch : List ℕ) (b : ℕ) (home spare : List ℕ) → OneResult (Reading.JudgeSized size shape r t scratch b home spare)
+  pub reading-spot : (size : ℕ) (shape : Shape) (r : ℕ) (t scratch : List ℕ) (b : ℕ) (home spare : List ℕ) → OneResult (Reading.SpotSized size shape r t scratch b home spare)
+  pub reading-data : (size : ℕ) (shape : Shape) (r : ℕ) (t scratch : List ℕ) (b : ℕ) (home spare : RefT (List ℕ)) → OneLent (Reading.DataSized size shape r t scratch b home spare)
   -- what the ten calls that are lent a table leave of their scratch
   pub scratch : (shape : Shape) (r : ℕ) (before : List ℕ) → OneResult (Scratched shape r before)
   -- what an image holds has one verdict
   pub one-verdict :
-      (image : List ℕ) (number j k : ℕ) → ContentsJudged dataSize image number j → ContentsJudged dataSize image number k → j ≡ k
+      (size : ℕ) (image : List ℕ) (block code j k : ℕ) → ContentsJudged size image block code j → ContentsJudged size image block code k → j ≡ k
 
--- an image that an accepted write left at the front of some room; its number has 32 bits and its data is bytes, as the call's types say
-pub record WrittenImage (number : ℕ) (bytes : List ℕ) (forced : Bool) (image : List ℕ) : Type 0 where
-  pub fits : number < 2 ^ 32
+-- an image that an accepted write left at the front of some room; its data is bytes, as the call's types say
+pub record WrittenImage (size block code : ℕ) (bytes : List ℕ) (forced : Bool) (image : List ℕ) : Type 0 where
   pub are-bytes : Bytes bytes
   pub room : List ℕ
   pub long : ℕ
   pub after : List ℕ
-  pub wrote : Image.Write number bytes forced room (Length long) after
+  pub wrote : Image.WriteSized size block code bytes forced room (Length long) after
   pub is : image ≡ take long after
 
 -- what one call wrote or answered, another reads again
@@ -255,37 +259,47 @@ pub record EachAgain : Type 0 where
       (page room after : List ℕ) (kind n entries : ℕ) → Bytes page → Page.Reads page room (PageRead kind n entries) after →
       (other filled : List ℕ) (result : Written) → length page ≤ length other → Page.Writes n kind (take entries after) other result filled →
       (result ≡ Length (length page)) × (filled ≡ written page other)
-  -- a header answers a number exactly where the image has 530 bytes and the number stands in three of the four copies
+  -- a header answers a code and a block exactly where the image has its length and a number that says them, with one of the three codes, stands in three of the four copies
   pub header-stands :
-      (image : List ℕ) (number : ℕ) → Image.Header image (Number number) → (length image ≡ dataSize + imageExtra) × Stands image number
+      (size : ℕ) (image : List ℕ) (code block : ℕ) → Image.HeaderSized size image (Of code block) → (length image ≡ size + imageExtra) × HeadSays image code block
   pub standing-header :
-      (image : List ℕ) (number : ℕ) → length image ≡ dataSize + imageExtra → Stands image number → Image.Header image (Number number)
-  -- an image that was written names its block
+      (size : ℕ) (image : List ℕ) (code block : ℕ) → length image ≡ size + imageExtra → HeadSays image code block → Image.HeaderSized size image (Of code block)
+  -- an image that was written says its code and its block
   pub written-names :
-      (number : ℕ) (bytes : List ℕ) (forced : Bool) (image : List ℕ) → WrittenImage number bytes forced image →
-      (result : Head) → Image.Header image result → result ≡ Number number
-  -- written good, it is judged good and gives its data back in place
+      (size block code : ℕ) (bytes : List ℕ) (forced : Bool) (image : List ℕ) → WrittenImage size block code bytes forced image →
+      (result : Head) → Image.HeaderSized size image result → result ≡ Of code block
+  -- written good, it is judged good with that pair and gives its data back in place
   pub written-good-judges :
-      (number : ℕ) (bytes image : List ℕ) → WrittenImage number bytes false image →
-      (result : Verdict) → Image.Judge image number result → result ≡ Good
+      (size block code : ℕ) (bytes image : List ℕ) → WrittenImage size block code bytes false image →
+      (result : Verdict) → Image.JudgeSized size image block code result → result ≡ Good
   pub written-good-gives :
-      (number : ℕ) (bytes : List ℕ) (image : RefT (List ℕ)) → WrittenImage number bytes false (image .now) →
-      (part : RefT (List ℕ)) → Image.Data image number part → Image.Lends image headerSize bytes part
-  -- written forced, it is judged a forced error and gives none
+      (size block code : ℕ) (bytes : List ℕ) (image : RefT (List ℕ)) → WrittenImage size block code bytes false (image .now) →
+      (part : RefT (List ℕ)) → Image.DataSized size image block code part → Image.Lends image headerSize bytes part
+  -- written forced, it is judged a forced error with that pair and gives none
   pub written-forced-judges :
-      (number : ℕ) (bytes image : List ℕ) → WrittenImage number bytes true image →
-      (result : Verdict) → Image.Judge image number result → result ≡ NotGood forcedError
+      (size block code : ℕ) (bytes image : List ℕ) → WrittenImage size block code bytes true image →
+      (result : Verdict) → Image.JudgeSized size image block code result → result ≡ NotGood forcedError
   pub written-forced-gives :
-      (number : ℕ) (bytes : List ℕ) (image : RefT (List ℕ)) → WrittenImage number bytes true (image .now) →
-      (part : RefT (List ℕ)) → Image.Data image number part → part .now ≡ []
+      (size block code : ℕ) (bytes : List ℕ) (image : RefT (List ℕ)) → WrittenImage size block code bytes true (image .now) →
+      (part : RefT (List ℕ)) → Image.DataSized size image block code part → part .now ≡ []
+  -- with any other pair it is refused 16 and gives none, however it was written
+  pub written-other-judges :
+      (size block code : ℕ) (bytes : List ℕ) (forced : Bool) (image : List ℕ) → WrittenImage size block code bytes forced image →
+      (other-block other-code : ℕ) → ((other-block ≡ block) × (other-code ≡ code) → ⊥) →
+      (result : Verdict) → Image.JudgeSized size image other-block other-code result → result ≡ NotGood otherBlock
+  pub written-other-gives :
+      (size block code : ℕ) (bytes : List ℕ) (forced : Bool) (image : RefT (List ℕ)) → WrittenImage size block code bytes forced (image .now) →
+      (other-block other-code : ℕ) → ((other-block ≡ block) × (other-code ≡ code) → ⊥) →
+      (part : RefT (List ℕ)) → Image.DataSized size image other-block other-code part → part .now ≡ []
   -- one changed bit of data changes its code
   pub changed-bit-changes-code :
       (bytes : List ℕ) → Bytes bytes → length bytes ≡ dataSize → (k bit : ℕ) → bit < 8 → k < dataSize →
       dataCode (set bytes k (bitXor (getD bytes k 0) (2 ^ bit))) ≡ dataCode bytes → ⊥
-  -- so a good image of which a data byte is changed is good no more
+  -- so a good image of a whole number of words of which a data byte is changed is good no more
   pub changed-data-not-good :
-      (image : List ℕ) (number k byte : ℕ) → Bytes image → k < dataSize → byte < 256 → (byte ≡ getD image (headerSize + k) 0 → ⊥) →
-      Image.Judge image number Good → Image.Judge (set image (headerSize + k) byte) number Good → ⊥
+      (size words : ℕ) → size ≡ 2 * words → (image : List ℕ) (block code k byte : ℕ) → Bytes image → k < size → byte < 256 →
+      (byte ≡ getD image (headerSize + k) 0 → ⊥) →
+      Image.JudgeSized size image block code Good → Image.JudgeSized size (set image (headerSize + k) byte) block code Good → ⊥
 
 -- the demand, a field for each sentence
 pub record Demand1 : Type 0 where

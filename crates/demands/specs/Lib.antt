@@ -4,6 +4,7 @@ pub mod Scratches
 pub mod Demand2Skipped
 pub mod Demand2Revectored
 pub mod Reads
+pub mod Headers
 pub mod Histories
 pub mod NoHoles
 pub mod Demand3

@@ -84,9 +84,9 @@ ReplacedBy = ByTheNumbers saidReplaced (λ numbers. numbers .0) (λ k. (k, 0)) (
 abbrev pub CountedBy : (ℕ → Type 0) → Counted → Type 0
 CountedBy = ByTheNumbers saidCounted (λ numbers. numbers .0) (λ k. (k, 0, 0, 0, 0, 0)) (λ k result. result ≡ NotCounted k)
 
--- the number of a header
+-- a code and a block
 abbrev pub HeadBy : (ℕ → Type 0) → Head → Type 0
-HeadBy = ByTheNumbers saidHead (λ numbers. numbers .0) (λ k. (k, 0)) (λ k result. result ≡ NoHead k)
+HeadBy = ByTheNumbers saidHead (λ numbers. numbers .0) (λ k. (k, 0, 0)) (λ k result. result ≡ NoHead k)
 
 -- a verdict, which is its number alone
 abbrev pub VerdictBy : (ℕ → Type 0) → Verdict → Type 0

@@ -1,10 +1,10 @@
--- Document 01, "Sector image": a read of any block, at home or on a spare, goes by the one sector image that the block lies on.
-use Prim.Native.Nat.{ℕ, _+_, _*_, _%_}
+-- Document 01, "Sector image": a read of any block, at home or on a spare, goes by the one sector image that the block lies on. All of it is said for any number of data bytes; the public calls are those at 512.
+use Prim.Native.Nat.{ℕ, _+_, _*_, _%_, _<_}
 use mathlib.Core.Path.{_≡_}
 use mathlib.Core.List.{List, []}
 use lib.ListN.{length, take, drop}
 use denote.Ref.{RefT}
-use Rattle.paper.specs.Limits.{dataSize, headerSize, imageExtra}
+use Rattle.paper.specs.Limits.{headerSize, imageExtra}
 use Rattle.paper.specs.declared.Placed.the-variants.{At}
 use Rattle.shape.specs.declared.Shape.{Shape}
 use Rattle.table.specs.Lookup.{Replaced}
@@ -14,7 +14,7 @@ use Rattle.image.specs.declared.Verdict.{Verdict}
 use Rattle.image.specs.declared.Verdict.the-variants.{Good}
 use Rattle.image.specs.Promises.{saidVerdict, Lends}
 use Rattle.reading.specs.declared.answers.Spot.{Spot}
-use Rattle.reading.specs.Promises.{Judge, Data, Spots, AtSpot, saidSpot}
+use Rattle.reading.specs.Promises.{JudgeSized, DataSized, SpotSized, AtSpot, saidSpot}
 use Rattle.demands.specs.Incident.{imageFrom}
 
 -- of two images the one that a block lies in: the second for a replaced block, else that of its home track
@@ -22,13 +22,13 @@ pub data LiesIn {Image : Type 0} (t : List ℕ) (b : ℕ) (home spare : Image) :
   at-home : (Replaced t b → ⊥) → LiesIn t b home spare home
   on-spare : Replaced t b → LiesIn t b home spare spare
 
--- where the image of sector s starts in the image of its track: the sector inside the track times 530
-abbrev pub startAt : Shape → ℕ → ℕ
-startAt shape s = s % shape .sectors * (dataSize + imageExtra)
+-- where the image of sector s starts in the image of its track: the sector inside the track times the length of a sector image
+abbrev pub startAt : ℕ → Shape → ℕ → ℕ
+startAt size shape s = s % shape .sectors * (size + imageExtra)
 
 -- where its data begins: 16 bytes further
-abbrev pub dataAt : Shape → ℕ → ℕ
-dataAt shape s = startAt shape s + headerSize
+abbrev pub dataAt : ℕ → Shape → ℕ → ℕ
+dataAt size shape s = startAt size shape s + headerSize
 
 -- two images of one length
 abbrev pub AsLong : List ℕ → List ℕ → Type 0
@@ -38,45 +38,45 @@ AsLong image other = length image ≡ length other
 pub record ReadsInPlace : Type 0 where
   -- data of a block that is judged good is handed back in place: the part lies where the data of the block's sector does, in the image that the block lies in, and holds what stands there
   pub lends-in-place :
-      (shape : Shape) (r : ℕ) (t asked judged read : List ℕ) (b s : ℕ) (home spare track part : RefT (List ℕ)) →
+      (size : ℕ) (shape : Shape) (r : ℕ) (t asked judged read : List ℕ) (b s : ℕ) (home spare track part : RefT (List ℕ)) →
       SectorOf shape r t asked b (At s) → LiesIn t b home spare track →
-      Judge shape r t judged b (home .now) (spare .now) Good → Enough shape r read → Data shape r t read b home spare part →
-      Lends track (dataAt shape s) (take dataSize (drop (dataAt shape s) (track .now))) part
-  -- which are 512 bytes
+      JudgeSized size shape r t judged b (home .now) (spare .now) Good → Enough shape r read → DataSized size shape r t read b home spare part →
+      Lends track (dataAt size shape s) (take size (drop (dataAt size shape s) (track .now))) part
+  -- which is as many bytes as a sector has of data
   pub lends-whole :
-      (shape : Shape) (r : ℕ) (t judged read : List ℕ) (b : ℕ) (home spare part : RefT (List ℕ)) →
-      Judge shape r t judged b (home .now) (spare .now) Good → Enough shape r read → Data shape r t read b home spare part → length (part .now) ≡ dataSize
+      (size : ℕ) (shape : Shape) (r : ℕ) (t judged read : List ℕ) (b : ℕ) (home spare part : RefT (List ℕ)) →
+      JudgeSized size shape r t judged b (home .now) (spare .now) Good → Enough shape r read → DataSized size shape r t read b home spare part → length (part .now) ≡ size
   -- the part is empty where the verdict refuses
   pub refused-empty :
-      (shape : Shape) (r : ℕ) (t judged read : List ℕ) (b : ℕ) (home spare part : RefT (List ℕ)) (verdict : Verdict) →
-      Enough shape r judged → Judge shape r t judged b (home .now) (spare .now) verdict → Data shape r t read b home spare part →
+      (size : ℕ) (shape : Shape) (r : ℕ) (t judged read : List ℕ) (b : ℕ) (home spare part : RefT (List ℕ)) (verdict : Verdict) →
+      Enough shape r judged → JudgeSized size shape r t judged b (home .now) (spare .now) verdict → DataSized size shape r t read b home spare part →
       (saidVerdict verdict ≡ 0 → ⊥) → part .now ≡ []
-  -- and nowhere else
+  -- and nowhere else, where a sector has data at all
   pub empty-refused :
-      (shape : Shape) (r : ℕ) (t judged read : List ℕ) (b : ℕ) (home spare part : RefT (List ℕ)) (verdict : Verdict) →
-      Judge shape r t judged b (home .now) (spare .now) verdict → Enough shape r read → Data shape r t read b home spare part →
+      (size : ℕ) → 0 < size → (shape : Shape) (r : ℕ) (t judged read : List ℕ) (b : ℕ) (home spare part : RefT (List ℕ)) (verdict : Verdict) →
+      JudgeSized size shape r t judged b (home .now) (spare .now) verdict → Enough shape r read → DataSized size shape r t read b home spare part →
       part .now ≡ [] → saidVerdict verdict ≡ 0 → ⊥
-  -- the verdict looks at the 530 bytes of the sector that the block lies on and at no other: images of the same lengths that agree on those have the same verdict
+  -- the verdict looks at the image of the sector that the block lies on and at no other: images of the same lengths that agree on it have the same verdict
   pub same-verdict :
-      (shape : Shape) (r : ℕ) (t asked judged judged′ : List ℕ) (b s : ℕ) (home spare track home′ spare′ track′ : List ℕ) (verdict again : Verdict) →
+      (size : ℕ) (shape : Shape) (r : ℕ) (t asked judged judged′ : List ℕ) (b s : ℕ) (home spare track home′ spare′ track′ : List ℕ) (verdict again : Verdict) →
       SectorOf shape r t asked b (At s) → LiesIn t b home spare track → LiesIn t b home′ spare′ track′ →
-      AsLong home home′ → AsLong spare spare′ → imageFrom (startAt shape s) track ≡ imageFrom (startAt shape s) track′ →
+      AsLong home home′ → AsLong spare spare′ → imageFrom size (startAt size shape s) track ≡ imageFrom size (startAt size shape s) track′ →
       Enough shape r judged → Enough shape r judged′ →
-      Judge shape r t judged b home spare verdict → Judge shape r t judged′ b home′ spare′ again → verdict ≡ again
+      JudgeSized size shape r t judged b home spare verdict → JudgeSized size shape r t judged′ b home′ spare′ again → verdict ≡ again
   -- and their parts hold the same
   pub same-data :
-      (shape : Shape) (r : ℕ) (t asked read read′ : List ℕ) (b s : ℕ) (home spare track home′ spare′ track′ part again : RefT (List ℕ)) →
+      (size : ℕ) (shape : Shape) (r : ℕ) (t asked read read′ : List ℕ) (b s : ℕ) (home spare track home′ spare′ track′ part again : RefT (List ℕ)) →
       SectorOf shape r t asked b (At s) → LiesIn t b home spare track → LiesIn t b home′ spare′ track′ →
-      AsLong (home .now) (home′ .now) → AsLong (spare .now) (spare′ .now) → imageFrom (startAt shape s) (track .now) ≡ imageFrom (startAt shape s) (track′ .now) →
+      AsLong (home .now) (home′ .now) → AsLong (spare .now) (spare′ .now) → imageFrom size (startAt size shape s) (track .now) ≡ imageFrom size (startAt size shape s) (track′ .now) →
       Enough shape r read → Enough shape r read′ →
-      Data shape r t read b home spare part → Data shape r t read′ b home′ spare′ again → part .now ≡ again .now
+      DataSized size shape r t read b home spare part → DataSized size shape r t read′ b home′ spare′ again → part .now ≡ again .now
   -- the spot of a block that is judged good says the image that the block lies in, 0 or 1, and where the data begins
   pub spot-in-place :
-      (shape : Shape) (r : ℕ) (t asked judged spotted : List ℕ) (b s image : ℕ) (home spare : List ℕ) (spot : Spot) →
+      (size : ℕ) (shape : Shape) (r : ℕ) (t asked judged spotted : List ℕ) (b s image : ℕ) (home spare : List ℕ) (spot : Spot) →
       SectorOf shape r t asked b (At s) → LiesIn t b 0 1 image →
-      Judge shape r t judged b home spare Good → Enough shape r spotted → Spots shape r t spotted b home spare spot → saidSpot spot ≡ (0, image, dataAt shape s)
+      JudgeSized size shape r t judged b home spare Good → Enough shape r spotted → SpotSized size shape r t spotted b home spare spot → saidSpot spot ≡ (0, image, dataAt size shape s)
   -- and the data lies at the spot
   pub data-at-spot :
-      (shape : Shape) (r : ℕ) (t spotted read : List ℕ) (b : ℕ) (home spare part : RefT (List ℕ)) (spot : Spot) →
+      (size : ℕ) (shape : Shape) (r : ℕ) (t spotted read : List ℕ) (b : ℕ) (home spare part : RefT (List ℕ)) (spot : Spot) →
       Enough shape r spotted → Enough shape r read →
-      Spots shape r t spotted b (home .now) (spare .now) spot → Data shape r t read b home spare part → AtSpot dataSize home spare part spot
+      SpotSized size shape r t spotted b (home .now) (spare .now) spot → DataSized size shape r t read b home spare part → AtSpot size home spare part spot

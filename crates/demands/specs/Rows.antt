@@ -1,4 +1,4 @@
--- Document 01, "Numbers to try": those that are marked P, and some of ours beside them; document 02, Q-9: angles, Q-3: spares that die, Q-6: scratch, and Q-7: holes; all as the rows of one table, and what it is for a row to hold.
+-- Document 01, "Numbers to try": those that are marked P, and some of ours beside them; document 02, Q-9: angles, Q-3: spares that die, Q-6: scratch, Q-7: holes, and Q-4: headers; all as the rows of one table, and what it is for a row to hold.
 use Prim.Native.Nat.{ℕ, _+_, _<_, _≤_}
 use mathlib.Core.Path.{_≡_}
 use mathlib.Core.Bool.{Bool, true, false}
@@ -6,7 +6,7 @@ use mathlib.Core.List.{List, [], _∷_, _++_}
 use lib.IntN.{ℤ, pos, negsuc}
 use lib.ListN.{length, replicate, set}
 use Rattle.paper.specs.Answers.{saidPlaced, saidNamed, saidWritten}
-use Rattle.paper.specs.Limits.{dataSize, imageExtra}
+use Rattle.paper.specs.Limits.{dataSize, headerSize, imageExtra}
 use Rattle.paper.specs.declared.Written.{Written}
 use Rattle.paper.specs.Promise.{written}
 use Rattle.shape.specs.declared.Shape.{Shape}
@@ -19,9 +19,14 @@ use Rattle.table.specs.Scratch.{Enough}
 use Rattle.first_table.specs.Promises.{FirstTable}
 use Rattle.spares.specs.declared.Replaced.{Replaced}
 use Rattle.spares.specs.Promises as Spares
-use Rattle.image.specs.Image.{storedIn}
-use Rattle.image.specs.Promises.{Write}
+use Rattle.words.specs.Coded.{codeUnit}
+use Rattle.words.specs.Words.{Bytes, bytesOf}
+use Rattle.image.specs.Header.{Known}
+use Rattle.image.specs.Image.{copies, storedIn}
+use Rattle.image.specs.Promises.{Write, Header, Judge, saidHead, saidVerdict}
+use Rattle.reading.specs.Promises as Reading
 use Rattle.demands.specs.Relations.{AllowsOnly}
+use Rattle.demands.specs.Headers.{Holding}
 use Rattle.demands.specs.Inputs.{few, chart, small, eight, noneReplaced, afterSeven, afterEight, afterSix, sevenOnFive, eightOnThree, sevenOnSix, sixOnTwo, sevenOnSeven, zeroOnZero, sevenOnOne, sevenPastFour, fourHeads, twoGroups, largest, tall, tallWith, holding}
 
 -- a row: a call, what goes into it, and the paper's figures for what comes out; the refusal comes first, 0 where the call accepts
@@ -52,8 +57,18 @@ pub data Row : Type 0 where
   spare-census : (shape : Shape) (r : ℕ) (table : List ℕ) (figures : ℕ × ℕ × ℕ × ℕ × ℕ × ℕ) → Row
   -- spares::sector_of, of whatever block, with any scratch that is too short: refused 7
   spare-short : (shape : Shape) (r : ℕ) (table : List ℕ) → Row
-  -- image::write, accepted, of good data or of data that was bad: the code that the image carries
+  -- image::write, accepted, of good data or of data that was bad, with any block and code that a header may have: the code of the data that the image carries
   image-write : (forced : Bool) (bytes : List ℕ) (code : ℕ) → Row
+  -- image::write, accepted, of whatever data: the four copies in the image's header
+  image-heads : (block code : ℕ) (heads : List ℕ) → Row
+  -- image::write, of so many bytes into a room of so many: refused, and the room as it was
+  image-unwritten : (block code data-length room-length refusal : ℕ) → Row
+  -- image::header, of an image with these four copies, whatever follows them: refusal, code, block
+  image-header : (heads : List ℕ) (figures : ℕ × ℕ × ℕ) → Row
+  -- image::judge, of such an image: refusal
+  image-judge : (heads : List ℕ) (block code refusal : ℕ) → Row
+  -- reading::judge, of a block whose sector holds a good image with this number in its header: refusal
+  read-judge : (shape : Shape) (r : ℕ) (table : List ℕ) (block number refusal : ℕ) → Row
 
 -- a row holds where the promise of its call allows its figures alone, in any room and with any scratch that is long enough
 abbrev pub Holds : Row → Type 0
@@ -99,10 +114,27 @@ Holds (spare-short shape r table) =
     (scratch : List ℕ) → length scratch < driveOf shape r .spares → (block : ℕ) →
     AllowsOnly (Spares.SectorOf shape r table scratch block) (λ answer. saidPlaced answer ≡ (7, 0))
 Holds (image-write forced bytes code) =
-    (number : ℕ) (room : List ℕ) → dataSize + imageExtra ≤ length room →
+    (block header-code : ℕ) → block < codeUnit → Known header-code → (room : List ℕ) → dataSize + imageExtra ≤ length room →
     AllowsOnly
-    (λ (answer : Written × List ℕ). Write number bytes forced room (answer .0) (answer .1))
+    (λ (answer : Written × List ℕ). Write block header-code bytes forced room (answer .0) (answer .1))
     (λ answer. (saidWritten (answer .0) ≡ (0, dataSize + imageExtra)) × (storedIn dataSize (answer .1) ≡ code))
+Holds (image-heads block code heads) =
+    (bytes : List ℕ) (forced : Bool) (room : List ℕ) → length bytes ≡ dataSize → dataSize + imageExtra ≤ length room →
+    AllowsOnly
+    (λ (answer : Written × List ℕ). Write block code bytes forced room (answer .0) (answer .1))
+    (λ answer. (saidWritten (answer .0) ≡ (0, dataSize + imageExtra)) × (copies (answer .1) ≡ heads))
+Holds (image-unwritten block code data-length room-length refusal) =
+    (bytes : List ℕ) (forced : Bool) (room : List ℕ) → length bytes ≡ data-length → length room ≡ room-length →
+    AllowsOnly
+    (λ (answer : Written × List ℕ). Write block code bytes forced room (answer .0) (answer .1))
+    (λ answer. (saidWritten (answer .0) ≡ (refusal, 0)) × (answer .1 ≡ room))
+Holds (image-header heads figures) =
+    (rest : List ℕ) → headerSize + length rest ≡ dataSize + imageExtra → AllowsOnly (Header (bytesOf heads ++ rest)) (λ answer. saidHead answer ≡ figures)
+Holds (image-judge heads block code refusal) =
+    (rest : List ℕ) → headerSize + length rest ≡ dataSize + imageExtra → AllowsOnly (Judge (bytesOf heads ++ rest) block code) (λ answer. saidVerdict answer ≡ refusal)
+Holds (read-judge shape r table block number refusal) =
+    (home spare bytes : List ℕ) → Bytes bytes → Holding dataSize shape r table block home spare number bytes false →
+    (scratch : List ℕ) → Enough shape r scratch → AllowsOnly (Reading.Judge shape r table scratch block home spare) (λ answer. saidVerdict answer ≡ refusal)
 
 -- every row of a table holds
 infixr 20 _also_
@@ -120,7 +152,7 @@ firstOne = 0 ∷ 1 ∷ replicate 510 0
 abbrev pub lastOne : List ℕ
 lastOne = replicate 511 0 ++ (1 ∷ [])
 
--- the table, in the paper's order, and then the rows of requests Q-9, Q-3, Q-6 and Q-7; what the paper does not mark P is said to be ours
+-- the table, in the paper's order, and then the rows of requests Q-9, Q-3, Q-6, Q-7 and Q-4; what the paper does not mark P is said to be ours
 abbrev pub paperRows : List Row
 paperRows =
     -- the chart's blocks 3, 57, 58 and 843
@@ -230,4 +262,38 @@ paperRows =
     ∷ spare-sector tall 1 (set (tallWith 5 0x30000190) 259 0) 400 (11, 0)
     ∷ spare-sector tall 1 (set (tallWith 5 0x30000190) 4 0) 400 (11, 0)
     ∷ spare-sector tall 1 (set (tallWith 5 0x30000190) 6 0) 400 (0, 17)
+    -- Q-4: the header of block 7 at home and at its primary, and of the last block that a header can carry, elsewhere
+    ∷ image-heads 7 0 (replicate 4 0x00000007)
+    ∷ image-heads 7 2 (replicate 4 0x20000007)
+    ∷ image-heads 268435455 3 (replicate 4 0x3fffffff)
+    -- a block more, with code 1 too: first the length of the data is looked at, then the block
+    ∷ image-unwritten 268435456 1 511 530 14
+    ∷ image-unwritten 268435456 1 512 530 5
+    -- then the code, and then the room
+    ∷ image-unwritten 7 1 512 530 22
+    ∷ image-unwritten 7 15 512 530 22
+    ∷ image-unwritten 7 2 512 529 7
+    -- three copies of four
+    ∷ image-header (0x30000007 ∷ 0x30000007 ∷ 0x30000007 ∷ 0x00000007 ∷ []) (0, 3, 7)
+    -- fourth codes
+    ∷ image-header (replicate 4 0x10000007) (16, 0, 0)
+    ∷ image-header (replicate 4 0x80000000) (16, 0, 0)
+    ∷ image-header (replicate 4 0xffffffff) (16, 0, 0)
+    -- two copies and two: whole numbers are compared
+    ∷ image-header (0x20000007 ∷ 0x20000007 ∷ 0x00000007 ∷ 0x00000007 ∷ []) (15, 0, 0)
+    -- block 7 at its primary, where another code is expected, or a pair that makes the same word
+    ∷ image-judge (replicate 4 0x20000007) 7 0 16
+    ∷ image-judge (replicate 4 0x20000007) 7 1 16
+    ∷ image-judge (replicate 4 0x20000007) 7 3 16
+    ∷ image-judge (replicate 4 0x20000007) 268435463 1 16
+    -- a fourth code that is expected too
+    ∷ image-judge (replicate 4 0x10000007) 7 1 16
+    -- reads of block 7 at its primary, of block 8 elsewhere, and of block 6 at home
+    ∷ read-judge small 2 afterEight 7 0x20000007 0
+    ∷ read-judge small 2 afterEight 7 0x30000007 16
+    ∷ read-judge small 2 afterEight 7 0x00000007 16
+    ∷ read-judge small 2 afterEight 8 0x30000008 0
+    ∷ read-judge small 2 afterEight 8 0x20000008 16
+    ∷ read-judge small 2 afterEight 6 0x00000006 0
+    ∷ read-judge small 2 afterEight 6 0x20000006 16
     ∷ []

@@ -251,3 +251,11 @@ module _ (size block code : ℕ) (bytes room : List ℕ) where
       (rows (When unknownCode (Known code → ⊥)) (When noRoom (NoRoom (size + imageExtra) room))
       (row (tells-not (tells-known code)) unknownCode)
       (row (tells-lt (length room) (size + imageExtra)) noRoom)))
+
+  pub write-passes : Writable size block code bytes room → writeFault size block code bytes room ≡ 0
+  write-passes may =
+      write-exactly .only 0
+      (later (When.passed (λ other. other (may .long)))
+      (later (When.passed (λ over. omega arith))
+      (later (When.passed (λ fourth. fourth (may .known)))
+      (When.passed (λ short. omega arith)))))

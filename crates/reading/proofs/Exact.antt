@@ -18,8 +18,9 @@ use Rattle.layout.specs.declared.Drive.{Drive}
 use Rattle.layout.specs.Layouts.{driveOf}
 use Rattle.layout.proofs.Sectors.{blocks-few}
 use Rattle.table.specs.Rules.{Sound, blockFault, BlockJudged}
+use Rattle.table.specs.Scratch.{Enough}
 use Rattle.table.specs.Steps.{Obeys}
-use Rattle.table.proofs.Exact.{sound-laid, sound-obeys, block-sound, block-below, block-exactly}
+use Rattle.table.proofs.Exact.{sound-laid, sound-obeys, block-sound, block-below, block-passes, block-exactly}
 use Rattle.words.specs.Coded.{codeUnit}
 use Rattle.image.specs.Image.{contentsFault}
 use Rattle.image.proofs.Exact.{sector-exactly}
@@ -81,6 +82,16 @@ module _ (size : ℕ) (shape : Shape) (r : ℕ) (t scratch : List ℕ) (b : ℕ)
       let first = orElse-first (blockFault shape r t scratch b) _ none in
       let lengths = lengths-show size shape home spare (orElse-next (blockFault shape r t scratch b) _ none) in
       record { sound = block-sound shape r t scratch b first; below = block-below shape r t scratch b first; home-long = lengths .0; spare-long = lengths .1 }
+
+  -- and passes where all of that is known and the scratch is long enough
+  pub lent-passes : Lent size shape r t b home spare → Enough shape r scratch → lentFault size shape r t scratch b home spare ≡ 0
+  unfolding lentFault
+  lent-passes lent enough =
+      rw (
+        block-passes shape r t scratch (lent .sound) enough b (lent .below),
+        eq-eqb (length home) (bytesIn size (shape .sectors)) (lent .home-long),
+        eq-eqb (length spare) (bytesIn size (shape .sectors)) (lent .spare-long),
+      )
 
   pub read-exactly : Exactly (BlockReadJudged size shape r t scratch b home spare) (blockReadFault size shape r t scratch b home spare)
   unfolding blockReadFault lentFault

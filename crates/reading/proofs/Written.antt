@@ -71,14 +71,6 @@ module _ (size : ℕ) (shape : Shape) (r : ℕ) (t scratch : List ℕ) (b : ℕ)
             read-lying size shape r t scratch b home spare none
             ∙ rw (lies-there none seat held, ← long) (written-forced (headerFor t b) bytes (header-fits (lent-shows size shape r t scratch b home spare none)) h)
 
-        -- and 16 with any other header
-        pub other-read :
-            (number : ℕ) (forced : Bool) → number < 2 ^ 32 → (number ≡ headerFor t b → ⊥) → imageAt size (bytesIn size sector) track ≡ imageOf number bytes forced →
-            blockReadFault size shape r t scratch b home spare ≡ otherBlock
-        other-read number forced fits other held =
-            read-lying size shape r t scratch b home spare none
-            ∙ rw (lies-there none seat held) (sector-other (imageOf number bytes forced) size (headerFor t b) number (written-stands number bytes forced fits) other)
-
     module _
         (home spare part : RefT (List ℕ))
         (given-part : DataSized size shape r t scratch b home spare part)
@@ -98,9 +90,19 @@ module _ (size : ℕ) (shape : Shape) (r : ℕ) (t scratch : List ℕ) (b : ℕ)
             refused-empty size shape r t scratch b home spare part given-part
             (λ passed. let same : forcedError ≡ 0 = sym (forced-read none seat held) ∙ passed in omega arith)
 
-        pub other-part :
-            (number : ℕ) (forced : Bool) → number < 2 ^ 32 → (number ≡ headerFor t b → ⊥) → imageAt size (bytesIn size sector) track ≡ imageOf number bytes forced →
-            part .now ≡ []
-        other-part number forced fits other held =
-            refused-empty size shape r t scratch b home spare part given-part
-            (λ passed. let same : otherBlock ≡ 0 = sym (other-read none seat number forced fits other held) ∙ passed in omega arith)
+  -- with another number in the header the read is refused 16, and the part is empty
+  module _ (bytes : List ℕ) (number : ℕ) (forced : Bool) (fits : number < 2 ^ 32) (other : number ≡ headerFor t b → ⊥) where
+    pub other-read :
+        {home spare track : List ℕ} {sector code : ℕ} → lentFault size shape r t scratch b home spare ≡ 0 → Seated (driveOf shape r) t b home spare track sector code →
+        imageAt size (bytesIn size sector) track ≡ imageOf number bytes forced → blockReadFault size shape r t scratch b home spare ≡ otherBlock
+    other-read {home} {spare} none seat held =
+        read-lying size shape r t scratch b home spare none
+        ∙ rw (lies-there none seat held) (sector-other (imageOf number bytes forced) size (headerFor t b) number (written-stands number bytes forced fits) other)
+
+    pub other-part :
+        (home spare part : RefT (List ℕ)) → DataSized size shape r t scratch b home spare part → {track : List ℕ} {sector code : ℕ} →
+        lentFault size shape r t scratch b (home .now) (spare .now) ≡ 0 → Seated (driveOf shape r) t b (home .now) (spare .now) track sector code →
+        imageAt size (bytesIn size sector) track ≡ imageOf number bytes forced → part .now ≡ []
+    other-part home spare part given-part none seat held =
+        refused-empty size shape r t scratch b home spare part given-part
+        (λ passed. let same : otherBlock ≡ 0 = sym (other-read none seat held) ∙ passed in omega arith)
