@@ -16,8 +16,8 @@ use Rattle.page.specs.Promises.{saidPaged, Reads, Writes}
 use Rattle.format.specs.Promises.{saidFormatted, Formats}
 use Rattle.first_table.specs.Promises.{FirstTable}
 use Rattle.spares.specs.Promises.{SectorOf as SpareSectorOf, AddressOf as SpareAddressOf, ShiftOf, BlockOn as SpareBlockOn, BlockAt as SpareBlockAtOf, Replacement, CensusOf, saidReplaced}
-use Rattle.image.specs.Promises.{Write, Header, Judge as ImageVerdict}
-use Rattle.reading.specs.Promises.{Judge as ReadVerdict, Spots}
+use Rattle.image.specs.Promises.{WriteSized, HeaderSized, JudgeSized as ImageVerdict}
+use Rattle.reading.specs.Promises.{JudgeSized as ReadVerdict, SpotSized as Spots}
 use Rattle.demands.proofs.Determined.{image-header, image-judge, reading-judge, reading-spot, shape-address-of, shape-sector-of, skip-block-on, skip-cursor-check, skip-cursor-start, skip-cursor-step, skip-sector-of, skipped-address-of, skipped-block-at, spares-address-of, spares-block-at, spares-block-on, spares-census, spares-sector-of, spares-shift}
 use Rattle.board.specs.declared.answers.TbCounted.{TbCounted}
 use Rattle.board.specs.declared.answers.TbFormatted.{TbFormatted}
@@ -42,8 +42,8 @@ countedOf n = record { refusal = n .0; free = n .1; primary = n .2; elsewhere = 
 abbrev formattedOf : ℕ × ℕ × ℕ × ℕ → TbFormatted
 formattedOf n = record { refusal = n .0; grown = n .1; list = n .2; space = n .3 }
 
-abbrev headedOf : ℕ × ℕ → TbHeaded
-headedOf n = record { refusal = n .0; block = n .1 }
+abbrev headedOf : ℕ × ℕ × ℕ → TbHeaded
+headedOf n = record { refusal = n .0; code = n .1; block = n .2 }
 
 abbrev jobOf : ℕ × ℕ × ℕ × ℕ → TbJob
 jobOf n = record { refusal = n .0; sector = n .1; next = record { block = n .2; skipped = n .3 } }
@@ -161,21 +161,21 @@ spare-first-one shape r list room {first} {second} one other =
     (ap writtenOf fields, same .1)
 
 pub image-write-one :
-    (block : ℕ) (bytes : List ℕ) (forced : Bool) (room : List ℕ) {after otherAfter : List ℕ} {first second : TbWritten} → TellsWritten (λ answer. Write block bytes forced room answer after) first → TellsWritten (λ answer. Write block bytes forced room answer otherAfter) second →
+    (size block code : ℕ) (bytes : List ℕ) (forced : Bool) (room : List ℕ) {after otherAfter : List ℕ} {first second : TbWritten} → TellsWritten (λ answer. WriteSized size block code bytes forced room answer after) first → TellsWritten (λ answer. WriteSized size block code bytes forced room answer otherAfter) second →
     (first ≡ second) × (after ≡ otherAfter)
-image-write-one block bytes forced room {first} {second} one other =
+image-write-one size block code bytes forced room {first} {second} one other =
     let same = fills-one (one .promised) (other .promised) in
     let fields : writtenFields first ≡ writtenFields second = one .are-said ∙ (ap saidWritten (same .0) ∙ sym (other .are-said)) in
     (ap writtenOf fields, same .1)
 
-pub image-header-one : (image : List ℕ) {first second : TbHeaded} → TellsHeaded (Header image) first → TellsHeaded (Header image) second → first ≡ second
-image-header-one image one other = ap headedOf (told-one (image-header image) one other)
+pub image-header-one : (size : ℕ) (image : List ℕ) {first second : TbHeaded} → TellsHeaded (HeaderSized size image) first → TellsHeaded (HeaderSized size image) second → first ≡ second
+image-header-one size image one other = ap headedOf (told-one (image-header size image) one other)
 
-pub image-judge-one : (image : List ℕ) (block : ℕ) {first second : TbJudged} → TellsJudged (ImageVerdict image block) first → TellsJudged (ImageVerdict image block) second → first ≡ second
-image-judge-one image block one other = ap judgedOf (told-one (image-judge image block) one other)
+pub image-judge-one : (size : ℕ) (image : List ℕ) (block code : ℕ) {first second : TbJudged} → TellsJudged (ImageVerdict size image block code) first → TellsJudged (ImageVerdict size image block code) second → first ≡ second
+image-judge-one size image block code one other = ap judgedOf (told-one (image-judge size image block code) one other)
 
-pub read-judge-one : (shape : Shape) (r : ℕ) (table scratch : List ℕ) (block : ℕ) (home spare : List ℕ) {first second : TbJudged} → TellsJudged (ReadVerdict shape r table scratch block home spare) first → TellsJudged (ReadVerdict shape r table scratch block home spare) second → first ≡ second
-read-judge-one shape r table scratch block home spare one other = ap judgedOf (told-one (reading-judge shape r table scratch block home spare) one other)
+pub read-judge-one : (size : ℕ) (shape : Shape) (r : ℕ) (table scratch : List ℕ) (block : ℕ) (home spare : List ℕ) {first second : TbJudged} → TellsJudged (ReadVerdict size shape r table scratch block home spare) first → TellsJudged (ReadVerdict size shape r table scratch block home spare) second → first ≡ second
+read-judge-one size shape r table scratch block home spare one other = ap judgedOf (told-one (reading-judge size shape r table scratch block home spare) one other)
 
-pub read-data-one : (shape : Shape) (r : ℕ) (table scratch : List ℕ) (block : ℕ) (home spare : List ℕ) {first second : TbSpotted} → TellsSpotted (Spots shape r table scratch block home spare) first → TellsSpotted (Spots shape r table scratch block home spare) second → first ≡ second
-read-data-one shape r table scratch block home spare one other = ap spottedOf (told-one (reading-spot shape r table scratch block home spare) one other)
+pub read-data-one : (size : ℕ) (shape : Shape) (r : ℕ) (table scratch : List ℕ) (block : ℕ) (home spare : List ℕ) {first second : TbSpotted} → TellsSpotted (Spots size shape r table scratch block home spare) first → TellsSpotted (Spots size shape r table scratch block home spare) second → first ≡ second
+read-data-one size shape r table scratch block home spare one other = ap spottedOf (told-one (reading-spot size shape r table scratch block home spare) one other)

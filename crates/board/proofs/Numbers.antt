@@ -4,7 +4,6 @@ use Prim.Native.Nat.{ℕ}
 use mathlib.Core.Bool.{Bool}
 use mathlib.Core.List.{List}
 use lib.IntN.{pos}
-use Rattle.paper.specs.Limits.{dataSize}
 use Rattle.shape.specs.declared.Shape.{Shape}
 use Rattle.shape.specs.Promises.{SectorOf as ShapeSectorOf, AddressOf as ShapeAddressOf}
 use Rattle.skip.specs.declared.Cursor.{Cursor}
@@ -14,8 +13,8 @@ use Rattle.page.specs.Promises.{Reads, Writes}
 use Rattle.format.specs.Promises.{Formats}
 use Rattle.first_table.specs.Promises.{FirstTable}
 use Rattle.spares.specs.Promises.{SectorOf as SpareSectorOf, AddressOf as SpareAddressOf, ShiftOf, BlockOn as SpareBlockOn, BlockAt as SpareBlockAtOf, Replacement, CensusOf}
-use Rattle.image.specs.Promises.{Write, Header, Judge as ImageVerdict}
-use Rattle.reading.specs.Promises.{Judge as ReadVerdict, Spots}
+use Rattle.image.specs.Promises.{WriteSized, HeaderSized, JudgeSized as ImageVerdict}
+use Rattle.reading.specs.Promises.{JudgeSized as ReadVerdict, SpotSized as Spots}
 use Rattle.shape.specs.Addresses.{SectorOfJudged as ShapeSectorOfJudged, AddressOfJudged as ShapeAddressOfJudged}
 use Rattle.skip.specs.Translation.{SectorOfJudged as SkipSectorOfJudged, BlockOnJudged as SkipBlockOnJudged}
 use Rattle.skip.specs.Cursors.{CheckJudged, StepJudged}
@@ -120,20 +119,20 @@ spare-first-numbers shape r list room after = told-numbers (λ given promise. sp
 pub spare-first-kept : (shape : Shape) (r : ℕ) (list room : List ℕ) (after : List ℕ) {result : TbWritten} → TellsWritten (λ answer. FirstTable shape r list room answer after) result → Keeps (writtenFields result .0) room after
 spare-first-kept shape r list room after = told-keeps (λ fields. fields .0) (λ given promise. spares-first-table-keeps shape r list room given after promise)
 
-pub image-write-numbers : (block : ℕ) (bytes : List ℕ) (forced : Bool) (room : List ℕ) (after : List ℕ) {result : TbWritten} → TellsWritten (λ answer. Write block bytes forced room answer after) result → NumbersBy (λ fields. fields .0) (λ k. (k, 0)) (ImageWriteJudged dataSize bytes room) (writtenFields result)
-image-write-numbers block bytes forced room after = told-numbers (λ given promise. image-write block bytes forced room given after promise)
+pub image-write-numbers : (size block code : ℕ) (bytes : List ℕ) (forced : Bool) (room : List ℕ) (after : List ℕ) {result : TbWritten} → TellsWritten (λ answer. WriteSized size block code bytes forced room answer after) result → NumbersBy (λ fields. fields .0) (λ k. (k, 0)) (ImageWriteJudged size block code bytes room) (writtenFields result)
+image-write-numbers size block code bytes forced room after = told-numbers (λ given promise. image-write size block code bytes forced room given after promise)
 
-pub image-write-kept : (block : ℕ) (bytes : List ℕ) (forced : Bool) (room : List ℕ) (after : List ℕ) {result : TbWritten} → TellsWritten (λ answer. Write block bytes forced room answer after) result → Keeps (writtenFields result .0) room after
-image-write-kept block bytes forced room after = told-keeps (λ fields. fields .0) (λ given promise. image-write-keeps block bytes forced room given after promise)
+pub image-write-kept : (size block code : ℕ) (bytes : List ℕ) (forced : Bool) (room : List ℕ) (after : List ℕ) {result : TbWritten} → TellsWritten (λ answer. WriteSized size block code bytes forced room answer after) result → Keeps (writtenFields result .0) room after
+image-write-kept size block code bytes forced room after = told-keeps (λ fields. fields .0) (λ given promise. image-write-keeps size block code bytes forced room given after promise)
 
-pub image-header-numbers : (image : List ℕ) {result : TbHeaded} → TellsHeaded (Header image) result → NumbersBy (λ fields. fields .0) (λ k. (k, 0)) (HeaderJudged dataSize image) (headedFields result)
-image-header-numbers image = told-numbers (image-header image)
+pub image-header-numbers : (size : ℕ) (image : List ℕ) {result : TbHeaded} → TellsHeaded (HeaderSized size image) result → NumbersBy (λ fields. fields .0) (λ k. (k, 0, 0)) (HeaderJudged size image) (headedFields result)
+image-header-numbers size image = told-numbers (image-header size image)
 
-pub image-judge-numbers : (image : List ℕ) (block : ℕ) {result : TbJudged} → TellsJudged (ImageVerdict image block) result → NumbersBy (λ fields. fields) (λ k. k) (ImageJudged dataSize image block) (judgedFields result)
-image-judge-numbers image block = told-numbers (image-judge image block)
+pub image-judge-numbers : (size : ℕ) (image : List ℕ) (block code : ℕ) {result : TbJudged} → TellsJudged (ImageVerdict size image block code) result → NumbersBy (λ fields. fields) (λ k. k) (ImageJudged size image block code) (judgedFields result)
+image-judge-numbers size image block code = told-numbers (image-judge size image block code)
 
-pub read-judge-numbers : (shape : Shape) (r : ℕ) (table scratch : List ℕ) (block : ℕ) (home spare : List ℕ) {result : TbJudged} → TellsJudged (ReadVerdict shape r table scratch block home spare) result → NumbersBy (λ fields. fields) (λ k. k) (BlockReadJudged dataSize shape r table scratch block home spare) (judgedFields result)
-read-judge-numbers shape r table scratch block home spare = told-numbers (reading-judge shape r table scratch block home spare)
+pub read-judge-numbers : (size : ℕ) (shape : Shape) (r : ℕ) (table scratch : List ℕ) (block : ℕ) (home spare : List ℕ) {result : TbJudged} → TellsJudged (ReadVerdict size shape r table scratch block home spare) result → NumbersBy (λ fields. fields) (λ k. k) (BlockReadJudged size shape r table scratch block home spare) (judgedFields result)
+read-judge-numbers size shape r table scratch block home spare = told-numbers (reading-judge size shape r table scratch block home spare)
 
-pub read-data-numbers : (shape : Shape) (r : ℕ) (table scratch : List ℕ) (block : ℕ) (home spare : List ℕ) {result : TbSpotted} → TellsSpotted (Spots shape r table scratch block home spare) result → NumbersBy (λ fields. fields .0) (λ k. (k, 0, 0)) (BlockReadJudged dataSize shape r table scratch block home spare) (spottedFields result)
-read-data-numbers shape r table scratch block home spare = told-numbers (reading-spot shape r table scratch block home spare)
+pub read-data-numbers : (size : ℕ) (shape : Shape) (r : ℕ) (table scratch : List ℕ) (block : ℕ) (home spare : List ℕ) {result : TbSpotted} → TellsSpotted (Spots size shape r table scratch block home spare) result → NumbersBy (λ fields. fields .0) (λ k. (k, 0, 0)) (BlockReadJudged size shape r table scratch block home spare) (spottedFields result)
+read-data-numbers size shape r table scratch block home spare = told-numbers (reading-spot size shape r table scratch block home spare)
