@@ -49,7 +49,7 @@ enum tb_refusal {
     TB_TOO_LONG = 2,          /* a list is, or a list to be made would be, longer than TB_LIST_MOST */
     TB_NOT_RISING = 3,        /* an entry of a list does not exceed the entry before it */
     TB_OUTSIDE = 4,           /* an entry of a list is not a unit of its space */
-    TB_NO_SUCH_BLOCK = 5,     /* the block asked for lies beyond the last one */
+    TB_NO_SUCH_BLOCK = 5,     /* the block asked for lies beyond the last one, or the number of the block to write is TB_CODE_UNIT or more */
     TB_NO_SUCH_SECTOR = 6,    /* the sector, cylinder or head asked for lies beyond the last one */
     TB_NO_ROOM = 7,           /* the room for a result, or scratch, has too few elements */
     TB_BAD_PAGE = 8,          /* the bytes are no list page, or there is no such kind of page */
@@ -60,9 +60,11 @@ enum tb_refusal {
     TB_NO_SPARE = 13,         /* no spare is left, or too few for all bad home sectors */
     TB_WRONG_LENGTH = 14,     /* the data or an image is not as long as it must be */
     TB_NO_ADDRESS = 15,       /* fewer than three copies in the header agree */
-    TB_OTHER_BLOCK = 16,      /* the header carries another block's number */
+    TB_OTHER_BLOCK = 16,      /* the header says another block or another code than it must, or a code that no header may have */
     TB_FORCED_ERROR = 17,     /* the sector was written as bad: its data was lost before */
-    TB_BAD_CODE = 18          /* the data does not have the code that stands behind it */
+    TB_BAD_CODE = 18,         /* the data does not have the code that stands behind it */
+    /* 19, 20 and 21 are given by no call of this library. */
+    TB_UNKNOWN_CODE = 22      /* the code to write is none of TB_AT_HOME, TB_AT_PRIMARY and TB_ELSEWHERE */
 };
 
 /* ---- Limits and sizes ---- */
@@ -80,6 +82,7 @@ enum tb_refusal {
 #define TB_IMAGE_EXTRA 18u        /* bytes of an image that are no data: header and code */
 #define TB_IMAGE_SIZE (TB_DATA_SIZE + TB_IMAGE_EXTRA) /* 530: bytes of a sector image */
 #define TB_START_CODE 0x5A3Cu     /* the code of no data */
+#define TB_CODE_UNIT 268435456u   /* 2 to the power of 28: the low 28 bits of a word are a number, and the four bits above them a code */
 #define TB_PAGE_FRAME 14u         /* bytes of a page that are no entries */
 #define TB_ENTRY_SIZE 4u          /* bytes of an entry of a page */
 #define TB_PAGE_MOST TB_PAGE_LENGTH(TB_LIST_MOST) /* 262158: bytes of the longest page */
@@ -92,6 +95,16 @@ enum tb_refusal {
 #define TB_PAGE_LENGTH(entries) (TB_PAGE_FRAME + TB_ENTRY_SIZE * (entries))
 #define TB_TRACK_LENGTH(sectors) (TB_IMAGE_SIZE * (sectors))
 #define TB_TABLE_LENGTH(spares) (TB_TABLE_BLOCK * (((spares) + TB_TABLE_BLOCK - 1u) / TB_TABLE_BLOCK))
+
+/* A descriptor is a word, and so is the number that stands in a header: code x TB_CODE_UNIT + block. The code of a header tells where the block is.
+ * These are all that a header may have. A descriptor that names a block has one of the last two. */
+#define TB_AT_HOME 0u    /* at home */
+#define TB_AT_PRIMARY 2u /* replaced, on its primary spare */
+#define TB_ELSEWHERE 3u  /* replaced, on any other spare */
+
+/* The code of a word, and its number: the block, in a header or in a descriptor that names one. */
+#define TB_CODE_OF(word) ((word) / TB_CODE_UNIT)
+#define TB_NUMBER_OF(word) ((word) % TB_CODE_UNIT)
 
 /* ---- What goes in and comes out ---- */
 
@@ -186,6 +199,7 @@ typedef struct tb_counted {
 
 typedef struct tb_headed {
     uint32_t refusal;
+    uint32_t code; /* TB_AT_HOME, TB_AT_PRIMARY or TB_ELSEWHERE */
     uint32_t block;
 } tb_headed;
 
@@ -332,22 +346,36 @@ tb_written tb_spare_first(tb_shape shape, uint32_t r, const uint32_t *list, size
 
 /* ---- Sector images ---- */
 
-/* Writes the image of a block's data: a good one, or, where forced is true, one that tells every reader that the data was bad already.
- * Checks: TB_WRONG_LENGTH (data), TB_NO_ROOM. Answers length, TB_IMAGE_SIZE. Writes the image into the first bytes of room. */
-tb_written tb_image_write(uint32_t block, const uint8_t *data, size_t data_length, bool forced, uint8_t *room, size_t room_length);
+/* An image begins with four copies of one number, which says a code and a block. Then come the data, and the 16-bit code of the data, which is
+ * another thing. Three of the four copies must be alike as whole 32-bit numbers, else no number stands in the header: TB_NO_ADDRESS.
+ *
+ * The code to write for a block is TB_AT_HOME where the block lies at home. For a replaced block it is that of its descriptor. So after a
+ * replacement it is TB_CODE_OF(table[place]), with the place that tb_spare_replace answers. An image with TB_AT_HOME has the plain block number in
+ * its header. */
 
-/* The number that the header of an image carries.
- * Checks: TB_WRONG_LENGTH (image), TB_NO_ADDRESS. Answers block. Writes nothing. */
+/* Writes the image of a block's data: a good one, or, where forced is true, one that tells every reader that the data was bad already.
+ * Checks: TB_WRONG_LENGTH (data), TB_NO_SUCH_BLOCK (block is TB_CODE_UNIT or more), TB_UNKNOWN_CODE (code), TB_NO_ROOM. Answers length,
+ * TB_IMAGE_SIZE. Writes the image into the first bytes of room. */
+tb_written tb_image_write(
+    uint32_t block, uint32_t code, const uint8_t *data, size_t data_length, bool forced, uint8_t *room, size_t room_length);
+
+/* The code and the block that the header of an image says.
+ * Checks: TB_WRONG_LENGTH (image), TB_NO_ADDRESS, TB_OTHER_BLOCK (a code that no header may have). Answers code and block. Writes nothing. */
 tb_headed tb_image_header(const uint8_t *image, size_t image_length);
 
-/* The verdict on the image of a block. Where it accepts, the data is the TB_DATA_SIZE bytes from TB_HEADER_SIZE on.
+/* The verdict on the image of a block with a code. Where it accepts, the data is the TB_DATA_SIZE bytes from TB_HEADER_SIZE on. The header must say
+ * this code and this block, each by itself. No header says a code that is none of the three, or a block of TB_CODE_UNIT or more: where one is
+ * expected, every number that stands in the header is refused TB_OTHER_BLOCK.
  * Checks: TB_WRONG_LENGTH (image), TB_NO_ADDRESS, TB_OTHER_BLOCK, then TB_FORCED_ERROR or TB_BAD_CODE. Writes nothing. */
-tb_judged tb_image_judge(const uint8_t *image, size_t image_length, uint32_t block);
+tb_judged tb_image_judge(const uint8_t *image, size_t image_length, uint32_t block, uint32_t code);
 
 /* ---- A read of a block of a revectored drive, from two track images ---- */
 
 /* home is the image of the block's home track, and spare the image of its spare's track. For a block at home, spare may be the image of
- * any track. Both are TB_TRACK_LENGTH(sectors) bytes long. A block lies in one of them, and no byte of the other is looked at. */
+ * any track. Both are TB_TRACK_LENGTH(sectors) bytes long. A block lies in one of them, and no byte of the other is looked at.
+ *
+ * The header must say the block, and the code that the table says: that of the block's descriptor, or TB_AT_HOME where the block lies at home. So
+ * the number that must stand in it is the descriptor itself, or the plain block number. */
 
 /* The verdict on a block.
  * Checks: TB_OUT_OF_RANGE (shape, r), TB_NO_ROOM (scratch), TB_BAD_TABLE, TB_NO_SUCH_BLOCK, TB_WRONG_LENGTH (either image), TB_NO_ADDRESS,
