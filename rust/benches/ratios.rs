@@ -12,7 +12,8 @@ use std::process::exit;
 use std::time::{Duration, Instant};
 
 use tautberry::{
-    format, image, page, page_length, spares, table_length, Cursor, Refusal, Shape, UNITS_MOST,
+    format, image, page, page_length, spares, table_length, Cursor, Refusal, Shape, AT_HOME,
+    AT_PRIMARY, ELSEWHERE, UNITS_MOST,
 };
 
 #[path = "../plain/mod.rs"]
@@ -243,24 +244,30 @@ fn checks() {
     }
 }
 
-/// Verdicts on 64 MiB of data, in 131,072 images one after the other.
+/// Verdicts on 64 MiB of data, in 131,072 images one after the other, with each code in turn.
 fn verdicts() {
     let count = 64 * 1_024 * 1_024 / 512;
+    let code = |block: usize| [AT_HOME, AT_PRIMARY, ELSEWHERE][block % 3];
     let mut images = vec![0; count * 530];
     let mut data = [0; 512];
     for (block, image) in images.chunks_exact_mut(530).enumerate() {
         for (at, byte) in data.iter_mut().enumerate() {
             *byte = (at * 31 + block * 7) as u8;
         }
-        image::write(block as u32, &data, block % 16 == 0, image).expect("512 bytes");
+        let written = image::write(block as u32, code(block), &data, block % 16 == 0, image);
+        written.expect("512 bytes, a block and a code");
     }
     let library = || {
         let images = black_box(&images).chunks_exact(530).enumerate();
-        images.filter(|(block, image)| image::judge(image, *block as u32).is_ok()).count()
+        images
+            .filter(|(block, image)| image::judge(image, *block as u32, code(*block)).is_ok())
+            .count()
     };
     let plain = || {
         let images = black_box(&images).chunks_exact(530).enumerate();
-        images.filter(|(block, image)| plain::judge(image, *block as u32).is_ok()).count()
+        images
+            .filter(|(block, image)| plain::judge(image, *block as u32, code(*block)).is_ok())
+            .count()
     };
     compare("verdicts on 64 MiB of sectors", "sector", count as u64, library, plain);
 }

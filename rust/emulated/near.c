@@ -266,10 +266,10 @@ tb_written tb_spare_first(tb_shape shape, uint32_t r, const uint32_t *list, size
     RETURN(tb_written, SPARE_FIRST);
 }
 
-tb_written tb_image_write(uint32_t block, const uint8_t *data, size_t data_length, bool forced, uint8_t *room,
-                          size_t room_length)
+tb_written tb_image_write(uint32_t block, uint32_t code, const uint8_t *data, size_t data_length, bool forced,
+                          uint8_t *room, size_t room_length)
 {
-    uint32_t numbers[] = {block, forced};
+    uint32_t numbers[] = {block, code, forced};
     struct slice slices[] = {READ(data, data_length), ROOM(room, room_length)};
     RETURN(tb_written, IMAGE_WRITE);
 }
@@ -281,9 +281,9 @@ tb_headed tb_image_header(const uint8_t *image, size_t image_length)
     RETURN(tb_headed, IMAGE_HEADER);
 }
 
-tb_judged tb_image_judge(const uint8_t *image, size_t image_length, uint32_t block)
+tb_judged tb_image_judge(const uint8_t *image, size_t image_length, uint32_t block, uint32_t code)
 {
-    uint32_t numbers[] = {block};
+    uint32_t numbers[] = {block, code};
     struct slice slices[] = {READ(image, image_length)};
     RETURN(tb_judged, IMAGE_JUDGE);
 }

@@ -3,7 +3,7 @@
 use super::numbers::{check_list, check_size, fill, refuse, Answer, LIST_MOST};
 
 /// The big-endian number in four bytes from `at`.
-pub fn word(bytes: &[u8], at: usize) -> u32 {
+fn word(bytes: &[u8], at: usize) -> u32 {
     let mut number = 0;
     for byte in &bytes[at..at + 4] {
         number = number * 256 + u32::from(*byte);

@@ -130,7 +130,7 @@ fn check_drive(shape: Shape, r: u32) -> Answer<Drive> {
     })
 }
 
-/// The number of a descriptor, below its code.
+/// The number of a word, below its code.
 const NUMBER: u32 = 0x0FFF_FFFF;
 
 /// Whether a descriptor names a block.
@@ -272,7 +272,7 @@ pub fn spare_sector(
     Ok(track * drive.sectors + sector)
 }
 
-fn code(data: &[u8]) -> u16 {
+fn data_code(data: &[u8]) -> u16 {
     data.chunks_exact(2).fold(0x5A3C, |code: u16, pair| {
         code.rotate_left(1) ^ u16::from_be_bytes([pair[0], pair[1]])
     })
@@ -294,11 +294,12 @@ fn header(image: &[u8]) -> Answer<u32> {
     }
 }
 
-/// The verdict on a sector image.
-pub fn judge(image: &[u8], block: u32) -> Answer<()> {
+/// The verdict on a sector image of a block with a code.
+pub fn judge(image: &[u8], block: u32, code: u32) -> Answer<()> {
     refuse(image.len() != IMAGE, 14)?;
-    refuse(header(image)? != block, 16)?;
-    let found = code(&image[16..16 + DATA]);
+    let word = header(image)?;
+    refuse(word >> 28 != code || word & NUMBER != block || !matches!(code, 0 | 2 | 3), 16)?;
+    let found = data_code(&image[16..16 + DATA]);
     match u16::from_be_bytes([image[528], image[529]]) {
         stored if stored == found => Ok(()),
         stored if stored == !found => Err(17),

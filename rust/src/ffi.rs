@@ -80,6 +80,7 @@ pub struct Counted {
 #[repr(C)]
 pub struct Headed {
     pub refusal: u32,
+    pub code: u32,
     pub block: u32,
 }
 
@@ -227,6 +228,7 @@ extern "C" {
 
     pub fn tb_image_write(
         block: u32,
+        code: u32,
         data: *const u8,
         data_length: usize,
         forced: bool,
@@ -234,7 +236,7 @@ extern "C" {
         room_length: usize,
     ) -> Written;
     pub fn tb_image_header(image: *const u8, image_length: usize) -> Headed;
-    pub fn tb_image_judge(image: *const u8, image_length: usize, block: u32) -> Judged;
+    pub fn tb_image_judge(image: *const u8, image_length: usize, block: u32, code: u32) -> Judged;
 
     pub fn tb_read_judge(
         shape: Shape,

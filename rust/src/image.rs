@@ -1,47 +1,77 @@
-//! A sector's image of 530 bytes: four copies of the block number, the data, the code.
+//! A sector's image of 530 bytes: four copies of a number that says a code and a block, the data, the code
+//! of the data.
+//!
+//! The code of a header tells where the block is: [`AT_HOME`](crate::AT_HOME),
+//! [`AT_PRIMARY`](crate::AT_PRIMARY) or [`ELSEWHERE`](crate::ELSEWHERE). The one to write for a replaced
+//! block is that of its descriptor, [`code_of`](crate::code_of)`(table[place])` with the place that
+//! [`replace`](crate::spares::replace) answers. Any other code is unknown, and no header may have it.
 
 use crate::ffi;
 use crate::refusal::{answered, Refusal};
 use crate::{DATA_SIZE, HEADER_SIZE};
 
-/// Writes the image of `block` to the first bytes of `room` and answers its length; a forced image
-/// says that the data was bad when it was written.
+/// What a header says: one of the three codes, and a block.
+#[derive(Clone, Copy, Debug, PartialEq, Eq, Hash)]
+pub struct Head {
+    pub code: u32,
+    pub block: u32,
+}
+
+/// Writes the image of `block` with `code` to the first bytes of `room` and answers its length; a forced
+/// image says that the data was bad when it was written.
 ///
 /// Checks: [`WrongLength`](Refusal::WrongLength) where `data` is not 512 bytes;
-/// [`NoRoom`](Refusal::NoRoom).
-pub fn write(block: u32, data: &[u8], forced: bool, room: &mut [u8]) -> Result<u32, Refusal> {
+/// [`NoSuchBlock`](Refusal::NoSuchBlock) where `block` is [`CODE_UNIT`](crate::CODE_UNIT) or more;
+/// [`UnknownCode`](Refusal::UnknownCode); [`NoRoom`](Refusal::NoRoom).
+pub fn write(
+    block: u32,
+    code: u32,
+    data: &[u8],
+    forced: bool,
+    room: &mut [u8],
+) -> Result<u32, Refusal> {
     // SAFETY: pointers and lengths are those of live slices, and the room overlaps nothing.
     let answer = unsafe {
-        ffi::tb_image_write(block, data.as_ptr(), data.len(), forced, room.as_mut_ptr(), room.len())
+        ffi::tb_image_write(
+            block,
+            code,
+            data.as_ptr(),
+            data.len(),
+            forced,
+            room.as_mut_ptr(),
+            room.len(),
+        )
     };
     answered(answer.refusal, answer.length)
 }
 
-/// The number that the header names.
+/// The code and the block that the header says.
 ///
 /// Checks: [`WrongLength`](Refusal::WrongLength) where `image` is not 530 bytes;
-/// [`NoAddress`](Refusal::NoAddress).
-pub fn header(image: &[u8]) -> Result<u32, Refusal> {
+/// [`NoAddress`](Refusal::NoAddress); [`OtherBlock`](Refusal::OtherBlock) where the code is unknown.
+pub fn header(image: &[u8]) -> Result<Head, Refusal> {
     // SAFETY: the pointer and length are those of a live slice.
     let answer = unsafe { ffi::tb_image_header(image.as_ptr(), image.len()) };
-    answered(answer.refusal, answer.block)
+    answered(answer.refusal, Head { code: answer.code, block: answer.block })
 }
 
-/// Accepts a good image of `block`.
+/// Accepts a good image of `block` with `code`. No header says an unknown code, nor a block of
+/// [`CODE_UNIT`](crate::CODE_UNIT) or more: where one is expected, every header is
+/// [`OtherBlock`](Refusal::OtherBlock).
 ///
 /// Checks: [`WrongLength`](Refusal::WrongLength) where `image` is not 530 bytes;
-/// [`NoAddress`](Refusal::NoAddress); [`OtherBlock`](Refusal::OtherBlock);
+/// [`NoAddress`](Refusal::NoAddress); [`OtherBlock`](Refusal::OtherBlock), also for another code;
 /// [`ForcedError`](Refusal::ForcedError) or [`BadCode`](Refusal::BadCode).
-pub fn judge(image: &[u8], block: u32) -> Result<(), Refusal> {
+pub fn judge(image: &[u8], block: u32, code: u32) -> Result<(), Refusal> {
     // SAFETY: the pointer and length are those of a live slice.
-    let answer = unsafe { ffi::tb_image_judge(image.as_ptr(), image.len(), block) };
+    let answer = unsafe { ffi::tb_image_judge(image.as_ptr(), image.len(), block, code) };
     answered(answer.refusal, ())
 }
 
-/// The 512 bytes of data of a good image of `block`, where they lie in `image`.
+/// The 512 bytes of data of a good image of `block` with `code`, where they lie in `image`.
 ///
 /// Checks: those of [`judge`].
-pub fn data(image: &[u8], block: u32) -> Result<&[u8], Refusal> {
-    judge(image, block)?;
+pub fn data(image: &[u8], block: u32, code: u32) -> Result<&[u8], Refusal> {
+    judge(image, block, code)?;
     Ok(&image[HEADER_SIZE..HEADER_SIZE + DATA_SIZE])
 }

@@ -56,7 +56,7 @@ pub const SPARES_MOST: u32 = 65_536;
 pub const TABLE_BLOCK: usize = 128;
 /// The bytes of a sector's data.
 pub const DATA_SIZE: usize = 512;
-/// The bytes of a sector image before its data: four copies of the block number.
+/// The bytes of a sector image before its data: four copies of the number that says a code and a block.
 pub const HEADER_SIZE: usize = 16;
 /// The bytes of a sector image beside its data.
 pub const IMAGE_EXTRA: usize = 18;
@@ -64,6 +64,14 @@ pub const IMAGE_EXTRA: usize = 18;
 pub const IMAGE_SIZE: usize = DATA_SIZE + IMAGE_EXTRA;
 /// The code of no data.
 pub const START_CODE: u16 = 0x5A3C;
+/// A word, a descriptor or the number of a header, is its code times this and its number, which is below it.
+pub const CODE_UNIT: u32 = 268_435_456;
+/// The code of a header whose block is at home.
+pub const AT_HOME: u32 = 0;
+/// The code of a header or a descriptor whose block is replaced, on its primary spare.
+pub const AT_PRIMARY: u32 = 2;
+/// The code of a header or a descriptor whose block is replaced, on any other spare.
+pub const ELSEWHERE: u32 = 3;
 /// The bytes of a list page beside its entries.
 pub const PAGE_FRAME: usize = 14;
 /// The bytes of an entry of a page.
@@ -76,6 +84,16 @@ pub const KIND_MOST: u32 = 1;
 pub const OPTION_MOST: u32 = 7;
 /// The last space.
 pub const SPACE_MOST: u32 = 3;
+
+/// The code of a word.
+pub const fn code_of(word: u32) -> u32 {
+    word / CODE_UNIT
+}
+
+/// The number of a word: the block, in a header or in a descriptor that names one.
+pub const fn number_of(word: u32) -> u32 {
+    word % CODE_UNIT
+}
 
 /// The bytes of a page with so many entries.
 pub const fn page_length(entries: usize) -> usize {

@@ -1,7 +1,8 @@
 //! A read of a revectored block from the image of its home track and that of its spare's track.
 //!
 //! No byte of the other image is looked at. For a block at home the second image may be
-//! any of the right length. Each call checks the table whole, and takes `scratch` for that and leaves
+//! any of the right length. The header must say the block, and the code that the table says: that of the
+//! block's descriptor, or [`AT_HOME`](crate::AT_HOME) for a block at home. Each call checks the table whole, and takes `scratch` for that and leaves
 //! it as the calls of [`spares`](crate::spares) do.
 
 use crate::ffi;
@@ -28,8 +29,8 @@ pub struct Spot {
 /// Checks: [`OutOfRange`](Refusal::OutOfRange) for shape, `r` and the number of spares;
 /// [`NoRoom`](Refusal::NoRoom) for `scratch`; [`BadTable`](Refusal::BadTable);
 /// [`NoSuchBlock`](Refusal::NoSuchBlock); [`WrongLength`](Refusal::WrongLength) where either image is
-/// not 530 bytes a sector; [`NoAddress`](Refusal::NoAddress); [`OtherBlock`](Refusal::OtherBlock);
-/// [`ForcedError`](Refusal::ForcedError) or [`BadCode`](Refusal::BadCode).
+/// not 530 bytes a sector; [`NoAddress`](Refusal::NoAddress); [`OtherBlock`](Refusal::OtherBlock), also
+/// for another code; [`ForcedError`](Refusal::ForcedError) or [`BadCode`](Refusal::BadCode).
 pub fn judge(
     shape: Shape,
     r: u32,

@@ -16,7 +16,8 @@ pub enum Refusal {
     NotRising = 3,
     /// An entry of a list is no unit of its space.
     Outside = 4,
-    /// The drive has no block of this number.
+    /// The drive has no block of this number, or the block to write is
+    /// [`CODE_UNIT`](crate::CODE_UNIT) or more.
     NoSuchBlock = 5,
     /// The drive has no sector of this number, or no such cylinder, head or sector of a track.
     NoSuchSector = 6,
@@ -38,17 +39,20 @@ pub enum Refusal {
     WrongLength = 14,
     /// Fewer than three copies in the header agree.
     NoAddress = 15,
-    /// The header carries another block's number.
+    /// The header says another block or another code than it must, or a code that no header may have.
     OtherBlock = 16,
     /// The stored code is the complement: the data was bad when it was written.
     ForcedError = 17,
     /// The stored code is neither the data's nor its complement.
     BadCode = 18,
+    // 19, 20 and 21 are given by no call of this library.
+    /// The code to write is none of the three that a header may have.
+    UnknownCode = 22,
 }
 
 impl Refusal {
     /// Every refusal, by rising number.
-    pub const ALL: [Refusal; 17] = [
+    pub const ALL: [Refusal; 18] = [
         Refusal::OutOfRange,
         Refusal::TooLong,
         Refusal::NotRising,
@@ -66,14 +70,15 @@ impl Refusal {
         Refusal::OtherBlock,
         Refusal::ForcedError,
         Refusal::BadCode,
+        Refusal::UnknownCode,
     ];
 
-    /// The refusal's number, 1 to 18 without 12.
+    /// The refusal's number: 1 to 18 without 12, or 22.
     pub const fn number(self) -> u32 {
         self as u32
     }
 
-    /// The refusal of a number, none for 0, for 12 and above 18.
+    /// The refusal of a number, none where no refusal has it.
     pub fn of_number(number: u32) -> Option<Refusal> {
         Refusal::ALL.into_iter().find(|each| each.number() == number)
     }
@@ -98,6 +103,7 @@ impl Refusal {
             Refusal::OtherBlock => "other block",
             Refusal::ForcedError => "forced error",
             Refusal::BadCode => "bad code",
+            Refusal::UnknownCode => "unknown code",
         }
     }
 }

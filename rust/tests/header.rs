@@ -56,21 +56,22 @@ fn refusals_are_those_of_the_header() {
     }
     assert_eq!(theirs, ours);
 
-    // 17 names beside the first; 12 has none.
+    // 18 names beside the first; 12 has none, and neither have 19 to 21.
     let numbers: Vec<u32> = theirs.into_iter().map(|(_, number)| number).collect();
-    let expected: Vec<u32> = (0..12).chain(13..=18).collect();
+    let expected: Vec<u32> = (0..12).chain(13..=18).chain([22]).collect();
     assert_eq!(numbers, expected);
 }
 
 #[test]
 fn numbers_turn_into_refusals_and_back() {
-    for number in (1..12).chain(13..=18) {
+    for number in (1..12).chain(13..=18).chain([22]) {
         assert_eq!(Refusal::of_number(number).map(Refusal::number), Some(number));
     }
-    for number in [0, 12, 19, u32::MAX] {
+    for number in [0, 12, 19, 20, 21, 23, u32::MAX] {
         assert_eq!(Refusal::of_number(number), None);
     }
     assert_eq!(Refusal::NoSpare.to_string(), "refused 13: no spare");
+    assert_eq!(Refusal::UnknownCode.to_string(), "refused 22: unknown code");
 }
 
 /// The crate's constants by name.
@@ -95,6 +96,10 @@ fn limits_are_those_of_the_header() {
         HEADER_SIZE,
         IMAGE_EXTRA,
         START_CODE,
+        CODE_UNIT,
+        AT_HOME,
+        AT_PRIMARY,
+        ELSEWHERE,
         PAGE_FRAME,
         ENTRY_SIZE,
         KIND_MOST,
@@ -115,7 +120,9 @@ fn limits_are_those_of_the_header() {
 
     // What the header makes of these, the crate makes in the same way.
     let expected = [
+        ("CODE_OF(word)", "((word) / TB_CODE_UNIT)"),
         ("IMAGE_SIZE", "(TB_DATA_SIZE + TB_IMAGE_EXTRA)"),
+        ("NUMBER_OF(word)", "((word) % TB_CODE_UNIT)"),
         ("PAGE_LENGTH(entries)", "(TB_PAGE_FRAME + TB_ENTRY_SIZE * (entries))"),
         ("PAGE_MOST", "TB_PAGE_LENGTH(TB_LIST_MOST)"),
         (
@@ -127,6 +134,10 @@ fn limits_are_those_of_the_header() {
     let expected = expected.map(|(name, text)| (name.to_string(), text.to_string()));
     assert_eq!(made, BTreeMap::from(expected));
     assert_eq!((IMAGE_SIZE, PAGE_MOST), (530, 262_158));
+    let words = [0, 7, 0x0FFF_FFFF, 0x1000_0000, 0x2000_0007, 0x3FFF_FFFF, 0x8000_0000, u32::MAX];
+    assert_eq!(words.map(code_of), [0, 0, 0, 1, 2, 3, 8, 15]);
+    let numbers = [0, 7, 0x0FFF_FFFF, 0, 7, 0x0FFF_FFFF, 0, 0x0FFF_FFFF];
+    assert_eq!(words.map(number_of), numbers);
     assert_eq!((page_length(2), track_length(5)), (22, 2_650));
     assert_eq!([0, 1, 128, 129, 65_536].map(table_length), [0, 128, 128, 256, 65_536]);
 }

@@ -1,17 +1,18 @@
 //! Where the parts lie that the data calls hand back, and what they belong to.
 
-use tautberry::{image, reading, spares, Shape};
+use tautberry::image::{self, Head};
+use tautberry::{reading, spares, Shape, AT_HOME, AT_PRIMARY};
 
 const SHAPE: Shape = Shape::ungrouped(2, 2, 5);
 const SPARES: u32 = 2;
 const TRACK: usize = 5 * 530;
 
-/// A track image with the image of `block` on one sector and nothing else.
-fn track(block: u32, sector: usize) -> Vec<u8> {
+/// A track image with the image of `block` with `code` on one sector and nothing else.
+fn track(block: u32, code: u32, sector: usize) -> Vec<u8> {
     let mut track = vec![0; TRACK];
     let data: Vec<u8> = (0..512).map(|at| (at * 3 + sector) as u8).collect();
     let room = &mut track[sector * 530..];
-    image::write(block, &data, false, room).expect("512 bytes and room");
+    image::write(block, code, &data, false, room).expect("512 bytes and room");
     track
 }
 
@@ -38,27 +39,27 @@ fn lies_at(part: &[u8], whole: &[u8], offset: usize) -> bool {
 #[test]
 fn data_of_a_block_at_home_lie_in_the_home_image() {
     // Block 8 is sector 2 of its track.
-    let (home, any) = (track(8, 2), vec![0xFF; TRACK]);
+    let (home, any) = (track(8, AT_HOME, 2), vec![0xFF; TRACK]);
     assert!(lies_at(data(8, &home, &any), &home, 2 * 530 + 16));
 }
 
 #[test]
 fn data_of_a_replaced_block_lie_in_the_spare_image() {
-    let (any, spare) = (vec![0xFF; TRACK], track(7, 3));
+    let (any, spare) = (vec![0xFF; TRACK], track(7, AT_PRIMARY, 3));
     assert!(lies_at(data(7, &any, &spare), &spare, 3 * 530 + 16));
 }
 
 /// Home and spare may be one image, lent twice.
 #[test]
 fn one_image_serves_as_both() {
-    let both = track(7, 3);
+    let both = track(7, AT_PRIMARY, 3);
     assert!(lies_at(data(7, &both, &both), &both, 3 * 530 + 16));
 }
 
 /// The part outlives the table and the scratch: it belongs to the images alone.
 #[test]
 fn the_part_belongs_to_the_images() {
-    let (home, spare) = (vec![0; TRACK], track(7, 3));
+    let (home, spare) = (vec![0; TRACK], track(7, AT_PRIMARY, 3));
     let part = {
         let (table, mut scratch) = table_and_scratch();
         let part = reading::data(SHAPE, SPARES, &table, &mut scratch, 7, &home, &spare);
@@ -70,20 +71,22 @@ fn the_part_belongs_to_the_images() {
 
 #[test]
 fn data_of_a_sector_image_lie_after_its_header() {
-    let track = track(9, 0);
+    let track = track(9, AT_HOME, 0);
     let image = &track[..530];
-    let part = image::data(image, 9).expect("a good image");
+    let part = image::data(image, 9, AT_HOME).expect("a good image");
     assert!(lies_at(part, image, 16));
 }
 
 /// An image may lie at any byte.
 #[test]
 fn images_at_odd_addresses() {
-    let image = &track(9, 0)[..530];
+    let image = &track(9, AT_PRIMARY, 0)[..530];
     for start in 0..8 {
         let mut moved = vec![0xFF; start];
         moved.extend(image);
-        assert_eq!(image::header(&moved[start..]), Ok(9));
-        assert_eq!(image::data(&moved[start..], 9), Ok(&image[16..528]));
+        let head = Head { code: AT_PRIMARY, block: 9 };
+        assert_eq!(image::header(&moved[start..]), Ok(head));
+        let part = image::data(&moved[start..], 9, AT_PRIMARY);
+        assert_eq!(part, Ok(&image[16..528]));
     }
 }

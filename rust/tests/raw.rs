@@ -386,51 +386,92 @@ fn bad_groups_answer_zeros() {
     assert_eq!((table, room, scratch), (self::table(), vec![7; 128], SCRATCH));
 }
 
-/// The image of block 7 with zeros for data, good or forced.
+/// The image of block 7 at its primary spare, with zeros for data, good or forced.
 fn image(forced: bool) -> Vec<u8> {
-    let mut image = [0, 0, 0, 7].repeat(4);
+    let mut image = [0x20, 0, 0, 7].repeat(4);
     image.extend([0; 512]);
     image.extend(if forced { [0xA5, 0xC3] } else { [0x5A, 0x3C] });
     image
 }
 
-/// Images of block 7 that are refused so.
-fn bad_images() -> [(u32, Vec<u8>); 5] {
+/// Images of block 7 at its primary spare that are refused so, by the call that reads a header alone and by the
+/// others: with another block, each other code of four bits, and all else.
+fn bad_images() -> Vec<(u32, u32, Vec<u8>)> {
     let mut no_address = image(false);
-    (no_address[0], no_address[4]) = (1, 2);
-    let mut other = image(false);
-    other[3..16].iter_mut().step_by(4).for_each(|byte| *byte = 8);
+    (no_address[0], no_address[4]) = (0, 0x30);
+    let mut other_block = image(false);
+    other_block[3..16].iter_mut().step_by(4).for_each(|byte| *byte = 8);
     let mut bad_code = image(false);
     bad_code[20] ^= 1;
-    [
-        (14, image(false)[1..].to_vec()),
-        (15, no_address),
-        (16, other),
-        (17, image(true)),
-        (18, bad_code),
-    ]
+    let mut images = vec![
+        (14, 14, image(false)[1..].to_vec()),
+        (15, 15, no_address),
+        (0, 16, other_block),
+        (0, 17, image(true)),
+        (0, 18, bad_code),
+    ];
+    for code in (0..16).filter(|code| *code != 2) {
+        let mut other_code = image(false);
+        other_code[..16].iter_mut().step_by(4).for_each(|byte| *byte = 16 * code);
+        images.push((if [0, 3].contains(&code) { 0 } else { 16 }, 16, other_code));
+    }
+    images
 }
 
 #[test]
 fn refused_images_answer_zeros() {
-    for (number, image) in bad_images() {
+    for (by_header, number, image) in bad_images() {
         // SAFETY: the pointer and length are those of a live slice.
         unsafe {
             let (at, len) = (image.as_ptr(), image.len());
-            refused("tb_image_judge", number, tb_image_judge(at, len, 7));
-            if number <= 15 {
-                refused("tb_image_header", number, tb_image_header(at, len));
+            refused("tb_image_judge", number, tb_image_judge(at, len, 7, 2));
+            if by_header != 0 {
+                refused("tb_image_header", by_header, tb_image_header(at, len));
             }
         }
     }
-    for (number, length, room_length) in [(14, 511, 530), (7, 512, 529)] {
-        let (data, mut room) = (vec![0; length], vec![0; room_length]);
-        // SAFETY: pointers and lengths are those of live slices.
-        let answer = unsafe {
-            tb_image_write(7, data.as_ptr(), data.len(), true, room.as_mut_ptr(), room.len())
-        };
-        refused("tb_image_write", number, answer);
+    // Pairs of a block and a code that the image is not of.
+    let good = image(false);
+    let pairs = [(7, 0), (7, 1), (7, 3), (7, 18), (8, 2), (268_435_463, 1), (536_870_919, 0)];
+    for (block, code) in pairs {
+        // SAFETY: the pointer and length are those of a live slice.
+        let answer = unsafe { tb_image_judge(good.as_ptr(), good.len(), block, code) };
+        refused("tb_image_judge", 16, answer);
     }
+    // The number, the block, the code, the lengths of the data and of the room.
+    let writes = [
+        (14, 268_435_456, 1, 511, 529),
+        (5, 268_435_456, 1, 512, 529),
+        (22, 268_435_455, 1, 512, 529),
+        (22, 7, 15, 512, 530),
+        (22, 7, u32::MAX, 512, 530),
+        (7, 7, 2, 512, 529),
+    ];
+    for (number, block, code, length, room_length) in writes {
+        let (data, mut room) = (vec![0; length], vec![0; room_length]);
+        let (at, len) = (data.as_ptr(), data.len());
+        // SAFETY: pointers and lengths are those of live slices.
+        let answer =
+            unsafe { tb_image_write(block, code, at, len, true, room.as_mut_ptr(), room.len()) };
+        refused("tb_image_write", number, answer);
+        assert_eq!(room, vec![0; room_length], "tb_image_write");
+    }
+}
+
+/// The code comes before the block.
+#[test]
+fn a_header_answers_code_and_block() {
+    let image = image(false);
+    // SAFETY: the pointer and length are those of a live slice.
+    unsafe {
+        assert_eq!(numbers(tb_image_header(image.as_ptr(), image.len())), [0, 2, 7]);
+        assert_eq!(numbers(tb_image_judge(image.as_ptr(), image.len(), 7, 2)), [0]);
+    }
+    let (data, mut room) = ([0; 512], [0; 530]);
+    let (at, len) = (data.as_ptr(), data.len());
+    // SAFETY: pointers and lengths are those of live slices.
+    let answer = unsafe { tb_image_write(7, 2, at, len, false, room.as_mut_ptr(), room.len()) };
+    assert_eq!((numbers(answer), &room[..]), (vec![0, 530], &image[..]));
 }
 
 #[test]
@@ -474,7 +515,7 @@ fn refused_reads_answer_zeros() {
     read(11, R, &table_with_a_hole(), 10, 7, &spare);
     read(5, R, &table, 10, 12, &spare[1..]);
     read(14, R, &table, 10, 7, &spare[1..]);
-    for (number, image) in bad_images().into_iter().skip(1) {
+    for (_, number, image) in bad_images().into_iter().skip(1) {
         spare[3 * 530..4 * 530].copy_from_slice(&image);
         read(number, R, &table, 10, 7, &spare);
     }
@@ -592,11 +633,11 @@ fn null_images() {
     let (to, lent) = (scratch.as_mut_ptr(), scratch.len());
     // SAFETY: the C face takes null where the length is 0; other pointers are of live slices.
     unsafe {
-        refused("tb_image_write", 14, tb_image_write(7, null(), 0, false, null_mut(), 0));
-        let written = tb_image_write(7, data.as_ptr(), data.len(), false, null_mut(), 0);
+        refused("tb_image_write", 14, tb_image_write(7, 2, null(), 0, false, null_mut(), 0));
+        let written = tb_image_write(7, 2, data.as_ptr(), data.len(), false, null_mut(), 0);
         refused("tb_image_write", 7, written);
         refused("tb_image_header", 14, tb_image_header(null(), 0));
-        refused("tb_image_judge", 14, tb_image_judge(null(), 0, 7));
+        refused("tb_image_judge", 14, tb_image_judge(null(), 0, 7, 2));
         let judged = tb_read_judge(SHAPE, R, null(), 0, to, lent, 7, null(), 0, null(), 0);
         refused("tb_read_judge", 11, judged);
         let judged = tb_read_judge(SHAPE, R, at, len, to, lent, 7, null(), 0, null(), 0);

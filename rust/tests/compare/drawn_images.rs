@@ -1,7 +1,11 @@
 //! Drawn sector images.
 
 use crate::draw::Draw;
-use crate::model;
+use crate::model::image::{bytes, copy, BLOCKS_MOST, HOME};
+use crate::model::spares::{ELSEWHERE, PRIMARY};
+
+/// The codes that a header may have.
+pub const CODES: [u32; 3] = [HOME, PRIMARY, ELSEWHERE];
 
 impl Draw {
     /// 512 bytes: without order, all zero, or zero but for one word.
@@ -17,25 +21,77 @@ impl Draw {
         }
     }
 
-    /// Any block number, also about the edges of 32 bits.
+    /// A block to write or to expect: below 2²⁸, about it, or any number of 32 bits.
     pub fn any_block(&mut self) -> u32 {
         match self.below(4) {
-            0 => self.of_these(&[0, 1, u32::MAX, 0x8000_0000]),
-            1 => self.below(1_000),
-            _ => self.any(),
+            0 => self.below(1_000),
+            1 => self.any(),
+            _ => self.near(BLOCKS_MOST),
         }
     }
 
-    /// An image of `block`, good or forced.
-    pub fn image(&mut self, block: u32) -> Vec<u8> {
-        let data = self.data();
-        let forced = self.one_in(4);
-        model::image::bytes(block, &data, forced)
+    /// A code to write or to expect: one of the three, any of four bits, or one that needs more bits.
+    pub fn any_code(&mut self) -> u32 {
+        match self.below(8) {
+            0..=3 => self.of_these(&CODES),
+            4..=6 => self.below(16),
+            _ => {
+                let any = self.any();
+                self.of_these(&[16, 18, 19, BLOCKS_MOST, u32::MAX, any])
+            }
+        }
     }
 
-    /// An image of `block` with none, one or several faults, its length right.
-    pub fn any_image(&mut self, block: u32) -> Vec<u8> {
-        let mut image = self.image(block);
+    /// What a header says: mostly one of the three codes, else any of four bits; and a block.
+    pub fn any_said(&mut self) -> (u32, u32) {
+        let code = if self.one_in(3) { self.below(16) } else { self.of_these(&CODES) };
+        (code, self.any_block() % BLOCKS_MOST)
+    }
+
+    /// A code and a block to expect of a header that says these: mostly the same, else with one of the two or
+    /// both otherwise.
+    pub fn any_expected(&mut self, said: (u32, u32)) -> (u32, u32) {
+        let (code, block) = said;
+        match self.below(8) {
+            0 => (self.any_code(), block),
+            1 => (code, self.any_block()),
+            2 => (self.any_code(), self.any_block()),
+            3 => self.alias(said),
+            _ => said,
+        }
+    }
+
+    /// A code and a block that no header says, and that come to the same word as these where 2²⁸ times the
+    /// code, plus the block, is kept in 32 bits: with a block too high and a code as much lower, or with a
+    /// code of more than four bits.
+    fn alias(&mut self, (code, block): (u32, u32)) -> (u32, u32) {
+        if self.one_in(4) {
+            return (code + 16 * self.within(1, 9), block);
+        }
+        let higher = self.within(1, 15);
+        ((16 + code - higher) % 16, block + higher * BLOCKS_MOST)
+    }
+
+    /// The copy of a header in which a block must have this code: at times with another one.
+    pub fn any_copy(&mut self, code: u32, block: u32) -> [u8; 4] {
+        let code = match self.below(8) {
+            0 | 1 => self.of_these(&CODES),
+            2 => self.below(16),
+            _ => code,
+        };
+        copy(code, block % BLOCKS_MOST)
+    }
+
+    /// An image with this copy in its header, good or forced.
+    pub fn image(&mut self, copy: [u8; 4]) -> Vec<u8> {
+        let data = self.data();
+        let forced = self.one_in(4);
+        bytes(copy, &data, forced)
+    }
+
+    /// The same with none, one or several faults, its length right.
+    pub fn any_image(&mut self, copy: [u8; 4]) -> Vec<u8> {
+        let mut image = self.image(copy);
         while self.one_in(2) {
             self.damage_image(&mut image);
         }
@@ -59,9 +115,13 @@ impl Draw {
         }
     }
 
-    /// Writes another number to some of the four copies.
+    /// Writes another code and block to some of the four copies, or another code alone.
     fn rename(&mut self, image: &mut [u8]) {
-        let other = self.any_block().to_be_bytes();
+        let (code, block) = self.any_said();
+        let mut other = copy(code, block);
+        if self.one_in(2) {
+            other = [code as u8 * 16 + image[0] % 16, image[1], image[2], image[3]];
+        }
         let copies = self.any();
         for copy in 0..4 {
             if copies >> copy & 1 == 1 {

@@ -502,18 +502,29 @@ fn first_tables_in_order() {
 
 #[test]
 fn images_in_order() {
-    let cases = [(511, 0), (513, 529), (512, 529), (512, 530)];
+    // The block, the code, the lengths of the data and of the room.
+    let cases = [
+        (268_435_456, 1, 511, 0),
+        (268_435_456, 1, 513, 529),
+        (268_435_456, 1, 512, 529),
+        (268_435_455, 1, 512, 529),
+        (268_435_455, 3, 512, 529),
+        (268_435_455, 3, 512, 530),
+    ];
     same(
         "image::write",
         cases
-            .map(|(data, room)| number(image::write(7, &vec![0; data], true, &mut vec![0; room])))
-            .to_vec(),
-        cases
-            .map(|(data, room)| {
-                paper_number(model::image::write(7, &vec![0; data], true, &mut vec![0; room]))
+            .map(|(block, code, data, room)| {
+                number(image::write(block, code, &vec![0; data], true, &mut vec![0; room]))
             })
             .to_vec(),
-        &[14, 14, 7, 0],
+        cases
+            .map(|(block, code, data, room)| {
+                let room = &mut vec![0; room];
+                paper_number(model::image::write(block, code, &vec![0; data], true, room))
+            })
+            .to_vec(),
+        &[14, 14, 5, 22, 7, 0],
     );
 
     let images = faulty_images();
@@ -521,31 +532,36 @@ fn images_in_order() {
         "image::header",
         images.iter().map(|image| number(image::header(image))).collect(),
         images.iter().map(|image| paper_number(model::image::header(image))).collect(),
-        &[14, 15, 0, 0, 0, 0],
+        &[14, 15, 16, 0, 0, 0, 0, 0],
     );
     same(
         "image::judge",
-        images.iter().map(|image| number(image::judge(image, 7))).collect(),
-        images.iter().map(|image| paper_number(model::image::judge(image, 7))).collect(),
-        &[14, 15, 16, 18, 17, 0],
+        images.iter().map(|image| number(image::judge(image, 7, 2))).collect(),
+        images.iter().map(|image| paper_number(model::image::judge(image, 7, 2))).collect(),
+        &[14, 15, 16, 16, 16, 18, 17, 0],
     );
 }
 
-/// Images of block 7 with ever fewer faults: length, header, another block, code, forced, good.
+/// Images of block 7 with code 2, with ever fewer faults: length, header, a fourth code, another block, another
+/// code, the code of the data, forced, good.
 fn faulty_images() -> Vec<Vec<u8>> {
-    let good = model::image::bytes(7, &[0; 512], false);
-    let forced = model::image::bytes(7, &[0; 512], true);
+    let copy = model::image::copy(2, 7);
+    let good = model::image::bytes(copy, &[0; 512], false);
+    let forced = model::image::bytes(copy, &[0; 512], true);
     let mut bad_code = forced.clone();
     bad_code[529] ^= 1;
-    let mut other = bad_code.clone();
-    for copy in 0..3 {
-        other[4 * copy] = 1;
-    }
-    let mut no_address = other.clone();
-    no_address[4] = 2;
+    let naming = |number: u32| {
+        let mut image = bad_code.clone();
+        image[..12].copy_from_slice(&number.to_be_bytes().repeat(3));
+        image
+    };
+    let (other_code, other_block) = (naming(0x3000_0007), naming(0x2000_0008));
+    let fourth_code = naming(0x1000_0007);
+    let mut no_address = fourth_code.clone();
+    no_address[4] = 0x20;
     let mut long = no_address.clone();
     long.push(0);
-    vec![long, no_address, other, bad_code, forced, good]
+    vec![long, no_address, fourth_code, other_block, other_code, bad_code, forced, good]
 }
 
 #[test]
@@ -573,7 +589,7 @@ fn reads_in_order() {
         spare[3 * 530..4 * 530].copy_from_slice(&image);
         cases.push((proper(), noise.clone(), spare));
     }
-    let expected = [1, 1, 1, 1, 1, 7, 7, 7, 11, 11, 5, 14, 14, 15, 16, 18, 17, 0];
+    let expected = [1, 1, 1, 1, 1, 7, 7, 7, 11, 11, 5, 14, 14, 15, 16, 16, 16, 18, 17, 0];
     for ((asked, home, spare), expected) in cases.iter().zip(expected) {
         let Asked { drive, r, table, scratch, number: block } = asked;
         let left = left(scratch, expected);

@@ -1,9 +1,12 @@
 //! The paper's own numbers, asked of the library and of the model.
 
-use tautberry::{format, image, page, shape as shapes, skip, skipped, spares, Refusal, Shape};
+use tautberry::image::{self, Head};
+use tautberry::reading::{self, Track};
+use tautberry::{format, page, shape as shapes, skip, skipped, spares, Refusal, Shape};
 
 use crate::drawn_nights::Drawn;
 use crate::drawn_shapes::{grouped, paper, shape, CUSTOMERS};
+use crate::model::image::Read;
 use crate::model::{self, skipping};
 use crate::nights::formatted;
 use crate::shape_calls::{every_call_gives, every_table_call_gives, Rest};
@@ -446,9 +449,181 @@ fn the_codes() {
     ];
     for (data, forced, code) in rows {
         let mut room = [0; 530];
-        assert_eq!(image::write(9, &data, forced, &mut room), Ok(530));
+        assert_eq!(image::write(9, 0, &data, forced, &mut room), Ok(530));
         assert_eq!(room[528..], code);
-        assert_eq!(model::image::bytes(9, &data, forced)[528..], code);
+        assert_eq!(model::image::bytes([0, 0, 0, 9], &data, forced)[528..], code);
+    }
+}
+
+/// An image of zeros with these four numbers in its header.
+fn image_of(copies: [u32; 4]) -> Vec<u8> {
+    let mut image = model::image::bytes([0; 4], &[0; 512], false);
+    let header = copies.map(u32::to_be_bytes);
+    image[..16].copy_from_slice(header.as_flattened());
+    image
+}
+
+/// What a header says is read back, and with code 0 the header is the plain block number.
+#[test]
+fn the_headers() {
+    let rows = [
+        (7, 0, [0, 0, 0, 7]),
+        (7, 2, [0x20, 0, 0, 7]),
+        (7, 3, [0x30, 0, 0, 7]),
+        (268_435_455, 3, [0x3F, 0xFF, 0xFF, 0xFF]),
+        (268_435_455, 0, [0x0F, 0xFF, 0xFF, 0xFF]),
+    ];
+    for (block, code, copy) in rows {
+        let mut expected = copy.repeat(4);
+        expected.extend([0; 512]);
+        expected.extend([0x5A, 0x3C]);
+        let (mut ours, mut theirs) = ([7; 530], [7; 530]);
+        assert_eq!(image::write(block, code, &[0; 512], false, &mut ours), Ok(530));
+        assert_eq!(model::image::write(block, code, &[0; 512], false, &mut theirs), Ok(530));
+        assert!(ours[..] == expected && theirs[..] == expected, "block {block}, code {code}");
+        assert_eq!(image::header(&ours), Ok(Head { code, block }));
+        assert_eq!(model::image::header(&ours), Ok((code, block)));
+    }
+}
+
+#[test]
+fn headers_of_four_copies() {
+    let (at_home, at_primary, elsewhere) = (0x0000_0007, 0x2000_0007, 0x3000_0007);
+    let rows = [
+        ([elsewhere, elsewhere, elsewhere, at_home], Ok((3, 7))),
+        ([at_home, elsewhere, elsewhere, elsewhere], Ok((3, 7))),
+        ([at_home, at_home, at_primary, at_home], Ok((0, 7))),
+        ([at_primary; 4], Ok((2, 7))),
+        ([at_primary, at_primary, at_home, at_home], Err(15)),
+        ([at_primary, at_home, elsewhere, at_primary], Err(15)),
+        ([0x1000_0007; 4], Err(16)),
+        ([0x1000_0007, at_primary, 0x1000_0007, 0x1000_0007], Err(16)),
+        ([0x1000_0007, at_primary, at_primary, 0x1000_0007], Err(15)),
+        ([0x4000_0000; 4], Err(16)),
+        ([0x8000_0000; 4], Err(16)),
+        ([0xFFFF_FFFF; 4], Err(16)),
+    ];
+    for (copies, expected) in rows {
+        let image = image_of(copies);
+        let library = image::header(&image).map(|Head { code, block }| (code, block));
+        assert_eq!(library.map_err(Refusal::number), expected, "{copies:08X?}");
+        assert_eq!(model::image::header(&image), expected, "{copies:08X?}");
+    }
+}
+
+#[test]
+fn images_that_are_not_written() {
+    // The block, the code, the lengths of the data and of the room, and the number.
+    let rows = [
+        (268_435_456, 1, 511, 530, 14),
+        (268_435_456, 1, 512, 530, 5),
+        (268_435_456, 0, 512, 530, 5),
+        (4_294_967_295, 3, 512, 530, 5),
+        (7, 1, 512, 530, 22),
+        (7, 4, 512, 530, 22),
+        (7, 15, 512, 530, 22),
+        (7, 16, 512, 530, 22),
+        (7, 18, 512, 530, 22),
+        (7, 1, 512, 529, 22),
+        (7, 2, 512, 529, 7),
+    ];
+    for (block, code, data, length, expected) in rows {
+        let data = vec![0; data];
+        let (mut ours, mut theirs) = (vec![7; length], vec![7; length]);
+        let library = image::write(block, code, &data, false, &mut ours);
+        assert_eq!(library.map_err(Refusal::number), Err(expected), "block {block}, code {code}");
+        let model = model::image::write(block, code, &data, false, &mut theirs);
+        assert_eq!(model, Err(expected), "block {block}, code {code}");
+        assert_eq!((&ours, &theirs), (&vec![7; length], &vec![7; length]));
+    }
+}
+
+/// A code and a block are compared apart: 2²⁸ × 1 + 268,435,463 is the word of block 7 with code 2, and so is
+/// 2²⁸ × 18 + 7 in 32 bits.
+#[test]
+fn the_pairs_that_an_image_is_not_of() {
+    let rows = [
+        (0x2000_0007, 7, 2, 0),
+        (0x2000_0007, 7, 0, 16),
+        (0x2000_0007, 7, 1, 16),
+        (0x2000_0007, 7, 3, 16),
+        (0x2000_0007, 8, 2, 16),
+        (0x2000_0007, 7, 18, 16),
+        (0x2000_0007, 268_435_463, 1, 16),
+        (0x2000_0007, 536_870_919, 0, 16),
+        (0x2000_0007, 4_294_967_287, 2, 16),
+        (0x3000_0007, 268_435_463, 2, 16),
+        (0x1000_0007, 7, 1, 16),
+        (0x1000_0007, 268_435_463, 0, 16),
+        (0xFFFF_FFFF, 268_435_455, 15, 16),
+        (0x0000_0007, 7, 0, 0),
+        (0x3FFF_FFFF, 268_435_455, 3, 0),
+    ];
+    for (number, block, code, expected) in rows {
+        let image = image_of([number; 4]);
+        let case = format!("{number:08X}, block {block}, code {code}");
+        let expected = if expected == 0 { Ok(()) } else { Err(expected) };
+        let library = image::judge(&image, block, code).map_err(Refusal::number);
+        assert_eq!(library, expected, "{case}");
+        assert_eq!(model::image::judge(&image, block, code), expected, "{case}");
+        let part = image::data(&image, block, code).map_err(Refusal::number);
+        assert_eq!(part, expected.map(|_| &image[16..528]), "{case}");
+        assert_eq!(model::image::data(&image, block, code), part, "{case}");
+    }
+    // Without three copies that agree it is 15, whatever is expected.
+    let image = image_of([0x2000_0007, 0x2000_0007, 0x0000_0007, 0x0000_0007]);
+    for (block, code) in [(7, 0), (7, 2), (7, 1), (268_435_463, 1)] {
+        assert_eq!(image::judge(&image, block, code), Err(Refusal::NoAddress));
+        assert_eq!(model::image::judge(&image, block, code), Err(15));
+    }
+}
+
+/// Block 7 at place 4, block 8 at place 5, block 6 at home: sectors 3, 4 and 0 of their track. The other image
+/// is noise.
+#[test]
+fn reads_by_the_code_of_the_table() {
+    let (shape, r) = EIGHT_SPARES;
+    let table = table_of([0, 0, 0, 0, 0x2000_0007, 0x3000_0008, 0, 0]);
+    let rows = [
+        (7, 3, 0x2000_0007, 0),
+        (7, 3, 0x3000_0007, 16),
+        (7, 3, 0x0000_0007, 16),
+        (7, 3, 0x1000_0007, 16),
+        (7, 3, 0x2000_0008, 16),
+        (8, 4, 0x3000_0008, 0),
+        (8, 4, 0x2000_0008, 16),
+        (8, 4, 0x0000_0008, 16),
+        (8, 4, 0x4000_0008, 16),
+        (6, 0, 0x0000_0006, 0),
+        (6, 0, 0x2000_0006, 16),
+        (6, 0, 0x3000_0006, 16),
+        (6, 0, 0x8000_0006, 16),
+    ];
+    for (block, sector, number, expected) in rows {
+        let case = format!("block {block}, {number:08X}");
+        let mut track = vec![0xA5; 5 * 530];
+        track[sector * 530..][..530].copy_from_slice(&image_of([number; 4]));
+        let noise = vec![0xA5; 5 * 530];
+        let (home, spare) = if block == 6 { (&track, &noise) } else { (&noise, &track) };
+        let mut scratches = [(); 6].map(|_| scratch(EIGHT_SPARES));
+        let [first, second, third, fourth, fifth, sixth] = &mut scratches;
+        let read = Read { shape: paper(shape), r, table: &table, block, home, spare };
+        let offset = (sector * 530 + 16) as u32;
+        let spot = (u32::from(block != 6), offset);
+        let answer = |spot| if expected == 0 { Ok(spot) } else { Err(expected) };
+
+        let judged = reading::judge(shape, r, &table, first, block, home, spare);
+        assert_eq!(judged.map_err(Refusal::number).map(|_| spot), answer(spot), "{case}");
+        assert_eq!(model::image::judge_read(read, second).map(|_| spot), answer(spot), "{case}");
+        let lies = reading::spot(shape, r, &table, third, block, home, spare);
+        let lies = lies.map(|spot| (u32::from(spot.track == Track::Spare), spot.offset));
+        assert_eq!(lies.map_err(Refusal::number), answer(spot), "{case}");
+        assert_eq!(model::image::spot(read, fourth), answer(spot), "{case}");
+        let part = reading::data(shape, r, &table, fifth, block, home, spare);
+        let part = part.map_err(Refusal::number);
+        assert_eq!(part, answer(spot).map(|_| &track[offset as usize..][..512]), "{case}");
+        assert_eq!(model::image::read_data(read, sixth), part, "{case}");
+        assert_eq!(scratches, [(); 6].map(|_| vec![0; 8]), "{case}");
     }
 }
 

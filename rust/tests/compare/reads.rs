@@ -6,7 +6,9 @@ use crate::draw::Draw;
 use crate::drawn_shapes::paper;
 use crate::drawn_tables::Tabled;
 use crate::model;
-use crate::model::image::Read;
+use crate::model::image::{Read, HOME};
+use crate::model::spares::{Drive, ELSEWHERE, PRIMARY};
+use crate::order::number;
 use crate::tally::Tally;
 
 const SEEDS: u64 = 36_000;
@@ -25,6 +27,22 @@ impl Drawn {
         (&self.tabled, Some(self.block))
     }
 
+    /// Counts the header that the block has where it lies, once the checks before it have passed.
+    fn count_header(&self, tally: &mut Tally, given: u32) {
+        if given != 0 && given < 15 {
+            return;
+        }
+        let Tabled { drive, table, .. } = &self.tabled;
+        let place = drive.place_of(table, self.block);
+        let (track, sector) = match place {
+            None => (&self.home, self.block % drive.l),
+            Some(place) => (&self.spare, drive.l + place % drive.r),
+        };
+        let start = sector as usize * 530;
+        let expected = (code_at(*drive, place, self.block), self.block);
+        tally.count_header(&track[start..start + 530], expected, given);
+    }
+
     fn paper(&self) -> Read<'_> {
         Read {
             shape: paper(self.tabled.shape),
@@ -37,20 +55,35 @@ impl Drawn {
     }
 }
 
-/// Both images hold an image of the block where it would lie, good or damaged; all else is noise.
+/// The code that a block has at its place, if it has one, or at home.
+fn code_at(drive: Drive, place: Option<u32>, block: u32) -> u32 {
+    match place {
+        None => HOME,
+        Some(place) if place as usize == drive.primary(block) => PRIMARY,
+        Some(_) => ELSEWHERE,
+    }
+}
+
+/// Both images hold an image of the block where it would lie, good or damaged, often with the code that it
+/// must have there; all else is noise.
 fn any_read(draw: &mut Draw) -> Drawn {
     let tabled = draw.any_tabled();
     let drive = tabled.drive;
     let block = draw.block_of(&tabled);
-    let place = drive.place_of(&tabled.table, block).unwrap_or(0);
+    let place = drive.place_of(&tabled.table, block);
     let track = drive.shape.s as usize * 530;
     let (mut home, mut spare) = (draw.bytes(track), draw.bytes(track));
     let on_home = if draw.one_in(12) { draw.below(drive.shape.s) } else { block % drive.l };
-    let on_spare =
-        if draw.one_in(12) { draw.below(drive.shape.s) } else { drive.l + place % drive.r };
+    let on_spare = if draw.one_in(12) {
+        draw.below(drive.shape.s)
+    } else {
+        drive.l + place.unwrap_or(0) % drive.r
+    };
+    let code = code_at(drive, place, block);
     for (image, sector) in [(&mut home, on_home), (&mut spare, on_spare)] {
         let start = sector as usize * 530;
-        image[start..start + 530].copy_from_slice(&draw.any_image(block));
+        let copy = draw.any_copy(code, block);
+        image[start..start + 530].copy_from_slice(&draw.any_image(copy));
     }
     if draw.one_in(12) {
         std::mem::swap(&mut home, &mut spare);
@@ -71,6 +104,7 @@ fn reading_judge() {
         let lent = scratch.library.lent();
         let library = reading::judge(shape, r, table, lent, *block, home, spare);
         let model = model::image::judge_read(read.paper(), scratch.model.lent());
+        read.count_header(&mut tally, number(library));
         tally.same_on_table(seed, read.asked(), &scratch, library, model);
     }
     tally.saw(&[0, 1, 5, 7, 11, 14, 15, 16, 17, 18]);
@@ -97,6 +131,7 @@ fn reading_spot_and_data() {
         at_home += u32::from(matches!(library, Ok((0, _))));
         on_spare += u32::from(matches!(library, Ok((1, _))));
         let model = model::image::spot(read.paper(), scratch.model.lent());
+        read.count_header(&mut tally, number(library));
         tally.same_on_table(seed, read.asked(), &scratch, library, model);
 
         let mut scratch = tabled.scratch();
@@ -108,6 +143,7 @@ fn reading_spot_and_data() {
             _ => true,
         };
         assert!(same_place, "reading::data lies elsewhere at seed {seed}");
+        read.count_header(&mut parts, number(library));
         parts.same_on_table(seed, read.asked(), &scratch, library, model);
     }
     tally.saw(&[0, 1, 5, 7, 11, 14, 15, 16, 17, 18]);

@@ -2,7 +2,7 @@
 //!
 //! The rooms stand between guards, so a write outside them shows too. Nothing here asks the model.
 
-use tautberry::{format, image, page, spares, Refusal, LIST_MOST, PAGE_MOST};
+use tautberry::{format, image, page, spares, Refusal, CODE_UNIT, LIST_MOST, PAGE_MOST};
 
 use crate::draw::{Draw, Room};
 use crate::drawn_shapes::shape;
@@ -186,17 +186,20 @@ fn the_room_of_an_image() {
     let mut draw = Draw::of(6);
     let data = draw.bytes(512);
     let cases = [
-        (&data[1..], 600, Err(Refusal::WrongLength)),
-        (&data[..], 529, Err(Refusal::NoRoom)),
-        (&data[..], 530, Ok(())),
-        (&data[..], 600, Ok(())),
+        (9, 2, &data[1..], 600, Err(Refusal::WrongLength)),
+        (CODE_UNIT, 2, &data[..], 600, Err(Refusal::NoSuchBlock)),
+        (9, 1, &data[..], 600, Err(Refusal::UnknownCode)),
+        (9, 2, &data[..], 529, Err(Refusal::NoRoom)),
+        (9, 0, &data[..], 530, Ok(())),
+        (9, 2, &data[..], 530, Ok(())),
+        (9, 3, &data[..], 600, Ok(())),
     ];
-    for (data, length, expected) in cases {
+    for (block, code, data, length, expected) in cases {
         let before = draw.byte_room(length);
         let case = format!("image::write into {length}, {expected:?}");
         let written = if expected.is_ok() { 530 } else { 0 };
         lend(&case, &before, written, expected, |room| {
-            image::write(9, data, false, room).map(|_| ())
+            image::write(block, code, data, false, room).map(|_| ())
         });
     }
 }

@@ -125,6 +125,10 @@ fn scratch_full_of_ones() {
             let mut no_address = good.clone();
             (no_address.home[0], no_address.home[4]) = (1, 2);
             gives(&no_address, &|call| if call.starts_with("reading::") { 15 } else { 0 });
+            // Block 0 is at home, and its header says that it is replaced.
+            let mut other_code = good.clone();
+            other_code.home[..16].copy_from_slice(&[0x20, 0, 0, 0].repeat(4));
+            gives(&other_code, &|call| if call.starts_with("reading::") { 16 } else { 0 });
         }
     }
 }

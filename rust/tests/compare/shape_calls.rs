@@ -33,7 +33,7 @@ impl Rest {
         let mut table = vec![word(FREE, 0); table_length(spares)];
         table[spares..].fill(word(NULL, 0));
         let track = sectors as usize * 530;
-        let mut home = model::image::bytes(0, &[0; 512], false);
+        let mut home = model::image::bytes([0; 4], &[0; 512], false);
         home.resize(track, 0);
         Rest {
             r,

@@ -7,9 +7,11 @@ use std::ops::Range;
 use tautberry::{Refusal, Shape, SPARES_MOST, TABLE_BLOCK};
 
 use crate::draw::{Room, Scratch};
+use crate::drawn_images::CODES;
 use crate::drawn_shapes::{grouped, paper, FEW_SPARES};
 use crate::drawn_tables::{Hole, Tabled};
 use crate::model;
+use crate::model::image::{is_known, said, standing, BLOCKS_MOST};
 use crate::model::spares::{allocated, check_descriptors, holes, search_order, word, FREE};
 
 /// The answers of one call, counted by refusal number on both sides; 0 is accepted.
@@ -20,6 +22,7 @@ pub struct Tally {
     groups: Option<Groups>,
     tables: Option<Tables>,
     look_ups: Option<LookUps>,
+    headers: Option<Headers>,
 }
 
 /// What the groups of the shapes came to, of a call that takes a shape.
@@ -68,6 +71,17 @@ struct LookUps {
     end: u32,
 }
 
+/// What numbers stood in headers, of a call that expects a code and a block. A fourth code is none.
+#[derive(Debug, Default)]
+struct Headers {
+    /// The block that was expected, with each code that was expected and each that the header said.
+    codes: BTreeMap<(Option<u32>, Option<u32>), u32>,
+    /// Another block, with the code that was expected.
+    other_block: u32,
+    /// Another code and another block, or one of the two, that come to the word of those expected.
+    aliases: u32,
+}
+
 /// Every comparison of a call that takes a shape must have seen each count of [`Groups`] so often, one of a
 /// call that is lent a table each count of [`Tables`] but those below, and one of a call that looks a block
 /// up each count of [`LookUps`].
@@ -76,6 +90,8 @@ const SEEN_LEAST: u32 = 100;
 const HOLES_LEAST: u32 = 50;
 /// It must have seen the most spares so often: such an input takes long.
 const MOST_SPARES_LEAST: u32 = 8;
+/// One of a call that expects a code and a block must have seen each count of [`Headers`] so often.
+const HEADERS_LEAST: u32 = 40;
 
 impl Groups {
     /// Counts one answer about a drive, with r where it has spares.
@@ -144,10 +160,47 @@ impl LookUps {
     }
 }
 
+impl Headers {
+    /// Counts the header of an image where this code and this block were expected. The call must have given
+    /// 16 exactly where a number stands in it that does not say them, or says a fourth code.
+    fn count(&mut self, image: &[u8], (code, block): (u32, u32), given: u32) {
+        let Ok(copy) = standing(image) else {
+            assert!(given != 16, "16 without a number in the header");
+            return;
+        };
+        let (its_code, its_block) = said(copy);
+        let says_them = (its_code, its_block) == (code, block);
+        assert_eq!(given == 16, !says_them || !is_known(its_code), "{given} for {copy:?}");
+        let known = |code: u32| is_known(code).then_some(code);
+        if its_block == block {
+            *self.codes.entry((known(code), known(its_code))).or_default() += 1;
+        }
+        self.other_block += u32::from(its_code == code && its_block != block);
+        let word = code.wrapping_mul(BLOCKS_MOST).wrapping_add(block);
+        self.aliases += u32::from(!says_them && word.to_be_bytes() == copy);
+    }
+
+    /// Whether enough of each was seen. A table says one of the three codes, and a block of the drive.
+    fn are_enough(&self, by_table: bool) -> bool {
+        let three = CODES.map(Some);
+        let expected = if by_table { &three[..] } else { &[&three[..], &[None]].concat() };
+        let all_said = [&three[..], &[None]].concat();
+        let pairs =
+            expected.iter().flat_map(|one| all_said.iter().map(move |other| (*one, *other)));
+        let mut seen: Vec<u32> =
+            pairs.map(|pair| self.codes.get(&pair).copied().unwrap_or(0)).collect();
+        seen.push(self.other_block);
+        if !by_table {
+            seen.push(self.aliases);
+        }
+        seen.into_iter().all(|count| count >= HEADERS_LEAST)
+    }
+}
+
 impl Tally {
     pub fn of(call: &'static str) -> Tally {
         let (library, model) = (BTreeMap::new(), BTreeMap::new());
-        Tally { call, library, model, groups: None, tables: None, look_ups: None }
+        Tally { call, library, model, groups: None, tables: None, look_ups: None, headers: None }
     }
 
     /// So many seeds that no other call has, as its name gives them.
@@ -244,6 +297,14 @@ impl Tally {
         );
     }
 
+    /// Counts the header of an image where a call expected this code and this block, and gave this number.
+    pub fn count_header(&mut self, image: &[u8], expected: (u32, u32), given: u32) {
+        // 14 comes before any look at the header.
+        if given != 14 {
+            self.headers.get_or_insert_default().count(image, expected, given);
+        }
+    }
+
     /// The rooms after one input: the same on both sides, and as before past what was written, which
     /// is nothing on a refusal.
     pub fn same_room<T: PartialEq + Copy + Debug>(
@@ -269,7 +330,8 @@ impl Tally {
     /// must have been refused for its groups alone, and accepted with groups. One that is lent a table must
     /// have been refused for its scratch, must have written to it, accepted and refused, must have been asked
     /// about drives of many spares, and must have been refused for each kind of hole alone. One that looks a
-    /// block up must have ended in each way.
+    /// block up must have ended in each way. One that expects a code and a block must have met each code
+    /// where each was expected.
     pub fn saw(self, numbers: &[u32]) {
         let inputs: u32 = self.library.values().sum();
         println!("{}: {inputs} inputs, answers {:?}", self.call, self.library);
@@ -301,6 +363,11 @@ impl Tally {
             for seen in ended {
                 assert!(seen >= SEEN_LEAST, "{}: too few of {look_ups:?}", self.call);
             }
+        }
+        if let Some(headers) = &self.headers {
+            println!("{}: {headers:?}", self.call);
+            let enough = headers.are_enough(self.tables.is_some());
+            assert!(enough, "{}: too few of {headers:?}", self.call);
         }
         for (side, seen) in [("library", &self.library), ("model", &self.model)] {
             let given: Vec<u32> = seen.keys().copied().collect();
