@@ -52,11 +52,11 @@ impl Draw {
     /// both otherwise.
     pub fn any_expected(&mut self, said: (u32, u32)) -> (u32, u32) {
         let (code, block) = said;
-        match self.below(8) {
-            0 => (self.any_code(), block),
-            1 => (code, self.any_block()),
-            2 => (self.any_code(), self.any_block()),
-            3 => self.alias(said),
+        match self.below(10) {
+            0 | 1 => (self.any_code(), block),
+            2 => (code, self.any_block()),
+            3 => (self.any_code(), self.any_block()),
+            4 => self.alias(said),
             _ => said,
         }
     }
@@ -72,12 +72,13 @@ impl Draw {
         ((16 + code - higher) % 16, block + higher * BLOCKS_MOST)
     }
 
-    /// The copy of a header in which a block must have this code: at times with another one.
+    /// The copy of a header that must say this code and this block: at times with another code or block.
     pub fn any_copy(&mut self, code: u32, block: u32) -> [u8; 4] {
-        let code = match self.below(8) {
-            0 | 1 => self.of_these(&CODES),
-            2 => self.below(16),
-            _ => code,
+        let (code, block) = match self.below(12) {
+            0 | 1 => (self.of_these(&CODES), block),
+            2 => (self.below(16), block),
+            3 => (code, self.any_block()),
+            _ => (code, block),
         };
         copy(code, block % BLOCKS_MOST)
     }

@@ -7,7 +7,7 @@ use crate::drawn_shapes::paper;
 use crate::drawn_tables::Tabled;
 use crate::model;
 use crate::model::image::{Read, HOME};
-use crate::model::spares::{Drive, ELSEWHERE, PRIMARY};
+use crate::model::spares::{allocated, Drive, ELSEWHERE, PRIMARY};
 use crate::order::number;
 use crate::tally::Tally;
 
@@ -69,7 +69,9 @@ fn code_at(drive: Drive, place: Option<u32>, block: u32) -> u32 {
 fn any_read(draw: &mut Draw) -> Drawn {
     let tabled = draw.any_tabled();
     let drive = tabled.drive;
-    let block = draw.block_of(&tabled);
+    let named: Vec<u32> = tabled.table.iter().filter_map(|word| allocated(*word)).collect();
+    let on_any_spare = !named.is_empty() && draw.one_in(3);
+    let block = if on_any_spare { draw.of_these(&named) } else { draw.block_of(&tabled) };
     let place = drive.place_of(&tabled.table, block);
     let track = drive.shape.s as usize * 530;
     let (mut home, mut spare) = (draw.bytes(track), draw.bytes(track));
