@@ -1,7 +1,7 @@
 /* Holds include/tautberry.h to libboard.a by what the calls do: the size and the fields of each struct, the angle of a sector, each limit at its
  * last number and one beyond, large drives, bad groups in each call that takes a shape, scratch in each call that takes it, blocks replaced until
- * no spare is left, free places before a block and after it, each refusal number, and NULL for each slice of length 0. It is compiled as C and as
- * C++. It returns 1 if anything differs. */
+ * no spare is left, free places before a block and after it, the codes and blocks of headers, each refusal number, and NULL for each slice of
+ * length 0. It is compiled as C and as C++. It returns 1 if anything differs. */
 #include <inttypes.h>
 #include <stdio.h>
 #include <string.h>
@@ -90,7 +90,7 @@ static void sizes(void)
     same("sizeof (tb_shifted)", sizeof(tb_shifted), 8);
     same("sizeof (tb_replaced)", sizeof(tb_replaced), 8);
     same("sizeof (tb_counted)", sizeof(tb_counted), 24);
-    same("sizeof (tb_headed)", sizeof(tb_headed), 8);
+    same("sizeof (tb_headed)", sizeof(tb_headed), 12);
     same("sizeof (tb_judged)", sizeof(tb_judged), 4);
     same("sizeof (tb_spotted)", sizeof(tb_spotted), 12);
 
@@ -106,6 +106,9 @@ static void sizes(void)
     same("offsetof (tb_address, angle)", offsetof(tb_address, angle), 12);
     same("offsetof (tb_located, refusal)", offsetof(tb_located, refusal), 0);
     same("offsetof (tb_located, address)", offsetof(tb_located, address), 4);
+    same("offsetof (tb_headed, refusal)", offsetof(tb_headed, refusal), 0);
+    same("offsetof (tb_headed, code)", offsetof(tb_headed, code), 4);
+    same("offsetof (tb_headed, block)", offsetof(tb_headed, block), 8);
 }
 
 /* Each field of each struct, by an answer in which no two numbers are alike. */
@@ -228,12 +231,14 @@ static void fields(void)
     same("tb_spare_block_at block", named.block, 6);
 
     data[0] = 1;
-    written = tb_image_write(6, data, TB_DATA_SIZE, false, spare + 4 * TB_IMAGE_SIZE, TB_IMAGE_SIZE);
+    written = tb_image_write(6, TB_CODE_OF(words[3]), data, TB_DATA_SIZE, false, spare + 4 * TB_IMAGE_SIZE, TB_IMAGE_SIZE);
+    same("tb_image_write refusal", written.refusal, TB_ACCEPTED);
     same("tb_image_write length", written.length, 530);
     tb_headed headed = tb_image_header(spare + 4 * TB_IMAGE_SIZE, TB_IMAGE_SIZE);
     same("tb_image_header refusal", headed.refusal, TB_ACCEPTED);
+    same("tb_image_header code", headed.code, TB_ELSEWHERE);
     same("tb_image_header block", headed.block, 6);
-    same("tb_image_judge refusal", tb_image_judge(spare + 4 * TB_IMAGE_SIZE, TB_IMAGE_SIZE, 6).refusal, TB_ACCEPTED);
+    same("tb_image_judge refusal", tb_image_judge(spare + 4 * TB_IMAGE_SIZE, TB_IMAGE_SIZE, 6, TB_ELSEWHERE).refusal, TB_ACCEPTED);
     same("tb_read_judge refusal", tb_read_judge(shape, 2, words, 128, scratch, SPARES, 6, home, TB_TRACK_LENGTH(5), spare, TB_TRACK_LENGTH(5)).refusal, TB_ACCEPTED);
     tb_spotted spotted = tb_read_data(shape, 2, words, 128, scratch, SPARES, 6, home, TB_TRACK_LENGTH(5), spare, TB_TRACK_LENGTH(5));
     same("tb_read_data refusal", spotted.refusal, TB_ACCEPTED);
@@ -312,13 +317,13 @@ static void limits(void)
     same("TB_TABLE_LENGTH - 1", tb_spare_first(shaped(300, 1, 2), 1, NULL, 0, words, TB_TABLE_LENGTH(300) - 1).refusal, TB_NO_ROOM);
 
     memset(data, 0, sizeof data);
-    same("TB_DATA_SIZE", tb_image_write(7, data, TB_DATA_SIZE, false, image, TB_IMAGE_SIZE).refusal, TB_ACCEPTED);
-    same("TB_DATA_SIZE - 1", tb_image_write(7, data, TB_DATA_SIZE - 1, false, image, TB_IMAGE_SIZE).refusal, TB_WRONG_LENGTH);
-    same("TB_DATA_SIZE + 1", tb_image_write(7, data, TB_DATA_SIZE + 1, false, image, TB_IMAGE_SIZE).refusal, TB_WRONG_LENGTH);
-    same("TB_IMAGE_SIZE - 1 as room", tb_image_write(7, data, TB_DATA_SIZE, false, image, TB_IMAGE_SIZE - 1).refusal, TB_NO_ROOM);
-    same("TB_IMAGE_SIZE", tb_image_judge(image, TB_IMAGE_SIZE, 7).refusal, TB_ACCEPTED);
-    same("TB_IMAGE_SIZE - 1", tb_image_judge(image, TB_IMAGE_SIZE - 1, 7).refusal, TB_WRONG_LENGTH);
-    same("TB_IMAGE_SIZE + 1", tb_image_judge(image, TB_IMAGE_SIZE + 1, 7).refusal, TB_WRONG_LENGTH);
+    same("TB_DATA_SIZE", tb_image_write(7, TB_AT_HOME, data, TB_DATA_SIZE, false, image, TB_IMAGE_SIZE).refusal, TB_ACCEPTED);
+    same("TB_DATA_SIZE - 1", tb_image_write(7, TB_AT_HOME, data, TB_DATA_SIZE - 1, false, image, TB_IMAGE_SIZE).refusal, TB_WRONG_LENGTH);
+    same("TB_DATA_SIZE + 1", tb_image_write(7, TB_AT_HOME, data, TB_DATA_SIZE + 1, false, image, TB_IMAGE_SIZE).refusal, TB_WRONG_LENGTH);
+    same("TB_IMAGE_SIZE - 1 as room", tb_image_write(7, TB_AT_HOME, data, TB_DATA_SIZE, false, image, TB_IMAGE_SIZE - 1).refusal, TB_NO_ROOM);
+    same("TB_IMAGE_SIZE", tb_image_judge(image, TB_IMAGE_SIZE, 7, TB_AT_HOME).refusal, TB_ACCEPTED);
+    same("TB_IMAGE_SIZE - 1", tb_image_judge(image, TB_IMAGE_SIZE - 1, 7, TB_AT_HOME).refusal, TB_WRONG_LENGTH);
+    same("TB_IMAGE_SIZE + 1", tb_image_judge(image, TB_IMAGE_SIZE + 1, 7, TB_AT_HOME).refusal, TB_WRONG_LENGTH);
     same("TB_START_CODE", (uint32_t)image[TB_IMAGE_SIZE - 2] * 256 + image[TB_IMAGE_SIZE - 1], TB_START_CODE);
     same("the byte before TB_HEADER_SIZE", image[TB_HEADER_SIZE - 1], 7);
     same("the byte at TB_HEADER_SIZE", image[TB_HEADER_SIZE], 0);
@@ -348,7 +353,7 @@ static void limits(void)
 
     const tb_shape shape = shaped(2, 2, 5);
     same("a table for block 0", tb_spare_first(shape, 2, NULL, 0, words, 128).refusal, TB_ACCEPTED);
-    same("an image of block 0", tb_image_write(0, data, TB_DATA_SIZE, false, home, TB_IMAGE_SIZE).refusal, TB_ACCEPTED);
+    same("an image of block 0", tb_image_write(0, TB_AT_HOME, data, TB_DATA_SIZE, false, home, TB_IMAGE_SIZE).refusal, TB_ACCEPTED);
     for (uint32_t more = 0; more < 3; more++) {
         for (uint32_t other = 0; other < 3; other++) {
             same("TB_TRACK_LENGTH, one less and one more, of either image",
@@ -761,7 +766,7 @@ static void scratches(void)
     for (uint32_t more = 0; more <= 3; more += 3) {
         what = well;
         what.scratch_length = SPARES + more;
-        same("an image of block 7", tb_image_write(7, data, TB_DATA_SIZE, false, lying, TB_IMAGE_SIZE).refusal, TB_ACCEPTED);
+        same("an image of block 7", tb_image_write(7, TB_AT_PRIMARY, data, TB_DATA_SIZE, false, lying, TB_IMAGE_SIZE).refusal, TB_ACCEPTED);
         scratch_in_each_call(good, what, by_all(TB_ACCEPTED));
         scratch_in_each_call(twice, what, by_all(TB_BAD_TABLE));
         scratch_in_each_call(other_code, what, by_all(TB_BAD_TABLE));
@@ -775,7 +780,9 @@ static void scratches(void)
         scratch_in_each_call(good, what, by_reads(TB_NO_ADDRESS));
         lying[8]++;
         scratch_in_each_call(good, what, by_reads(TB_OTHER_BLOCK));
-        same("a forced image of block 7", tb_image_write(7, data, TB_DATA_SIZE, true, lying, TB_IMAGE_SIZE).refusal, TB_ACCEPTED);
+        same("an image of block 7 at home", tb_image_write(7, TB_AT_HOME, data, TB_DATA_SIZE, false, lying, TB_IMAGE_SIZE).refusal, TB_ACCEPTED);
+        scratch_in_each_call(good, what, by_reads(TB_OTHER_BLOCK));
+        same("a forced image of block 7", tb_image_write(7, TB_AT_PRIMARY, data, TB_DATA_SIZE, true, lying, TB_IMAGE_SIZE).refusal, TB_ACCEPTED);
         scratch_in_each_call(good, what, by_reads(TB_FORCED_ERROR));
         lying[TB_HEADER_SIZE]++;
         scratch_in_each_call(good, what, by_reads(TB_BAD_CODE));
@@ -834,8 +841,11 @@ static void judged_tables(void)
         const uint32_t sector = tables[i].sector;
         const bool good = tables[i].number == TB_ACCEPTED;
         const asked what = {replacing(), 2, SPARES, block, sector, TB_TRACK_LENGTH(5)};
+        const uint32_t descriptor = tables[i].descriptors[sector / 5 * 2 + sector % 5 - 3];
         same("an image of a block on its spare",
-             tb_image_write(block, data, TB_DATA_SIZE, false, spare + sector % 5 * TB_IMAGE_SIZE, TB_IMAGE_SIZE).refusal, TB_ACCEPTED);
+             tb_image_write(TB_NUMBER_OF(descriptor), TB_CODE_OF(descriptor), data, TB_DATA_SIZE, false, spare + sector % 5 * TB_IMAGE_SIZE, TB_IMAGE_SIZE)
+                 .refusal,
+             TB_ACCEPTED);
         scratch_in_each_call(tables[i].descriptors, what, by_all(tables[i].number));
         lay(tables[i].descriptors);
         same("sector of a judged table", tb_spare_sector(replacing(), 2, words, 128, scratch, SPARES, block).sector, good ? sector : 0);
@@ -1018,6 +1028,226 @@ static void far_free_places(void)
     }
 }
 
+/* The codes, and code and number of words. The macros serve where a constant is asked for, too. */
+static void words_of_codes(void)
+{
+    static const uint32_t code_of_a_constant = TB_CODE_OF(0x3FFFFFFF);
+    static const uint32_t number_of_a_constant = TB_NUMBER_OF(0x3FFFFFFF);
+
+    same("TB_CODE_UNIT", TB_CODE_UNIT, 268435456);
+    same("TB_AT_HOME", TB_AT_HOME, 0);
+    same("TB_AT_PRIMARY", TB_AT_PRIMARY, 2);
+    same("TB_ELSEWHERE", TB_ELSEWHERE, 3);
+    same("TB_CODE_OF a constant", code_of_a_constant, TB_ELSEWHERE);
+    same("TB_NUMBER_OF a constant", number_of_a_constant, 268435455);
+    for (uint32_t code = 0; code < 16; code++) {
+        for (uint32_t number = 0; number < TB_CODE_UNIT; number = 2 * number + 1) {
+            same("TB_CODE_OF", TB_CODE_OF(code * TB_CODE_UNIT + number), code);
+            same("TB_NUMBER_OF", TB_NUMBER_OF(code * TB_CODE_UNIT + number), number);
+        }
+    }
+    same("TB_CODE_OF a sum", TB_CODE_OF(0x20000000u + 7u), TB_AT_PRIMARY);
+    same("TB_NUMBER_OF a sum", TB_NUMBER_OF(0x20000000u + 7u), 7);
+    same("TB_CODE_OF a part of a product", 2u * TB_CODE_OF(0x20000007u), 4);
+    same("TB_NUMBER_OF a part of a quotient", 14u / TB_NUMBER_OF(0x20000007u), 2);
+}
+
+/* Lays an image of zeros with four numbers in its header. */
+static void lay_image(uint8_t *to, uint32_t first, uint32_t second, uint32_t third, uint32_t fourth)
+{
+    const uint32_t copies[4] = {first, second, third, fourth};
+    memset(to, 0, TB_IMAGE_SIZE);
+    for (size_t i = 0; i < TB_HEADER_SIZE; i++) {
+        to[i] = (uint8_t)(copies[i / 4] >> (24 - 8 * (i % 4)));
+    }
+    to[TB_IMAGE_SIZE - 2] = TB_START_CODE / 256;
+    to[TB_IMAGE_SIZE - 1] = TB_START_CODE % 256;
+}
+
+/* A header with these copies says this code and this block. */
+static void headed_so(uint32_t first, uint32_t second, uint32_t third, uint32_t fourth, uint32_t code, uint32_t block)
+{
+    lay_image(image, first, second, third, fourth);
+    const tb_headed headed = tb_image_header(image, TB_IMAGE_SIZE);
+    same("refusal of a header", headed.refusal, TB_ACCEPTED);
+    same("code of a header", headed.code, code);
+    same("block of a header", headed.block, block);
+    same("verdict by what a header says", tb_image_judge(image, TB_IMAGE_SIZE, block, code).refusal, TB_ACCEPTED);
+}
+
+/* A header with these copies is refused. */
+static void not_headed(uint32_t first, uint32_t second, uint32_t third, uint32_t fourth, uint32_t refusal)
+{
+    lay_image(image, first, second, third, fourth);
+    REFUSED(tb_headed, tb_image_header(image, TB_IMAGE_SIZE), refusal);
+}
+
+/* Headers of each code, of copies that differ, and with each code that no header may have. */
+static void headers(void)
+{
+    headed_so(0x00000007, 0x00000007, 0x00000007, 0x00000007, TB_AT_HOME, 7);
+    headed_so(0x20000007, 0x20000007, 0x20000007, 0x20000007, TB_AT_PRIMARY, 7);
+    headed_so(0x3FFFFFFF, 0x3FFFFFFF, 0x3FFFFFFF, 0x3FFFFFFF, TB_ELSEWHERE, 268435455);
+    headed_so(0x30000007, 0x30000007, 0x30000007, 0x00000007, TB_ELSEWHERE, 7);
+    headed_so(0x00000007, 0x30000007, 0x30000007, 0x30000007, TB_ELSEWHERE, 7);
+    headed_so(0x20000007, 0x10000007, 0x20000007, 0x20000007, TB_AT_PRIMARY, 7);
+    headed_so(0, 0, 0x20000000, 0, TB_AT_HOME, 0);
+    not_headed(0x20000007, 0x20000007, 0x00000007, 0x00000007, TB_NO_ADDRESS);
+    not_headed(0x20000007, 0x00000007, 0x20000007, 0x30000007, TB_NO_ADDRESS);
+    not_headed(0x10000007, 0x10000007, 0x20000007, 0x20000007, TB_NO_ADDRESS);
+    not_headed(0x10000007, 0x20000007, 0x10000007, 0x10000007, TB_OTHER_BLOCK);
+    not_headed(0x80000000, 0x80000000, 0x80000000, 0x80000000, TB_OTHER_BLOCK);
+    not_headed(0xFFFFFFFF, 0xFFFFFFFF, 0xFFFFFFFF, 0xFFFFFFFF, TB_OTHER_BLOCK);
+    for (uint32_t code = 0; code < 16; code++) {
+        const uint32_t word = code * TB_CODE_UNIT + 7;
+        if (code == TB_AT_HOME || code == TB_AT_PRIMARY || code == TB_ELSEWHERE) {
+            headed_so(word, word, word, word, code, 7);
+        } else {
+            not_headed(word, word, word, word, TB_OTHER_BLOCK);
+        }
+    }
+    REFUSED(tb_headed, tb_image_header(image, TB_IMAGE_SIZE - 1), TB_WRONG_LENGTH);
+    REFUSED(tb_headed, tb_image_header(image, TB_IMAGE_SIZE + 1), TB_WRONG_LENGTH);
+}
+
+/* The image of zeros has this word in its header, byte for byte. */
+static void written_so(uint32_t block, uint32_t code, uint32_t word)
+{
+    uint8_t expected[TB_IMAGE_SIZE];
+    memset(data, 0, sizeof data);
+    memset(image, 0xA5, sizeof image);
+    const tb_written written = tb_image_write(block, code, data, TB_DATA_SIZE, false, image, sizeof image);
+    same("refusal of a written image", written.refusal, TB_ACCEPTED);
+    same("length of a written image", written.length, TB_IMAGE_SIZE);
+    lay_image(expected, word, word, word, word);
+    same("bytes of a written image", memcmp(image, expected, TB_IMAGE_SIZE) == 0, 1);
+    same("the byte behind a written image", image[TB_IMAGE_SIZE], 0xA5);
+    same("good as written", tb_image_judge(image, TB_IMAGE_SIZE, block, code).refusal, TB_ACCEPTED);
+    same("refusal of a forced image", tb_image_write(block, code, data, TB_DATA_SIZE, true, image, TB_IMAGE_SIZE).refusal, TB_ACCEPTED);
+    same("its first byte", image[0], word >> 24);
+    same("its last two bytes", image[TB_IMAGE_SIZE - 2] * 256u + image[TB_IMAGE_SIZE - 1], 0xFFFF - TB_START_CODE);
+    same("forced as written", tb_image_judge(image, TB_IMAGE_SIZE, block, code).refusal, TB_FORCED_ERROR);
+}
+
+/* A write is refused, and no byte of the room changes. */
+static void not_written(uint32_t block, uint32_t code, size_t data_length, size_t room_length, uint32_t refusal)
+{
+    uint32_t kept = 0;
+    memset(image, 0xA5, sizeof image);
+    REFUSED(tb_written, tb_image_write(block, code, data, data_length, false, image, room_length), refusal);
+    for (size_t i = 0; i < sizeof image; i++) {
+        kept += image[i] == 0xA5;
+    }
+    same("bytes of a room that a refused write kept", kept, sizeof image);
+}
+
+/* Images with each code, at the last block and beyond it, and with several faults at once. */
+static void images_written(void)
+{
+    written_so(7, TB_AT_HOME, 0x00000007);
+    written_so(7, TB_AT_PRIMARY, 0x20000007);
+    written_so(7, TB_ELSEWHERE, 0x30000007);
+    written_so(268435455, TB_ELSEWHERE, 0x3FFFFFFF);
+    written_so(268435455, TB_AT_HOME, 0x0FFFFFFF);
+    not_written(268435456, 1, TB_DATA_SIZE - 1, TB_IMAGE_SIZE - 1, TB_WRONG_LENGTH);
+    not_written(268435456, 1, TB_DATA_SIZE, TB_IMAGE_SIZE - 1, TB_NO_SUCH_BLOCK);
+    not_written(268435456, TB_AT_HOME, TB_DATA_SIZE, TB_IMAGE_SIZE, TB_NO_SUCH_BLOCK);
+    not_written(0xFFFFFFFF, TB_ELSEWHERE, TB_DATA_SIZE, TB_IMAGE_SIZE, TB_NO_SUCH_BLOCK);
+    not_written(7, TB_AT_PRIMARY, TB_DATA_SIZE, TB_IMAGE_SIZE - 1, TB_NO_ROOM);
+    for (uint32_t code = 0; code < 20; code++) {
+        if (code != TB_AT_HOME && code != TB_AT_PRIMARY && code != TB_ELSEWHERE) {
+            not_written(7, code, TB_DATA_SIZE, TB_IMAGE_SIZE, TB_UNKNOWN_CODE);
+            not_written(7, code, TB_DATA_SIZE, TB_IMAGE_SIZE - 1, TB_UNKNOWN_CODE);
+            not_written(268435456, code, TB_DATA_SIZE, TB_IMAGE_SIZE, TB_NO_SUCH_BLOCK);
+        }
+    }
+    not_written(7, 0xFFFFFFFF, TB_DATA_SIZE, TB_IMAGE_SIZE, TB_UNKNOWN_CODE);
+}
+
+/* A number that stands in a header, what is expected of it, and the verdict. */
+typedef struct judged_header {
+    uint32_t word;
+    uint32_t block;
+    uint32_t code;
+    uint32_t number;
+} judged_header;
+
+/* Verdicts on the pair of block and code that a header says, and on pairs that it does not say. Block 268435463 with code 1, block 536870919
+ * with code 0, and block 7 with code 18 make the word 20000007 in 32 bits, and no header says them. */
+static void images_judged(void)
+{
+    const judged_header judged[] = {
+        {0x20000007, 7, TB_AT_PRIMARY, TB_ACCEPTED},
+        {0x20000007, 7, TB_AT_HOME, TB_OTHER_BLOCK},
+        {0x20000007, 7, 1, TB_OTHER_BLOCK},
+        {0x20000007, 7, TB_ELSEWHERE, TB_OTHER_BLOCK},
+        {0x20000007, 8, TB_AT_PRIMARY, TB_OTHER_BLOCK},
+        {0x20000007, 268435463, 1, TB_OTHER_BLOCK},
+        {0x20000007, 536870919, TB_AT_HOME, TB_OTHER_BLOCK},
+        {0x20000007, 7, 18, TB_OTHER_BLOCK},
+        {0x30000007, 268435463, TB_AT_PRIMARY, TB_OTHER_BLOCK},
+        {0x10000007, 7, 1, TB_OTHER_BLOCK},
+        {0x10000007, 268435463, TB_AT_HOME, TB_OTHER_BLOCK},
+        {0xFFFFFFFF, 268435455, 15, TB_OTHER_BLOCK},
+        {0xFFFFFFFF, 0xFFFFFFFF, TB_AT_HOME, TB_OTHER_BLOCK},
+        {0x3FFFFFFF, 268435455, TB_ELSEWHERE, TB_ACCEPTED},
+        {0x00000007, 7, TB_AT_HOME, TB_ACCEPTED},
+        {0x00000007, 7, TB_AT_PRIMARY, TB_OTHER_BLOCK},
+    };
+
+    for (size_t i = 0; i < sizeof judged / sizeof judged[0]; i++) {
+        const uint32_t word = judged[i].word;
+        const uint32_t block = judged[i].block;
+        const uint32_t code = judged[i].code;
+        const bool good = judged[i].number == TB_ACCEPTED;
+        lay_image(image, word, word, word, word);
+        same("verdict on a pair", tb_image_judge(image, TB_IMAGE_SIZE, block, code).refusal, judged[i].number);
+        same("verdict on a pair, wrong length", tb_image_judge(image, TB_IMAGE_SIZE - 1, block, code).refusal, TB_WRONG_LENGTH);
+        image[0] ^= 0x10;
+        same("verdict on a pair, one copy damaged", tb_image_judge(image, TB_IMAGE_SIZE, block, code).refusal, judged[i].number);
+        image[TB_IMAGE_SIZE - 1] ^= 1;
+        same("verdict on a pair, code of the data damaged", tb_image_judge(image, TB_IMAGE_SIZE, block, code).refusal, good ? TB_BAD_CODE : TB_OTHER_BLOCK);
+        image[TB_IMAGE_SIZE - 1] ^= 0xFE, image[TB_IMAGE_SIZE - 2] ^= 0xFF;
+        same("verdict on a pair, forced", tb_image_judge(image, TB_IMAGE_SIZE, block, code).refusal, good ? TB_FORCED_ERROR : TB_OTHER_BLOCK);
+        image[4] ^= 0x10;
+        same("verdict on a pair, two copies damaged", tb_image_judge(image, TB_IMAGE_SIZE, block, code).refusal, TB_NO_ADDRESS);
+    }
+}
+
+/* Reads a block of the drive of the replacements from two images, of which the one that it lies in, on this sector of the track, has this word in
+ * the header there. */
+static void read_so(uint32_t block, uint32_t image_number, uint32_t sector, uint32_t word, uint32_t number)
+{
+    const size_t track = TB_TRACK_LENGTH(5);
+    uint8_t *const track_image = image_number == 0 ? home : spare;
+    memset(home, 0xA5, sizeof home);
+    memset(spare, 0xA5, sizeof spare);
+    lay_image(track_image + sector * TB_IMAGE_SIZE, word, word, word, word);
+    SCRATCHED(tb_judged, tb_read_judge(replacing(), 2, words, 128, scratch, SPARES, block, home, track, spare, track), number, SPARES);
+    SCRATCHED(tb_spotted, tb_read_data(replacing(), 2, words, 128, scratch, SPARES, block, home, track, spare, track), number, SPARES);
+    const tb_spotted spotted = tb_read_data(replacing(), 2, words, 128, scratch, SPARES, block, home, track, spare, track);
+    same("image of a read", spotted.image, number == TB_ACCEPTED ? image_number : 0);
+    same("offset of a read", spotted.offset, number == TB_ACCEPTED ? sector * TB_IMAGE_SIZE + TB_HEADER_SIZE : 0);
+}
+
+/* Reads of a block at its primary spare, of one elsewhere and of one at home, with each code of four bits in the header. Only the one that the
+ * table says is accepted. */
+static void reads(void)
+{
+    const uint32_t descriptors[8] = {0, 0, 0, 0, 0x20000007, 0x30000008, 0, 0};
+
+    lay(descriptors);
+    for (uint32_t code = 0; code < 16; code++) {
+        const uint32_t word = code * TB_CODE_UNIT;
+        read_so(7, 1, 3, word + 7, word + 7 == words[4] ? TB_ACCEPTED : TB_OTHER_BLOCK);
+        read_so(8, 1, 4, word + 8, word + 8 == words[5] ? TB_ACCEPTED : TB_OTHER_BLOCK);
+        read_so(6, 0, 0, word + 6, code == TB_AT_HOME ? TB_ACCEPTED : TB_OTHER_BLOCK);
+    }
+    read_so(7, 1, 3, 0x20000008, TB_OTHER_BLOCK);
+    read_so(8, 1, 4, 0x30000007, TB_OTHER_BLOCK);
+    read_so(6, 0, 0, 0x00000007, TB_OTHER_BLOCK);
+}
+
 /* Each refusal number once, by its name and by its number. */
 static void refusals(void)
 {
@@ -1060,15 +1290,18 @@ static void refusals(void)
     same("TB_NO_ADDRESS", tb_image_header(image, TB_IMAGE_SIZE).refusal, TB_NO_ADDRESS);
     same("its number", TB_NO_ADDRESS, number++);
     image[8] = 1;
-    same("TB_OTHER_BLOCK", tb_image_judge(image, TB_IMAGE_SIZE, 1).refusal, TB_OTHER_BLOCK);
+    same("TB_OTHER_BLOCK", tb_image_judge(image, TB_IMAGE_SIZE, 1, TB_AT_HOME).refusal, TB_OTHER_BLOCK);
     same("its number", TB_OTHER_BLOCK, number++);
-    same("a forced image", tb_image_write(1, data, TB_DATA_SIZE, true, image, TB_IMAGE_SIZE).refusal, TB_ACCEPTED);
-    same("TB_FORCED_ERROR", tb_image_judge(image, TB_IMAGE_SIZE, 1).refusal, TB_FORCED_ERROR);
+    same("a forced image", tb_image_write(1, TB_AT_HOME, data, TB_DATA_SIZE, true, image, TB_IMAGE_SIZE).refusal, TB_ACCEPTED);
+    same("TB_FORCED_ERROR", tb_image_judge(image, TB_IMAGE_SIZE, 1, TB_AT_HOME).refusal, TB_FORCED_ERROR);
     same("its number", TB_FORCED_ERROR, number++);
     image[TB_HEADER_SIZE] ^= 1;
-    same("TB_BAD_CODE", tb_image_judge(image, TB_IMAGE_SIZE, 1).refusal, TB_BAD_CODE);
+    same("TB_BAD_CODE", tb_image_judge(image, TB_IMAGE_SIZE, 1, TB_AT_HOME).refusal, TB_BAD_CODE);
     same("its number", TB_BAD_CODE, number++);
-    same("the refusals", number, 19);
+    number += 3; /* 19, 20 and 21 are given by no call, so that no name has them. */
+    same("TB_UNKNOWN_CODE", tb_image_write(1, 1, data, TB_DATA_SIZE, false, image, TB_IMAGE_SIZE).refusal, TB_UNKNOWN_CODE);
+    same("its number", TB_UNKNOWN_CODE, number++);
+    same("the refusals", number, 23);
 }
 
 /* NULL for each slice of length 0. */
@@ -1106,10 +1339,10 @@ static void nothing_lent(void)
     same("tb_spare_census scratch", tb_spare_census(shape, 2, words, 128, NULL, 0).refusal, TB_NO_ROOM);
     same("tb_spare_first list", tb_spare_first(shape, 2, NULL, 0, words, 128).length, 128);
     same("tb_spare_first room", tb_spare_first(shape, 2, NULL, 0, NULL, 0).refusal, TB_NO_ROOM);
-    same("tb_image_write data", tb_image_write(0, NULL, 0, false, image, TB_IMAGE_SIZE).refusal, TB_WRONG_LENGTH);
-    same("tb_image_write room", tb_image_write(0, data, TB_DATA_SIZE, false, NULL, 0).refusal, TB_NO_ROOM);
+    same("tb_image_write data", tb_image_write(0, TB_AT_HOME, NULL, 0, false, image, TB_IMAGE_SIZE).refusal, TB_WRONG_LENGTH);
+    same("tb_image_write room", tb_image_write(0, TB_AT_HOME, data, TB_DATA_SIZE, false, NULL, 0).refusal, TB_NO_ROOM);
     same("tb_image_header image", tb_image_header(NULL, 0).refusal, TB_WRONG_LENGTH);
-    same("tb_image_judge image", tb_image_judge(NULL, 0, 0).refusal, TB_WRONG_LENGTH);
+    same("tb_image_judge image", tb_image_judge(NULL, 0, 0, TB_AT_HOME).refusal, TB_WRONG_LENGTH);
     same("tb_read_judge table", tb_read_judge(shape, 2, NULL, 0, scratch, SPARES, 0, home, TB_TRACK_LENGTH(5), spare, TB_TRACK_LENGTH(5)).refusal, TB_BAD_TABLE);
     same("tb_read_judge scratch", tb_read_judge(shape, 2, words, 128, NULL, 0, 0, home, TB_TRACK_LENGTH(5), spare, TB_TRACK_LENGTH(5)).refusal, TB_NO_ROOM);
     same("tb_read_judge home", tb_read_judge(shape, 2, words, 128, scratch, SPARES, 0, NULL, 0, spare, TB_TRACK_LENGTH(5)).refusal, TB_WRONG_LENGTH);
@@ -1138,6 +1371,11 @@ int main(void)
     judged_tables();
     free_places();
     far_free_places();
+    words_of_codes();
+    headers();
+    images_written();
+    images_judged();
+    reads();
     refusals();
     nothing_lent();
 #ifdef __cplusplus

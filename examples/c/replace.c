@@ -45,7 +45,8 @@ static void fill(uint8_t data[TB_DATA_SIZE], const char *text)
     memcpy(data, text, strlen(text));
 }
 
-/* Writes every sector of the drive as the block that lies on it, and a sector on which none lies as a forced error. */
+/* Writes every sector of the drive as the block that lies on it, and a sector on which none lies as a forced error. No block is replaced yet, so
+ * every header says that its block is at home. */
 static void write_drive(const char *text)
 {
     uint8_t data[TB_DATA_SIZE];
@@ -53,7 +54,7 @@ static void write_drive(const char *text)
     for (uint32_t sector = 0; sector < TRACKS * SECTORS; sector++) {
         tb_named lying = tb_spare_block(shape, r, table, table_length, scratch, scratch_length, sector);
         uint8_t *image = &tracks[sector / SECTORS][sector % SECTORS * TB_IMAGE_SIZE];
-        tb_written written = tb_image_write(lying.block, data, sizeof data, lying.found == 0, image, TB_IMAGE_SIZE);
+        tb_written written = tb_image_write(lying.block, TB_AT_HOME, data, sizeof data, lying.found == 0, image, TB_IMAGE_SIZE);
         must(lying.refusal == TB_ACCEPTED && written.refusal == TB_ACCEPTED, "every sector of the drive can be written");
     }
 }
@@ -86,6 +87,14 @@ static void locate(uint32_t block, uint32_t sector, uint32_t angle)
            block, located.address.cylinder, located.address.head, located.address.sector, located.address.angle, placed.sector);
     must(located.refusal == TB_ACCEPTED && placed.refusal == TB_ACCEPTED && placed.sector == sector, "the sector of a block");
     must(located.address.angle == angle, "the angle of a block");
+}
+
+/* Says what the header of an image says. */
+static void show_header(const uint8_t *image, uint32_t code, uint32_t block)
+{
+    tb_headed headed = tb_image_header(image, TB_IMAGE_SIZE);
+    printf("  its header says code %" PRIu32 " and block %" PRIu32 "\n", headed.code, headed.block);
+    must(headed.refusal == TB_ACCEPTED && headed.code == code && headed.block == block, "the code and the block of a header");
 }
 
 /* Reads a block from the images of its home track and of the track that it lies on now. */
@@ -134,13 +143,21 @@ int main(void)
     census(5, 0);
     locate(6, 9, 1);
 
-    puts("Nothing names block 6 on its spare yet; then it is written there:");
+    puts("Nothing names block 6 on its spare yet:");
     must(read_block(6, "") == TB_OTHER_BLOCK, "a spare that was not written is refused");
+
+    puts("Its old image is moved there as it is, and says that the block is at home:");
+    uint8_t *image = &tracks[1][4 * TB_IMAGE_SIZE];
+    memcpy(image, &tracks[2][0], TB_IMAGE_SIZE);
+    show_header(image, TB_AT_HOME, 6);
+    must(read_block(6, "") == TB_OTHER_BLOCK, "an image that says another code is refused");
+
+    puts("It is written there with the code of its descriptor:");
     uint8_t data[TB_DATA_SIZE];
     fill(data, "Tuesday's log");
-    uint8_t *image = &tracks[1][4 * TB_IMAGE_SIZE];
-    tb_written written = tb_image_write(6, data, sizeof data, false, image, TB_IMAGE_SIZE);
+    tb_written written = tb_image_write(6, TB_CODE_OF(table[3]), data, sizeof data, false, image, TB_IMAGE_SIZE);
     must(written.refusal == TB_ACCEPTED && written.length == TB_IMAGE_SIZE, "the image of block 6");
+    show_header(image, TB_ELSEWHERE, 6);
     must(read_block(6, "Tuesday's log") == TB_ACCEPTED, "block 6 reads well from its spare");
 
     puts("One bit of its data turns over:");
@@ -148,7 +165,7 @@ int main(void)
     must(read_block(6, "") == TB_BAD_CODE, "one bit is seen");
 
     puts("It is written as lost, so that nobody takes it for good:");
-    written = tb_image_write(6, data, sizeof data, true, image, TB_IMAGE_SIZE);
+    written = tb_image_write(6, TB_CODE_OF(table[3]), data, sizeof data, true, image, TB_IMAGE_SIZE);
     must(written.refusal == TB_ACCEPTED && read_block(6, "") == TB_FORCED_ERROR, "a forced error is told");
 
     puts("Its spare is bad too, and the block is replaced again:");
@@ -165,7 +182,7 @@ int main(void)
 
     puts("It is written on its new spare:");
     fill(data, "Wednesday's log");
-    written = tb_image_write(6, data, sizeof data, false, &tracks[3][3 * TB_IMAGE_SIZE], TB_IMAGE_SIZE);
+    written = tb_image_write(6, TB_CODE_OF(table[6]), data, sizeof data, false, &tracks[3][3 * TB_IMAGE_SIZE], TB_IMAGE_SIZE);
     must(written.refusal == TB_ACCEPTED && read_block(6, "Wednesday's log") == TB_ACCEPTED, "block 6 reads well from its new spare");
 
     puts(off ? "Something is off." : "All as it must be.");

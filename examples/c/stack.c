@@ -47,7 +47,7 @@ static uint32_t scratch[TRACKS];
 static size_t scratch_length;
 
 /* The numbers that go with it. `unit` and `unit_block` are asked for on a drive of n sectors. */
-static uint32_t n, unit, unit_block, skipped_block, r, block, replaced, cylinder, head, in_track, sector, kind, space, option;
+static uint32_t n, unit, unit_block, skipped_block, r, block, code, replaced, cylinder, head, in_track, sector, kind, space, option;
 static tb_shape shape;
 static tb_cursor cursor;
 static bool forced;
@@ -58,7 +58,7 @@ static bool lay(unsigned situation)
     n = TB_UNITS_MOST, unit = n - 1, unit_block = n - TB_LIST_MOST - 1;
     shape.cylinders = CYLINDERS, shape.heads = shape.tracks = HEADS, shape.groups = 1, shape.sectors = SECTORS, shape.offset = 0, r = 1;
     cylinder = CYLINDERS - 1, head = HEADS - 1, in_track = 0, sector = SECTORS * (TRACKS - 1), skipped_block = TRACKS * SECTORS - TB_LIST_MOST - 1;
-    block = ON_SPARE, replaced = AT_HOME, kind = 1, space = 3, option = 1, forced = false;
+    block = ON_SPARE, code = TB_AT_PRIMARY, replaced = AT_HOME, kind = 1, space = 3, option = 1, forced = false;
     cursor.block = unit_block, cursor.skipped = TB_LIST_MOST;
     /* Two homes of the first track are bad, and one of each track after it but the last. So each bad home but the first takes the spare of the
      * track after its own, and at the end of a table block its search goes on in the next one. */
@@ -74,14 +74,14 @@ static bool lay(unsigned situation)
     image_length = TB_IMAGE_SIZE, home_length = sizeof home, spare_length = sizeof spare;
     entries_room = grown_room = merged_room = TB_LIST_MOST, first_room = TRACKS, page_room = sizeof page_written, image_room = TB_IMAGE_SIZE;
     tb_page_write(n, kind, list, list_length, page, sizeof page);
-    tb_image_write(AT_HOME, data, sizeof data, false, home, TB_IMAGE_SIZE);
-    tb_image_write(ON_SPARE, data, sizeof data, false, image, TB_IMAGE_SIZE);
+    tb_image_write(AT_HOME, TB_AT_HOME, data, sizeof data, false, home, TB_IMAGE_SIZE);
+    tb_image_write(ON_SPARE, code, data, sizeof data, false, image, TB_IMAGE_SIZE);
     uint8_t *const last_entry = page + TB_PAGE_MOST - 2 * TB_ENTRY_SIZE;
     switch (situation) {
     case 0: return true; /* all is well */
     case 1: /* and otherwise, with groups */
         shape.groups = HEADS, shape.tracks = 1, shape.offset = SECTORS - 1;
-        block = AT_HOME, sector += HOMES, in_track = HOMES, forced = true, kind = 0, option = 6, d_length = 0; return true;
+        block = AT_HOME, code = TB_AT_HOME, sector += HOMES, in_track = HOMES, forced = true, kind = 0, option = 6, d_length = 0; return true;
     case 2: n = 0, shape.sectors = TB_SECTORS_LEAST - 1; return true;
     case 3: n = TB_UNITS_MOST + 1, shape.cylinders = 1986, shape.heads = shape.tracks = 33; return true; /* a drive with two spares too many */
     case 4: r = SECTORS; return true;
@@ -119,8 +119,8 @@ static bool lay(unsigned situation)
     case 36: data_length--, image_length--, home_length--; return true;
     case 37: spare_length--; return true;
     case 38: image[TB_HEADER_SIZE - 1]++, image[TB_HEADER_SIZE - 5]++; return true; /* two copies against two */
-    case 39: tb_image_write(AT_HOME, data, sizeof data, false, image, TB_IMAGE_SIZE); return true;
-    case 40: tb_image_write(ON_SPARE, data, sizeof data, true, image, TB_IMAGE_SIZE); return true;
+    case 39: tb_image_write(AT_HOME, code, data, sizeof data, false, image, TB_IMAGE_SIZE); return true;
+    case 40: tb_image_write(ON_SPARE, code, data, sizeof data, true, image, TB_IMAGE_SIZE); return true;
     case 41: image[TB_IMAGE_SIZE - 1]++; return true;
     case 42: shape.groups = 0; return true;
     case 43: shape.tracks = TB_HEADS_MOST + 1; return true;
@@ -130,11 +130,15 @@ static bool lay(unsigned situation)
     case 47: shape.cylinders--, memcpy(bad, list, sizeof bad); return true; /* more bad homes than spares */
     case 48: table[LAST_PLACE] = 0x30000000u + ON_SPARE + 1; return true; /* a free place before a block */
     case 49: /* a block that lies at the last place of its search order */
-        table[FREE_PLACE] = 0x30000000u + AT_HOME, block = AT_HOME;
-        tb_image_write(AT_HOME, data, sizeof data, false, image, TB_IMAGE_SIZE); return true;
+        table[FREE_PLACE] = 0x30000000u + AT_HOME, block = AT_HOME, code = TB_ELSEWHERE;
+        tb_image_write(AT_HOME, code, data, sizeof data, false, image, TB_IMAGE_SIZE); return true;
     case 50: /* the home of that block */
         table[FREE_PLACE] = 0x30000000u + AT_HOME, sector = SECTORS * TB_TABLE_BLOCK;
         cylinder = TB_TABLE_BLOCK / HEADS, head = TB_TABLE_BLOCK % HEADS; return true;
+    case 51: code = TB_ELSEWHERE + 1; return true; /* a code that no header may have, to write and to expect */
+    case 52: block = TB_CODE_UNIT; return true;    /* a block that no header can say */
+    case 53: tb_image_write(ON_SPARE, TB_AT_HOME, data, sizeof data, false, image, TB_IMAGE_SIZE); return true; /* another code */
+    case 54: image[0] ^= 0x40, image[4] ^= 0x40, image[8] ^= 0x40, image[12] ^= 0x40; return true; /* a code in the header that it may not have */
     default: return false;
     }
 }
@@ -162,9 +166,9 @@ static void spare_block_at(void) { refusal = tb_spare_block_at(shape, r, table, 
 static void spare_replace(void) { refusal = tb_spare_replace(shape, r, table, table_length, scratch, scratch_length, replaced).refusal; }
 static void spare_census(void) { refusal = tb_spare_census(shape, r, table, table_length, scratch, scratch_length).refusal; }
 static void spare_first(void) { refusal = tb_spare_first(shape, r, bad, bad_length, first, first_room).refusal; }
-static void image_write(void) { refusal = tb_image_write(block, data, data_length, forced, image_written, image_room).refusal; }
+static void image_write(void) { refusal = tb_image_write(block, code, data, data_length, forced, image_written, image_room).refusal; }
 static void image_header(void) { refusal = tb_image_header(image, image_length).refusal; }
-static void image_judge(void) { refusal = tb_image_judge(image, image_length, block).refusal; }
+static void image_judge(void) { refusal = tb_image_judge(image, image_length, block, code).refusal; }
 static void read_judge(void) { refusal = tb_read_judge(shape, r, table, table_length, scratch, scratch_length, block, home, home_length, spare, spare_length).refusal; }
 static void read_data(void) { refusal = tb_read_data(shape, r, table, table_length, scratch, scratch_length, block, home, home_length, spare, spare_length).refusal; }
 
@@ -172,8 +176,8 @@ static void read_data(void) { refusal = tb_read_data(shape, r, table, table_leng
 #define NO(name) (1u << TB_##name)
 #define NO_LIST (NO(TOO_LONG) | NO(NOT_RISING) | NO(OUTSIDE))
 #define NO_TABLE (NO(OUT_OF_RANGE) | NO(NO_ROOM) | NO(BAD_TABLE))
-#define NO_IMAGE (NO(WRONG_LENGTH) | NO(NO_ADDRESS))
-#define NO_DATA (NO_IMAGE | NO(OTHER_BLOCK) | NO(FORCED_ERROR) | NO(BAD_CODE))
+#define NO_HEADER (NO(WRONG_LENGTH) | NO(NO_ADDRESS) | NO(OTHER_BLOCK))
+#define NO_DATA (NO_HEADER | NO(FORCED_ERROR) | NO(BAD_CODE))
 
 static const struct {
     const char *name;
@@ -200,8 +204,8 @@ static const struct {
     {"tb_spare_replace", spare_replace, NO_TABLE | NO(NO_SUCH_BLOCK) | NO(NO_SPARE)},
     {"tb_spare_census", spare_census, NO_TABLE},
     {"tb_spare_first", spare_first, NO(OUT_OF_RANGE) | NO_LIST | NO(NO_ROOM) | NO(NO_SPARE)},
-    {"tb_image_write", image_write, NO(WRONG_LENGTH) | NO(NO_ROOM)},
-    {"tb_image_header", image_header, NO_IMAGE},
+    {"tb_image_write", image_write, NO(WRONG_LENGTH) | NO(NO_SUCH_BLOCK) | NO(UNKNOWN_CODE) | NO(NO_ROOM)},
+    {"tb_image_header", image_header, NO_HEADER},
     {"tb_image_judge", image_judge, NO_DATA},
     {"tb_read_judge", read_judge, NO_TABLE | NO(NO_SUCH_BLOCK) | NO_DATA},
     {"tb_read_data", read_data, NO_TABLE | NO(NO_SUCH_BLOCK) | NO_DATA},
