@@ -1,10 +1,11 @@
 //! The limits, each at its last accepted number and at the first refused.
 
 use tautberry::{
-    format, page, shape as shapes, skip, skipped, spares, Cursor, Refusal, LIST_MOST, PAGE_MOST,
-    SPARES_MOST, UNITS_MOST,
+    format, image, page, shape as shapes, skip, skipped, spares, Cursor, Refusal, CODE_UNIT,
+    LIST_MOST, PAGE_MOST, SPARES_MOST, UNITS_MOST,
 };
 
+use crate::drawn_images::CODES;
 use crate::drawn_nights::Drawn;
 use crate::drawn_shapes::{grouped, groupings, misgrouped, paper, shape};
 use crate::drawn_tables::descriptor;
@@ -341,6 +342,26 @@ fn every_spare_dies_under_one_block() {
         let one_more = spares::replace(drive_shape, 1, &mut table, &mut scratch, block);
         assert_eq!(one_more, Err(Refusal::NoSpare), "block {block}");
         assert_eq!((&table, scratch), (&expected, [0; 384]), "block {block}");
+    }
+}
+
+/// The last block that a header can say, with each code that it may have, and the first that it cannot.
+#[test]
+fn blocks_of_28_bits() {
+    for code in CODES {
+        for (block, expected) in [(CODE_UNIT - 1, Ok(530)), (CODE_UNIT, Err(5))] {
+            let (mut ours, mut theirs) = ([7; 530], [7; 530]);
+            let library = image::write(block, code, &[0; 512], false, &mut ours);
+            assert_eq!(library.map_err(Refusal::number), expected, "code {code}");
+            let model = model::image::write(block, code, &[0; 512], false, &mut theirs);
+            assert_eq!(model, expected, "code {code}");
+            assert_eq!(ours, theirs, "code {code}");
+            // In a room that was not written 07070707 stands in the header.
+            let judged = expected.map(|_| ()).map_err(|_| 16);
+            let library = image::judge(&ours, block, code).map_err(Refusal::number);
+            assert_eq!(library, judged, "code {code}");
+            assert_eq!(model::image::judge(&ours, block, code), judged, "code {code}");
+        }
     }
 }
 
