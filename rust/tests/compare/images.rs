@@ -9,6 +9,7 @@ use crate::draw::Draw;
 use crate::drawn_images::CODES;
 use crate::model::image::{copy, is_known, said, standing, BLOCKS_MOST};
 use crate::model::{self, spares::word};
+use crate::order::number;
 use crate::tally::Tally;
 
 const SEEDS: u64 = 30_000;
@@ -34,10 +35,10 @@ fn image_write() {
         let library = image::write(block, code, &data, forced, ours.lent());
         let model = model::image::write(block, code, &data, forced, theirs.lent());
         let written = model.unwrap_or(0) as usize;
-        let number = library.map_or_else(Refusal::number, |_| 0);
-        *by_code.entry((code.min(16), number)).or_insert(0) += 1;
-        last += u32::from(block == BLOCKS_MOST - 1 && number == 0);
-        first_beyond += u32::from(block == BLOCKS_MOST && number == 5);
+        let given = number(library);
+        *by_code.entry((code.min(16), given)).or_insert(0) += 1;
+        last += u32::from(block == BLOCKS_MOST - 1 && given == 0);
+        first_beyond += u32::from(block == BLOCKS_MOST && given == 5);
         tally.same(seed, library, model);
         tally.same_room(seed, &before, &ours, &theirs, written);
     }
@@ -85,8 +86,8 @@ pub fn judges_like_the_model(
     for seed in tally.seeds(seeds) {
         let (image, (code, block)) = image_and_expected(seed);
         let answer = judge(&image, block, code);
-        tally.count_header(&image, (code, block), answer.err().unwrap_or(0));
         tally.same_numbers(seed, answer, model::image::judge(&image, block, code));
+        tally.count_header(&image, (code, block), answer.err().unwrap_or(0));
     }
     tally.saw(&[0, 14, 15, 16, 17, 18]);
 }
@@ -113,8 +114,6 @@ fn image_data() {
     for seed in tally.seeds(SEEDS) {
         let (image, (code, block)) = image_and_expected(seed);
         let part = image::data(&image, block, code);
-        let number = part.map_or_else(Refusal::number, |_| 0);
-        tally.count_header(&image, (code, block), number);
         let model = model::image::data(&image, block, code);
         let same_place = match (part, model) {
             (Ok(ours), Ok(theirs)) => ours.as_ptr() == theirs.as_ptr(),
@@ -122,6 +121,7 @@ fn image_data() {
         };
         assert!(same_place, "image::data lies elsewhere at seed {seed}");
         tally.same(seed, part, model);
+        tally.count_header(&image, (code, block), number(part));
     }
     tally.saw(&[0, 14, 15, 16, 17, 18]);
 }

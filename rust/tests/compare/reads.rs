@@ -106,8 +106,8 @@ fn reading_judge() {
         let lent = scratch.library.lent();
         let library = reading::judge(shape, r, table, lent, *block, home, spare);
         let model = model::image::judge_read(read.paper(), scratch.model.lent());
-        read.count_header(&mut tally, number(library));
         tally.same_on_table(seed, read.asked(), &scratch, library, model);
+        read.count_header(&mut tally, number(library));
     }
     tally.saw(&[0, 1, 5, 7, 11, 14, 15, 16, 17, 18]);
 }
@@ -133,8 +133,8 @@ fn reading_spot_and_data() {
         at_home += u32::from(matches!(library, Ok((0, _))));
         on_spare += u32::from(matches!(library, Ok((1, _))));
         let model = model::image::spot(read.paper(), scratch.model.lent());
-        read.count_header(&mut tally, number(library));
         tally.same_on_table(seed, read.asked(), &scratch, library, model);
+        read.count_header(&mut tally, number(library));
 
         let mut scratch = tabled.scratch();
         let lent = scratch.library.lent();
@@ -145,8 +145,8 @@ fn reading_spot_and_data() {
             _ => true,
         };
         assert!(same_place, "reading::data lies elsewhere at seed {seed}");
-        read.count_header(&mut parts, number(library));
         parts.same_on_table(seed, read.asked(), &scratch, library, model);
+        read.count_header(&mut parts, number(library));
     }
     tally.saw(&[0, 1, 5, 7, 11, 14, 15, 16, 17, 18]);
     parts.saw(&[0, 1, 5, 7, 11, 14, 15, 16, 17, 18]);
