@@ -1,6 +1,7 @@
 // The day of a block on a small drive: the gauge log of a vacuum turntable is written, moved to a spare, read back and refused, moved to another spare, and at night a scan changes the map of a drive that skips.
 ghost use Prim.Native.Nat.{_+_, _≤_};
 use format::Formatted;
+use image::AT_HOME;
 use paper::Placed;
 use reading::Spot;
 use shape::Shape;
@@ -72,18 +73,27 @@ fn tell_place(words: &[u8], table: &[u32]) {
     );
 }
 
-// The image of a track, with a reading of the gauge in the sector that starts at a byte.
-fn track_with(reading: &[u8; 13], start: usize) -> [u8; 2_650]
+// The image of a track, with a reading of the gauge in the sector that starts at a byte, and with the code that tells where the gauge log is.
+fn track_with(reading: &[u8; 13], start: usize, code: u32) -> [u8; 2_650]
     requires { ⌜ start + 530 ≤ 2650 ⌝ }
 {
     let mut data = [0u8; 512];
     image::put_bytes(&mut data, 0, reading);
     let mut image = [0u8; 530];
-    image::write(GAUGE, &data, false, &mut image);
+    image::write(GAUGE, code, &data, false, &mut image);
     let mut track = [0u8; 2_650];
     image::put_bytes(&mut track, start, &image);
     telling::text(b"The gauge is written: ");
     telling::line(reading);
+    telling::answers::headed(b"The sector's header says: ", image::header(&image));
+    track
+}
+
+// The image of the spare's track, with the sector from home in it as it is.
+fn track_with_old(home: &[u8; 2_650]) -> [u8; 2_650] {
+    let mut track = [0u8; 2_650];
+    image::put_bytes(&mut track, 2_120, &home[0..530]);
+    telling::line(b"The old sector is copied to the spare as it is.");
     track
 }
 
@@ -142,15 +152,30 @@ fn tell_shift(table: &[u32], block: u32) {
     }
 }
 
-// Sends a block to a spare.
-fn tell_replacement(block: u32, words: &[u8], table: &mut [u32]) {
+// The code of the descriptor at a place of a table; where the table has no such place, that of a block at home.
+fn code_at(table: &[u32], place: u32) -> u32 {
+    let at = place as usize;
+    if at < table.len() {
+        return words::code_of(table[at]);
+    }
+    AT_HOME
+}
+
+// Sends a block to a spare, and hands back the code of its descriptor there; where that is refused, the code of a block at home.
+fn tell_replacement(block: u32, words: &[u8], table: &mut [u32]) -> u32 {
     telling::number(b"Block ", block);
     telling::text(words);
     match spares::replace(drive(), SPARES, table, &mut [0u32; NUMBERS], block) {
-        Replaced::Place(place) => telling::number(b" goes to spare ", place),
-        Replaced::Refused(fault) => telling::number(b" is refused ", fault),
+        Replaced::Place(place) => {
+            telling::number(b" goes to spare ", place);
+            tell_shift(table, block);
+            code_at(table, place)
+        }
+        Replaced::Refused(fault) => {
+            refused(b" is refused ", fault);
+            AT_HOME
+        }
     }
-    tell_shift(table, block);
 }
 
 // Writes the shape of the drive, and where its second head starts.
@@ -171,39 +196,41 @@ fn morning(table: &[u32]) -> [u8; 2_650] {
     telling::line(b"Morning: the pump runs");
     telling::number(b"The gauge log is block ", GAUGE);
     tell_place(b". It", table);
-    let home = track_with(b"vacuum 82 kPa", 0);
+    let home = track_with(b"vacuum 82 kPa", 0, AT_HOME);
     tell_read(table, &home, &home);
     telling::end();
     home
 }
 
-// The track of the gauge log goes bad, and its blocks are replaced.
-fn noon(table: &mut [u32]) {
+// The track of the gauge log goes bad, and its blocks are replaced. The code of the gauge log there is handed back.
+fn noon(table: &mut [u32]) -> u32 {
     telling::line(b"Noon: the track goes bad");
     tell_replacement(7, b", a sound recording,", table);
     tell_replacement(8, b", a sound recording,", table);
-    tell_replacement(GAUGE, b", the gauge log,", table);
+    let code = tell_replacement(GAUGE, b", the gauge log,", table);
     tell_place(b"The gauge log now", table);
     telling::line(
         b"A board that lost the sign sent the arm to the far end and gave out an old block.",
     );
     telling::end();
+    code
 }
 
 // The gauge log on its spare, while its home still holds the morning's reading; then the spare goes bad, and the gauge log moves again.
-fn afternoon(table: &mut [u32], home: &[u8; 2_650]) {
+fn afternoon(table: &mut [u32], home: &[u8; 2_650], code: u32) {
     telling::line(b"Afternoon: the pump slows down");
-    let mut second = track_with(b"vacuum 79 kPa", 2_120);
+    tell_read(table, home, &track_with_old(home));
+    let mut second = track_with(b"vacuum 79 kPa", 2_120, code);
     tell_read(table, home, &second);
-    let old = image::data(comparing::first_bytes(home, 530), GAUGE);
+    let old = image::data(comparing::first_bytes(home, 530), GAUGE, AT_HOME);
     telling::text(b"Its old sector is still good, and still says: ");
     telling::line(comparing::first_bytes(old, READING));
     second[2_136] = second[2_136] ^ 1;
     telling::line(b"The spare goes bad: one bit turns over.");
     tell_read(table, home, &second);
-    tell_replacement(GAUGE, b", the gauge log,", table);
+    let again = tell_replacement(GAUGE, b", the gauge log,", table);
     tell_place(b"The gauge log now", table);
-    let third = track_with(b"vacuum 78 kPa", 1_590);
+    let third = track_with(b"vacuum 78 kPa", 1_590, again);
     tell_read(table, home, &third);
     telling::end();
 }
@@ -265,8 +292,8 @@ fn main() {
     tell_spares(&table);
     telling::end();
     let home = morning(&table);
-    noon(&mut table);
-    afternoon(&mut table, &home);
+    let code = noon(&mut table);
+    afternoon(&mut table, &home, code);
     telling::line(b"Evening: the spares are counted");
     tell_spares(&table);
     telling::end();

@@ -6,6 +6,7 @@ use crate::number;
 use crate::signed;
 use crate::text;
 use format::Formatted;
+use image::AT_HOME;
 use image::Head;
 use image::Verdict;
 use page::Paged;
@@ -19,6 +20,8 @@ use skip::Job;
 use spares::Counted;
 use spares::Replaced;
 use spares::Shifted;
+use words::AT_PRIMARY;
+use words::ELSEWHERE;
 
 // Writes the number of a refusal.
 pub fn refused(fault: u32) {
@@ -42,9 +45,10 @@ pub fn meaning(fault: u32) {
         paper::NO_SPARE => text(b"no spare is free"),
         paper::WRONG_LENGTH => text(b"the length is wrong"),
         paper::NO_ADDRESS => text(b"no three copies of the header agree"),
-        paper::OTHER_BLOCK => text(b"the header names another block"),
+        paper::OTHER_BLOCK => text(b"the header says another block or another code"),
         paper::FORCED_ERROR => text(b"the data was bad when it was written"),
         paper::BAD_CODE => text(b"the code does not fit the data"),
+        paper::UNKNOWN_CODE => text(b"there is no such code"),
         _ => text(b"no refusal"),
     }
 }
@@ -199,11 +203,23 @@ pub fn counted(words: &[u8], answer: Counted) {
     end();
 }
 
-// Writes the number of a header. Only other crates call this.
+// Writes a block, and what the code of a header says of it.
+pub fn coded(words: &[u8], block: u32, code: u32) {
+    text(words);
+    number(b"block ", block);
+    match code {
+        AT_HOME => text(b" at home"),
+        AT_PRIMARY => text(b" replaced at its primary"),
+        ELSEWHERE => text(b" replaced elsewhere"),
+        _ => number(b" with code ", code),
+    }
+}
+
+// Writes the block and the code that a header says. Only other crates call this.
 pub fn headed(words: &[u8], answer: Head) {
     text(words);
     match answer {
-        Head::Number(block) => number(b"block ", block),
+        Head::Of(code, block) => coded(b"", block, code),
         Head::Refused(fault) => refused(fault),
     }
     end();

@@ -1,6 +1,9 @@
-// Reads of a replaced block through two track images of which the home's is out of date, and each of them damaged in turn; and a read with wrong groups.
+// Reads of blocks with each code in the header; reads of a replaced block through two track images of which the home's is out of date, and each of them damaged in turn; and a read with wrong groups.
 ghost use Prim.Native.Nat.{_+_, _≤_};
+use image::AT_HOME;
 use shape::Shape;
+use words::AT_PRIMARY;
+use words::ELSEWHERE;
 
 // The block that is replaced and read.
 const BLOCK: u32 = 6;
@@ -26,8 +29,8 @@ fn try_replace(table: &mut [u32], block: u32) {
     );
 }
 
-// The paper's table: blocks 7, 8 and 6 are replaced.
-fn paper_table() -> [u32; 128] {
+// A table in which blocks 7 and 8 are replaced.
+fn table_of_two() -> [u32; 128] {
     let mut table = [0u32; 128];
     telling::answers::written(
         b"first table: ",
@@ -35,10 +38,17 @@ fn paper_table() -> [u32; 128] {
     );
     try_replace(&mut table, 7);
     try_replace(&mut table, 8);
-    try_replace(&mut table, BLOCK);
-    telling::descriptor(b"descriptors 3, 4 and 5: ", table[3]);
-    telling::descriptor(b" ", table[4]);
+    telling::descriptor(b"descriptors 4 and 5: ", table[4]);
     telling::descriptor(b" ", table[5]);
+    telling::end();
+    table
+}
+
+// The paper's table: block 6 is replaced after blocks 7 and 8.
+fn paper_table(two: [u32; 128]) -> [u32; 128] {
+    let mut table = two;
+    try_replace(&mut table, BLOCK);
+    telling::descriptor(b"descriptor 3: ", table[3]);
     telling::end();
     telling::answers::shifted(
         b"block 6: ",
@@ -47,14 +57,14 @@ fn paper_table() -> [u32; 128] {
     table
 }
 
-// The image of a track of five sectors, one of which holds the image of a block whose data begins with a byte and is zero after it.
-fn track_with(start: usize, block: u32, byte: u8, forced: bool) -> [u8; 2_650]
+// The image of a track of five sectors, one of which holds the image of a block with a code whose data begins with a byte and is zero after it.
+fn track_with(start: usize, block: u32, code: u32, byte: u8, forced: bool) -> [u8; 2_650]
     requires { ⌜ start + 530 ≤ 2650 ⌝ }
 {
     let mut data = [0u8; 512];
     data[0] = byte;
     let mut image = [0u8; 530];
-    image::write(block, &data, forced, &mut image);
+    image::write(block, code, &data, forced, &mut image);
     let mut track = [0u8; 2_650];
     image::put_bytes(&mut track, start, &image);
     track
@@ -62,12 +72,17 @@ fn track_with(start: usize, block: u32, byte: u8, forced: bool) -> [u8; 2_650]
 
 // The home track of the block, whose first sector holds old data.
 fn home_track(block: u32) -> [u8; 2_650] {
-    track_with(0, block, 82, false)
+    track_with(0, block, AT_HOME, 82, false)
 }
 
-// The track of the spare, whose last sector holds new data.
+// The track of the spare, whose last sector holds new data with the code of descriptor 3.
 fn spare_track(block: u32, forced: bool) -> [u8; 2_650] {
-    track_with(2_120, block, 79, forced)
+    track_with(2_120, block, ELSEWHERE, 79, forced)
+}
+
+// The track of the spare, whose last sector holds the image of the home's as it is.
+fn moved_track() -> [u8; 2_650] {
+    track_with(2_120, BLOCK, AT_HOME, 82, false)
 }
 
 // Reads a block of a drive from two track images: the verdict, where its data begins, and how the data begins.
@@ -92,6 +107,43 @@ fn try_read<'a>(table: &[u32], block: u32, home: &'a [u8], spare: &'a [u8]) {
     try_read_on(drive(), table, block, home, spare);
 }
 
+// Reads a block whose spare's sector starts at a byte of its track and holds the block with a code.
+fn try_on_spare(table: &[u32], block: u32, start: usize, code: u32)
+    requires { ⌜ start + 530 ≤ 2650 ⌝ }
+{
+    telling::answers::coded(b"the spare's header says ", block, code);
+    telling::end();
+    try_read(
+        table,
+        block,
+        &[0u8; 2_650],
+        &track_with(start, block, code, 79, false),
+    );
+}
+
+// Reads block 6, whose home's sector holds it with a code.
+fn try_on_home(table: &[u32], code: u32) {
+    telling::answers::coded(b"the home's header says ", BLOCK, code);
+    telling::end();
+    try_read(
+        table,
+        BLOCK,
+        &track_with(0, BLOCK, code, 82, false),
+        &[0u8; 2_650],
+    );
+}
+
+// The header must say what the table says: block 7 is at its primary, block 8 elsewhere, and block 6 at home.
+fn try_codes(table: &[u32]) {
+    try_on_spare(table, 7, 1_590, AT_PRIMARY);
+    try_on_spare(table, 7, 1_590, ELSEWHERE);
+    try_on_spare(table, 7, 1_590, AT_HOME);
+    try_on_spare(table, 8, 2_120, ELSEWHERE);
+    try_on_spare(table, 8, 2_120, AT_PRIMARY);
+    try_on_home(table, AT_HOME);
+    try_on_home(table, AT_PRIMARY);
+}
+
 // The spare is read whatever the home holds.
 fn try_home(table: &[u32]) {
     let mut home = home_track(BLOCK);
@@ -100,14 +152,14 @@ fn try_home(table: &[u32]) {
     try_read(table, BLOCK, &home, &spare);
     telling::answers::judged(
         b"  the home's sector by itself: ",
-        image::judge(comparing::first_bytes(&home, 530), BLOCK),
+        image::judge(comparing::first_bytes(&home, 530), BLOCK, AT_HOME),
     );
     home[16] = home[16] ^ 1;
     telling::line(b"a bit of the home's data turned");
     try_read(table, BLOCK, &home, &spare);
     telling::answers::judged(
         b"  the home's sector by itself: ",
-        image::judge(comparing::first_bytes(&home, 530), BLOCK),
+        image::judge(comparing::first_bytes(&home, 530), BLOCK, AT_HOME),
     );
 }
 
@@ -126,6 +178,8 @@ fn try_spare(table: &[u32]) {
     try_read(table, BLOCK, &home, &spare_track(7, false));
     telling::line(b"the spare was written as forced");
     try_read(table, BLOCK, &home, &spare_track(BLOCK, true));
+    telling::line(b"the home's image moved to the spare as it is");
+    try_read(table, BLOCK, &home, &moved_track());
 }
 
 // A track image that is a byte too short is refused before any sector is looked into.
@@ -172,7 +226,9 @@ fn try_groups<'a>(table: &[u32], home: &'a [u8], spare: &'a [u8]) {
 }
 
 fn main() {
-    let table = paper_table();
+    let two = table_of_two();
+    try_codes(&two);
+    let table = paper_table(two);
     try_home(&table);
     try_spare(&table);
     try_short(&table, &home_track(BLOCK), &spare_track(BLOCK, false));
