@@ -91,8 +91,9 @@ fn track_with(reading: &[u8; 13], start: usize, code: u32) -> [u8; 2_650]
 
 // The image of the spare's track, with the sector from home in it as it is.
 fn track_with_old(home: &[u8; 2_650]) -> [u8; 2_650] {
+    let whole = &home[..];
     let mut track = [0u8; 2_650];
-    image::put_bytes(&mut track, 2_120, &home[0..530]);
+    image::put_bytes(&mut track, 2_120, &whole[0..530]);
     telling::line(b"The old sector is copied to the spare as it is.");
     track
 }

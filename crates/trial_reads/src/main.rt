@@ -80,11 +80,6 @@ fn spare_track(block: u32, forced: bool) -> [u8; 2_650] {
     track_with(2_120, block, ELSEWHERE, 79, forced)
 }
 
-// The track of the spare, whose last sector holds the image of the home's as it is.
-fn moved_track() -> [u8; 2_650] {
-    track_with(2_120, BLOCK, AT_HOME, 82, false)
-}
-
 // Reads a block of a drive from two track images: the verdict, where its data begins, and how the data begins.
 fn try_read_on<'a>(shape: Shape, table: &[u32], block: u32, home: &'a [u8], spare: &'a [u8]) {
     let mut scratch = [1u32; 8];
@@ -178,8 +173,17 @@ fn try_spare(table: &[u32]) {
     try_read(table, BLOCK, &home, &spare_track(7, false));
     telling::line(b"the spare was written as forced");
     try_read(table, BLOCK, &home, &spare_track(BLOCK, true));
+}
+
+// The image of the home's sector is refused on the spare, since its code is that of a block at home.
+fn try_moved(table: &[u32]) {
     telling::line(b"the home's image moved to the spare as it is");
-    try_read(table, BLOCK, &home, &moved_track());
+    try_read(
+        table,
+        BLOCK,
+        &home_track(BLOCK),
+        &track_with(2_120, BLOCK, AT_HOME, 82, false),
+    );
 }
 
 // A track image that is a byte too short is refused before any sector is looked into.
@@ -231,6 +235,7 @@ fn main() {
     let table = paper_table(two);
     try_home(&table);
     try_spare(&table);
+    try_moved(&table);
     try_short(&table, &home_track(BLOCK), &spare_track(BLOCK, false));
     try_at_home(&table);
     try_groups(&table, &home_track(BLOCK), &spare_track(BLOCK, false));
