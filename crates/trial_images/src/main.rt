@@ -1,4 +1,4 @@
-// The image of a sector with each of its parts damaged, with each code, images of other lengths, and writes that are refused.
+// The image of a sector with each of its parts damaged, images of other lengths, images with each of the three codes and with others, and writes that are refused.
 ghost use Prim.Native.Nat.{_<_};
 use image::AT_HOME;
 use words::AT_PRIMARY;
@@ -7,7 +7,7 @@ use words::ELSEWHERE;
 // The block whose image is damaged.
 const BLOCK: u32 = 6;
 
-// The block that is written with each code.
+// The block of the trials on codes.
 const CODED: u32 = 7;
 
 // The first block that no header can carry.
@@ -119,7 +119,7 @@ fn try_zeros(block: u32, code: u32) {
         image::write(block, code, &[0u8; 512], false, &mut image),
     );
     telling::bytes(b"  header bytes:", comparing::first_bytes(&image, 16));
-    telling::bytes(b"  code bytes:", &[image[528], image[529]]);
+    telling::bytes(b"  code of the data:", &[image[528], image[529]]);
     try_coded(&image, block, code);
 }
 
@@ -160,7 +160,7 @@ fn try_headers() {
     try_header(0xFFFF_FFFF, 0xFFFF_FFFF, 0xFFFF_FFFF, TOO_LARGE - 1, 15);
 }
 
-// The image of a block at its primary is that of no other code. With code 1 a block that is 2^28 more has the same sum, and it is refused too.
+// The image of a block at its primary is that of no other code. Code 1 and a block that is 2²⁸ larger add up to the same number, and are refused too.
 fn try_pairs() {
     let image = image_with(0x2000_0007, 0x2000_0007, 0x2000_0007);
     telling::line(b"copies 20000007 20000007 20000007 20000007");
@@ -190,7 +190,7 @@ fn try_writes() {
 }
 
 // The data's length goes before the block, the block before the code, and the code before the room.
-fn try_pair_writes() {
+fn try_coded_writes() {
     try_write(TOO_LARGE, FOURTH, &[0u8; 511], &mut [170u8; 530]);
     try_write(TOO_LARGE, FOURTH, &[0u8; 512], &mut [170u8; 530]);
     try_write(CODED, FOURTH, &[0u8; 512], &mut [170u8; 529]);
@@ -210,5 +210,5 @@ fn main() {
     try_headers();
     try_pairs();
     try_writes();
-    try_pair_writes();
+    try_coded_writes();
 }
