@@ -6,7 +6,7 @@ use mathlib.Core.Logic.{_⊎_}
 use lib.Dec.{eqb, ltb}
 use Rattle.words.specs.Coded.{codeUnit, codeOf, numberOf, atPrimary, elsewhere}
 
--- the block is at home
+-- the code of a block that is at home
 abbrev pub atHome : ℕ
 atHome = 0
 
