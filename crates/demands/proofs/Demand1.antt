@@ -7,7 +7,6 @@ use mathlib.Core.Bool.{Bool}
 use mathlib.Core.List.{List}
 use lib.ListN.{length}
 use denote.Ref.{RefT}
-use Rattle.paper.specs.Limits.{dataSize}
 use Rattle.paper.specs.Answers.{saidWritten}
 use Rattle.paper.specs.declared.Placed.{Placed}
 use Rattle.paper.specs.declared.Named.{Named}

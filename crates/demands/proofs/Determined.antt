@@ -5,7 +5,6 @@ use mathlib.Core.Path.{_≡_, sym, _∙_}
 use mathlib.Core.Bool.{Bool}
 use mathlib.Core.List.{List}
 use denote.Ref.{RefT}
-use Rattle.paper.specs.Limits.{dataSize}
 use Rattle.paper.specs.Promise.{Gives, Fills}
 use Rattle.paper.proofs.Kept.{gives-one, fills-one}
 use Rattle.shape.specs.declared.Shape.{Shape}

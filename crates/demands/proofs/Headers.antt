@@ -1,33 +1,30 @@
 -- What Q-4 asks of headers holds: the header that a read expects is the word of the block and of the code that the table says, and an image with it is judged as it was written, with any other refused 16.
 -- Assumes nothing.
-use Prim.Native.Nat.{ℕ, _+_, _^_, _<_}
+use Prim.Native.Nat.{ℕ, _+_, _<_}
 use mathlib.Core.Path.{_≡_, refl, sym, _∙_, ap}
-use mathlib.Core.Bool.{Bool, true, false}
+use mathlib.Core.Bool.{Bool}
 use mathlib.Core.Logic.{_⊎_, ⊎-elim}
-use mathlib.Core.List.{List, [], _++_}
+use mathlib.Core.List.{List, _++_}
 use native.Mathlib.Omega.{arith}
-use lib.ListN.{length, getD, take, replicate}
-use denote.Ref.{RefT}
-use Rattle.paper.specs.Checks.{answer}
+use lib.ListN.{length, take, replicate}
 use Rattle.paper.specs.Conditions.{NotBelow}
 use Rattle.paper.specs.Limits.{imageExtra}
-use Rattle.paper.specs.Refusals.{otherBlock, forcedError}
+use Rattle.paper.specs.Refusals.{otherBlock}
 use Rattle.paper.specs.declared.Written.the-variants.{Length}
 use Rattle.paper.proofs.Cases.{byBool}
 use Rattle.paper.proofs.Kept.{gives-number}
-use Rattle.paper.proofs.Rows.{tells-false}
 use Rattle.words.specs.Coded.{codeUnit, wordOf, codeOf}
-use Rattle.words.specs.Words.{bytes16, bytesOf, Bytes}
+use Rattle.words.specs.Words.{bytes16, bytesOf}
 use Rattle.words.proofs.Coded.{code-of-word}
 use Rattle.shape.specs.declared.Shape.{Shape}
 use Rattle.layout.specs.Layouts.{driveOf}
-use Rattle.table.specs.Lookup.{Replaced, isReplaced}
+use Rattle.table.specs.Lookup.{isReplaced}
 use Rattle.table.specs.Rules.{Sound, blockFault}
 use Rattle.table.specs.Scratch.{Enough}
 use Rattle.table.proofs.Exact.{sound-obeys, block-sound, block-below}
 use Rattle.table.proofs.Lookups.{tells-replaced, replaced-place}
 use Rattle.image.specs.declared.Verdict.{Verdict}
-use Rattle.image.specs.declared.Verdict.the-variants.{Good, Refused as NotGood}
+use Rattle.image.specs.declared.Verdict.the-variants.{Refused as NotGood}
 use Rattle.image.specs.Code.{carried}
 use Rattle.image.specs.Header.{atHome, Known}
 use Rattle.image.specs.Image.{copiesMade, Stands, imageOf}
@@ -35,10 +32,9 @@ use Rattle.image.specs.Judged.{ContentsJudged}
 use Rattle.image.specs.Promises.{WriteSized, JudgeSized}
 use Rattle.image.proofs.Headers.{word-fits, says-below}
 use Rattle.image.proofs.Exact.{image-pair, pair-exactly}
-use Rattle.reading.specs.Tracks.{sectorIn, codeFor, headerFor, imageAt, imageFor, trackOf, bytesIn}
-use Rattle.reading.specs.Faults.{lentFault, blockReadFault}
-use Rattle.reading.specs.Promises as Reading
-use Rattle.reading.proofs.Exact.{Lent, block-few, lent-passes}
+use Rattle.reading.specs.Tracks.{sectorIn, headerFor, imageAt, trackOf, bytesIn}
+use Rattle.reading.specs.Faults.{lentFault}
+use Rattle.reading.proofs.Exact.{block-few, lent-passes}
 use Rattle.reading.proofs.Tracks.{seated, header-home, header-spare}
 use Rattle.reading.proofs.Written.{good-read, forced-read, other-read, good-part, forced-part, other-part}
 use Rattle.demands.specs.Headers.{Expected, own, descriptor, Holding, Headers}

@@ -45,7 +45,7 @@ use Rattle.image.specs.Promises.{Lends, WriteSized}
 use Rattle.image.proofs.Exact.{write-shows}
 use Rattle.image.proofs.Lent.{partAt, part-some}
 use Rattle.image.proofs.ThereAndBack.{room-image}
-use Rattle.reading.specs.Tracks.{bytesIn, dataStart, headerFor, imageAt, imageFor, on-spare, sectorIn, trackOf}
+use Rattle.reading.specs.Tracks.{dataStart, headerFor, imageAt, imageFor, on-spare, sectorIn, trackOf}
 use Rattle.reading.specs.Faults.{lentFault, blockReadFault}
 use Rattle.reading.specs.Promises.{DataSized, JudgeSized}
 use Rattle.reading.proofs.Alike.{home-unread, verdict-alike, part-alike}
@@ -56,7 +56,7 @@ use Rattle.reading.proofs.Written.{good-read, other-read, good-part, other-part
 use Rattle.demands.proofs.ByKind.{spot-says}
 use Rattle.demands.specs.Relations.{AllowsOnly}
 use Rattle.demands.specs.Inputs.{small, afterEight}
-use Rattle.demands.specs.Incident.{spareStart, spareData, imageFrom, WholeTrack, SamePart, HandsBack, Refuses, Safe}
+use Rattle.demands.specs.Incident.{spareStart, spareData, imageFrom, WholeTrack, SamePart, HandsBack, Safe}
 use Rattle.demands.proofs.Demand2Revectored.{taken-below, taken-after, replacement-moves}
 use Rattle.demands.proofs.Examples.{allows, allows-where}
 

@@ -222,24 +222,6 @@ pub record Writable (size block code : ℕ) (bytes room : List ℕ) : Type 0 whe
   pub fits : size + imageExtra ≤ length room
 
 module _ (size block code : ℕ) (bytes room : List ℕ) where
-  pub write-shows : writeFault size block code bytes room ≡ 0 → Writable size block code bytes room
-  unfolding writeFault
-  write-shows none =
-      let first = orElse-next (lengthFault size bytes) _ none in
-      let second = orElse-next (refuse (leb codeUnit block) noSuchBlock) _ first in
-      record {
-        long = length-shows size bytes (orElse-first _ _ none);
-        below = below-shows codeUnit block noSuchBlock (omega arith) (orElse-first _ _ first);
-        known = passed-shows (tells-known code) unknownCode (omega arith) (orElse-first _ _ second);
-        fits = room-shows (orElse-next (refuse (not (isKnown code)) unknownCode) _ second);
-      }
-    where
-      room-shows : refuse (ltb (length room) (size + imageExtra)) noRoom ≡ 0 → size + imageExtra ≤ length room
-      room-shows passed =
-          byLt (length room) (size + imageExtra)
-          (λ short. let given : noRoom ≡ 0 = rw (lt-ltb _ _ short) at passed in absurd (omega arith))
-          (λ enough. enough)
-
   pub write-exactly : Exactly (WriteJudged size block code bytes room) (writeFault size block code bytes room)
   unfolding writeFault
   write-exactly =
@@ -251,6 +233,18 @@ module _ (size block code : ℕ) (bytes room : List ℕ) where
       (rows (When unknownCode (Known code → ⊥)) (When noRoom (NoRoom (size + imageExtra) room))
       (row (tells-not (tells-known code)) unknownCode)
       (row (tells-lt (length room) (size + imageExtra)) noRoom)))
+
+  pub write-shows : writeFault size block code bytes room ≡ 0 → Writable size block code bytes room
+  unfolding writeFault
+  write-shows none =
+      let first = orElse-next (lengthFault size bytes) _ none in
+      let second = orElse-next (refuse (leb codeUnit block) noSuchBlock) _ first in
+      record {
+        long = length-shows size bytes (orElse-first _ _ none);
+        below = below-shows codeUnit block noSuchBlock (omega arith) (orElse-first _ _ first);
+        known = passed-shows (tells-known code) unknownCode (omega arith) (orElse-first _ _ second);
+        fits = not-over (length room) (size + imageExtra) noRoom (omega arith) (orElse-next (refuse (not (isKnown code)) unknownCode) _ second);
+      }
 
   pub write-passes : Writable size block code bytes room → writeFault size block code bytes room ≡ 0
   write-passes may =

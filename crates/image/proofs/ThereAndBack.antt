@@ -19,8 +19,8 @@ use Rattle.image.specs.declared.Head.{Head}
 use Rattle.image.specs.declared.Head.the-variants.{Of, Refused as NoHead}
 use Rattle.image.specs.declared.Verdict.{Verdict}
 use Rattle.image.specs.declared.Verdict.the-variants.{Good, Refused as NotGood}
-use Rattle.image.specs.Header.{Known, Says}
-use Rattle.image.specs.Image.{Stands, headerOf, dataOf, imageOf, contentsFault, headerFault, imageFault, writeFault}
+use Rattle.image.specs.Header.{Known}
+use Rattle.image.specs.Image.{headerOf, dataOf, imageOf, contentsFault, headerFault, imageFault, writeFault}
 use Rattle.image.specs.Judged.{HeadSays, ContentsJudged}
 use Rattle.image.specs.Promises.{HeaderSized, DataSized}
 use Rattle.image.proofs.Copies.{stands-header}

@@ -5,7 +5,6 @@ ghost use lib.ListN.{length, replicate};
 ghost use lib.Seq.{sets};
 ghost use Rattle.paper.specs.Promise.{written};
 ghost use Rattle.paper.specs.Limits.{headerSize, imageExtra};
-ghost use Rattle.words.specs.Coded.{codeOf};
 ghost use Rattle.words.specs.Words.{bytesOf};
 ghost use Rattle.seek.specs.Count.{times};
 ghost use Rattle.image.specs.Code.{codeAfter, dataCode, carried};

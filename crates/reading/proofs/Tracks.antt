@@ -14,9 +14,9 @@ use borrow.Author.Tests.{lt-ltb}
 use Rattle.paper.specs.Limits.{headerSize, imageExtra}
 use Rattle.paper.proofs.Cases.{byBool}
 use Rattle.paper.proofs.Rows.{tells-lt, tells-false}
-use Rattle.words.specs.Coded.{codeUnit, codeOf}
+use Rattle.words.specs.Coded.{codeUnit}
 use Rattle.words.proofs.Coded.{word-of-parts}
-use Rattle.image.specs.Header.{atHome, Known, Says}
+use Rattle.image.specs.Header.{Known, Says}
 use Rattle.image.specs.Image.{dataOf}
 use Rattle.image.proofs.Headers.{word-says}
 use Rattle.layout.specs.declared.Drive.{Drive}

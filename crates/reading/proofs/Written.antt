@@ -1,11 +1,11 @@
 -- A read of a block whose sector holds a written image of it, with the header that the table says, answers as it was written, whatever stands elsewhere in either track, a stale image at home included; with any other header it is refused 16.
 -- Assumes nothing.
-use Prim.Native.Nat.{ℕ, _+_, _%_, _^_, _<_, _≤_}
+use Prim.Native.Nat.{ℕ, _+_, _^_, _<_, _≤_}
 use mathlib.Core.Path.{_≡_, sym, _∙_}
 use mathlib.Core.Bool.{Bool, true, false}
 use mathlib.Core.List.{List, []}
 use native.Mathlib.Omega.{arith}
-use lib.ListN.{length, getD}
+use lib.ListN.{length}
 use lib.Seq.{sets}
 use denote.Ref.{RefT}
 use Rattle.paper.specs.Limits.{imageExtra}

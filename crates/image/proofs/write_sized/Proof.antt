@@ -1,7 +1,7 @@
 -- `image::write_sized` meets its contract: the fault is that of the definition; without fault the code is one of the three, the block is below 2²⁸, and data and room have the lengths that the writer needs.
 -- Assumes nothing.
 use borrow.Author.Needs.{needs}
-use mathlib.Core.Path.{_≡_, sym, _∙_, refl}
+use mathlib.Core.Path.{sym, _∙_, refl}
 use native.Mathlib.Omega.{arith}
 use Rattle.paper.proofs.Chain.{answer-refused}
 use Rattle.paper.proofs.Kept.{fills}
