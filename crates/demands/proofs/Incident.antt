@@ -1,4 +1,4 @@
--- A read of a replaced block moves the right way and hands back the spare's bytes: in a table that passes one place alone names the block, and the shift and the read both go by that place.
+-- A read of a replaced block moves the right way and hands back the spare's bytes: in a table that passes one place alone names the block, and the shift and the read both go by that place. The header that is expected there is the descriptor, which no image that was made for the home carries.
 -- Assumes nothing.
 use Rattle.paper.proofs.Kept.{gives-number, fills-gives}
 use Prim.Native.Nat.{ℕ, zero, suc, _+_, _-_, _%_, _^_, _<_}
