@@ -1,6 +1,6 @@
-/* The day of a bad block on a small revectored drive: a first table, three replacements, an image written on the spare, the block read back
- * from two track images, and the block replaced again when its spare goes bad too. It prints what it sees, and returns 1 if anything is not as
- * it must be. */
+/* The day of a bad block on a small revectored drive: a first table, three replacements, the old image moved to the spare and refused, the
+ * block written there with its code and read back from two track images, and the block replaced again when its spare goes bad too. It prints
+ * what it sees, and returns 1 if anything is not as it must be. */
 #include <inttypes.h>
 #include <stdio.h>
 #include <string.h>

@@ -56,8 +56,8 @@ pub fn header(image: &[u8]) -> Result<Head, Refusal> {
 }
 
 /// Accepts a good image of `block` with `code`. No header says an unknown code, nor a block of
-/// [`CODE_UNIT`](crate::CODE_UNIT) or more: where one is expected, every header is
-/// [`OtherBlock`](Refusal::OtherBlock).
+/// [`CODE_UNIT`](crate::CODE_UNIT) or more: where one is expected, every number that stands in the header
+/// is refused [`OtherBlock`](Refusal::OtherBlock).
 ///
 /// Checks: [`WrongLength`](Refusal::WrongLength) where `image` is not 530 bytes;
 /// [`NoAddress`](Refusal::NoAddress); [`OtherBlock`](Refusal::OtherBlock), also for another code;

@@ -255,7 +255,7 @@ read-told :
 read-told shape r table block number refusal every home spare bytes are-bytes held scratch enough =
     allows-where (λ k. refl) (every home spare bytes scratch are-bytes held enough)
 
--- with the number that is expected, or with another of the three codes
+-- with the number that is expected, or with another code
 read-good : (shape : Shape) (r : ℕ) (table : List ℕ) (block number : ℕ) → Expected table block number → Holds (read-judge shape r table block number 0)
 read-good shape r table block number expected =
     read-told shape r table block number 0
@@ -263,12 +263,12 @@ read-good shape r table block number expected =
     ap saidVerdict (headers .expected-good dataSize shape r table judged block home spare number bytes expected are-bytes held enough verdict given))
 
 read-other :
-    (shape : Shape) (r : ℕ) (table : List ℕ) (block number code : ℕ) → Expected table block number → Known code → (codeOf number ≡ code → ⊥) →
+    (shape : Shape) (r : ℕ) (table : List ℕ) (block number code : ℕ) → Expected table block number → code < 16 → (codeOf number ≡ code → ⊥) →
     Holds (read-judge shape r table block (wordOf code block) otherBlock)
-read-other shape r table block number code expected known other =
+read-other shape r table block number code expected few other =
     read-told shape r table block (wordOf code block) otherBlock
     (λ home spare bytes judged are-bytes held enough verdict given.
-    ap saidVerdict (headers .other-code dataSize shape r table judged block home spare number code bytes false expected known other held enough verdict given))
+    ap saidVerdict (headers .other-code dataSize shape r table judged block home spare number code bytes false expected few other held enough verdict given))
 
 -- of the small drive: blocks 7 and 8 lie on places 4 and 5, and block 6 at home
 seven-expected : Expected afterEight 7 0x20000007
@@ -379,10 +379,10 @@ numbers-to-try =
     also judge-told (replicate 4 0x20000007) 268435463 1 0x20000007 refl (λ rest. omega arith) (λ says. omega (arith, says .code-is))
     also judge-told (replicate 4 0x10000007) 7 1 0x10000007 refl (λ rest. omega arith) (λ says. not-known-one (says .known))
     also read-good small 2 afterEight 7 0x20000007 seven-expected
-    also read-other small 2 afterEight 7 0x20000007 3 seven-expected (inr (inr refl)) (λ same. omega arith)
-    also read-other small 2 afterEight 7 0x20000007 0 seven-expected (inl refl) (λ same. omega arith)
+    also read-other small 2 afterEight 7 0x20000007 3 seven-expected (omega arith) (λ same. omega arith)
+    also read-other small 2 afterEight 7 0x20000007 0 seven-expected (omega arith) (λ same. omega arith)
     also read-good small 2 afterEight 8 0x30000008 eight-expected
-    also read-other small 2 afterEight 8 0x30000008 2 eight-expected (inr (inl refl)) (λ same. omega arith)
+    also read-other small 2 afterEight 8 0x30000008 2 eight-expected (omega arith) (λ same. omega arith)
     also read-good small 2 afterEight 6 6 six-expected
-    also read-other small 2 afterEight 6 6 2 six-expected (inr (inl refl)) (λ same. omega arith)
+    also read-other small 2 afterEight 6 6 2 six-expected (omega arith) (λ same. omega arith)
     also done

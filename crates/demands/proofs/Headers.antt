@@ -15,7 +15,7 @@ use Rattle.paper.proofs.Cases.{byBool}
 use Rattle.paper.proofs.Kept.{gives-number}
 use Rattle.words.specs.Coded.{codeUnit, wordOf, codeOf}
 use Rattle.words.specs.Words.{bytes16, bytesOf}
-use Rattle.words.proofs.Coded.{code-of-word}
+use Rattle.words.proofs.Coded.{code-of-word, word-fits}
 use Rattle.shape.specs.declared.Shape.{Shape}
 use Rattle.layout.specs.Layouts.{driveOf}
 use Rattle.table.specs.Lookup.{isReplaced}
@@ -28,9 +28,9 @@ use Rattle.image.specs.declared.Verdict.the-variants.{Refused as NotGood}
 use Rattle.image.specs.Code.{carried}
 use Rattle.image.specs.Header.{atHome, Known}
 use Rattle.image.specs.Image.{copiesMade, Stands, imageOf}
-use Rattle.image.specs.Judged.{ContentsJudged}
+use Rattle.image.specs.Judged.{ContentsJudged, FourthCode}
 use Rattle.image.specs.Promises.{WriteSized, JudgeSized}
-use Rattle.image.proofs.Headers.{word-fits, says-below}
+use Rattle.image.proofs.Headers.{says-below}
 use Rattle.image.proofs.Exact.{image-pair, pair-exactly}
 use Rattle.reading.specs.Tracks.{sectorIn, headerFor, imageAt, trackOf, bytesIn}
 use Rattle.reading.specs.Faults.{lentFault}
@@ -62,6 +62,17 @@ never-met size image block code unsaid m stands long verdict judged =
     (image-pair image size block code long
     ∙ pair-exactly image size block code .only otherBlock
     (ContentsJudged.other-block m stands (λ says. ⊎-elim (λ fourth. fourth (says .known)) (λ over. omega (arith, says-below says)) unsaid)))
+
+-- a fourth code in the header
+fourth-refused :
+    (size : ℕ) (image : List ℕ) (block code : ℕ) → FourthCode image → length image ≡ size + imageExtra →
+    (verdict : Verdict) → JudgeSized size image block code verdict → verdict ≡ NotGood otherBlock
+fourth-refused size image block code other long verdict judged =
+    judged .answers
+    ∙ rw
+    (image-pair image size block code long
+    ∙ pair-exactly image size block code .only otherBlock
+    (ContentsJudged.other-block (other .number) (other .stands) (λ says. other .fourth (rw (says .code-is) (says .known)))))
 
 module _ {size : ℕ} {shape : Shape} {r : ℕ} {t : List ℕ} {b : ℕ} {home spare : List ℕ} {number : ℕ} {bytes : List ℕ} {forced : Bool} (held : Holding size shape r t b home spare number bytes forced) where
   asked-passes : blockFault shape r t (held .asked) b ≡ 0
@@ -100,6 +111,7 @@ headers =
     record {
       home-plain = home-plain;
       never-met = never-met;
+      fourth-refused = fourth-refused;
       expected-good = λ size shape r t judged b home spare number bytes expected are-bytes held enough verdict promise.
           promise .answers
           ∙ rw
@@ -116,14 +128,14 @@ headers =
       forced-gives-none = λ size shape r t read b home spare number bytes expected are-bytes held enough part promise.
           forced-part size shape r t read b bytes (held .long) are-bytes home spare part promise (passes held read enough) (seated (driveOf shape r) t b (home .now) (spare .now))
           (on-sector held ∙ rw (expected-is (is-sound held) expected));
-      other-code = λ size shape r t judged b home spare number code bytes forced expected known other held enough verdict promise.
+      other-code = λ size shape r t judged b home spare number code bytes forced expected few other held enough verdict promise.
           promise .answers
           ∙ rw
           (other-read size shape r t judged b bytes (wordOf code b) forced
-          (word-fits known (block-few (is-sound held) (is-below held))) (coded-other (is-sound held) (is-below held) expected other)
+          (word-fits few (block-few (is-sound held) (is-below held))) (coded-other (is-sound held) (is-below held) expected other)
           (passes held judged enough) (seated (driveOf shape r) t b home spare) (on-sector held));
-      other-gives-none = λ size shape r t read b home spare number code bytes forced expected known other held enough part promise.
+      other-gives-none = λ size shape r t read b home spare number code bytes forced expected few other held enough part promise.
           other-part size shape r t read b bytes (wordOf code b) forced
-          (word-fits known (block-few (is-sound held) (is-below held))) (coded-other (is-sound held) (is-below held) expected other)
+          (word-fits few (block-few (is-sound held) (is-below held))) (coded-other (is-sound held) (is-below held) expected other)
           home spare part promise (passes held read enough) (seated (driveOf shape r) t b (home .now) (spare .now)) (on-sector held);
     }

@@ -111,7 +111,7 @@ each-again =
           λ size block code bytes forced image left other-block other-code other part promise.
           let w = was-writable left in
           other-gives size block code bytes (w .long) (w .below) (w .known) forced other-block other-code other image part (image-is left) promise;
-      changed-bit-changes-code = λ bytes are-bytes long k bit low inside. one-bit 256 bytes are-bytes long k bit low (rw long inside);
+      changed-bit-changes-code = λ words bytes are-bytes long k bit low inside. one-bit words bytes are-bytes long k bit low (rw long inside);
       changed-data-not-good =
           λ size words even image block code k byte are-bytes inside low apart good again.
           changed-byte size image k byte inside block code words even are-bytes low apart (good-passes size _ _ _ good) (good-passes size _ _ _ again);

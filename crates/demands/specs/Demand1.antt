@@ -9,7 +9,7 @@ use lib.Bits.{bitXor}
 use lib.ListN.{length, getD, set, take}
 use denote.Ref.{RefT}
 use Rattle.paper.specs.Answers.{saidWritten}
-use Rattle.paper.specs.Limits.{dataSize, headerSize, imageExtra}
+use Rattle.paper.specs.Limits.{headerSize, imageExtra}
 use Rattle.paper.specs.Promise.{written}
 use Rattle.paper.specs.Refusals.{otherBlock, forcedError}
 use Rattle.paper.specs.declared.Placed.{Placed}
@@ -291,9 +291,9 @@ pub record EachAgain : Type 0 where
       (size block code : ℕ) (bytes : List ℕ) (forced : Bool) (image : RefT (List ℕ)) → WrittenImage size block code bytes forced (image .now) →
       (other-block other-code : ℕ) → ((other-block ≡ block) × (other-code ≡ code) → ⊥) →
       (part : RefT (List ℕ)) → Image.DataSized size image other-block other-code part → part .now ≡ []
-  -- one changed bit of data changes its code
+  -- one changed bit of data, of any number of words, changes its code
   pub changed-bit-changes-code :
-      (bytes : List ℕ) → Bytes bytes → length bytes ≡ dataSize → (k bit : ℕ) → bit < 8 → k < dataSize →
+      (words : ℕ) (bytes : List ℕ) → Bytes bytes → length bytes ≡ 2 * words → (k bit : ℕ) → bit < 8 → k < 2 * words →
       dataCode (set bytes k (bitXor (getD bytes k 0) (2 ^ bit))) ≡ dataCode bytes → ⊥
   -- so a good image of a whole number of words of which a data byte is changed is good no more
   pub changed-data-not-good :

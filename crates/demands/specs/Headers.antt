@@ -23,6 +23,7 @@ use Rattle.image.specs.declared.Verdict.the-variants.{Good, Refused as NotGood}
 use Rattle.image.specs.Code.{carried}
 use Rattle.image.specs.Header.{atHome, Known}
 use Rattle.image.specs.Image.{copiesMade, Stands, imageOf}
+use Rattle.image.specs.Judged.{FourthCode}
 use Rattle.image.specs.Promises.{WriteSized, JudgeSized}
 use Rattle.reading.specs.Promises as Reading
 use Rattle.demands.specs.Incident.{imageFrom, WholeTrack}
@@ -52,10 +53,14 @@ pub record Headers : Type 0 where
       (size block : ℕ) (bytes : List ℕ) (forced : Bool) (room : List ℕ) (long : ℕ) (after : List ℕ) →
       WriteSized size block atHome bytes forced room (Length long) after →
       take long after ≡ bytesOf (replicate copiesMade block) ++ (bytes ++ bytes16 (carried forced bytes))
-  -- a fourth code, or a block of 2²⁸ or more, is never met: whatever number stands in the header, the verdict is 16
+  -- where a fourth code is expected, or a block of 2²⁸ or more, the verdict is 16, whatever number stands in the header
   pub never-met :
       (size : ℕ) (image : List ℕ) (block code : ℕ) → (Known code → ⊥) ⊎ NotBelow codeUnit block →
       (m : ℕ) → Stands image m → length image ≡ size + imageExtra →
+      (verdict : Verdict) → JudgeSized size image block code verdict → verdict ≡ NotGood otherBlock
+  -- where a number with a fourth code stands in the header the verdict is 16, whatever is expected
+  pub fourth-refused :
+      (size : ℕ) (image : List ℕ) (block code : ℕ) → FourthCode image → length image ≡ size + imageExtra →
       (verdict : Verdict) → JudgeSized size image block code verdict → verdict ≡ NotGood otherBlock
   -- a block whose sector holds a good image with the expected header is judged good, and its data is handed back
   pub expected-good :
@@ -75,12 +80,12 @@ pub record Headers : Type 0 where
       (size : ℕ) (shape : Shape) (r : ℕ) (t read : List ℕ) (b : ℕ) (home spare : RefT (List ℕ)) (number : ℕ) (bytes : List ℕ) →
       Expected t b number → Bytes bytes → Holding size shape r t b (home .now) (spare .now) number bytes true → Enough shape r read →
       (part : RefT (List ℕ)) → Reading.DataSized size shape r t read b home spare part → part .now ≡ []
-  -- with another of the three codes than the table says, 2 or 3 for a block at home, it is refused 16, and no data is handed back
+  -- with another code of four bits than the table says, one of the three or a fourth, it is refused 16, and no data is handed back
   pub other-code :
       (size : ℕ) (shape : Shape) (r : ℕ) (t judged : List ℕ) (b : ℕ) (home spare : List ℕ) (number code : ℕ) (bytes : List ℕ) (forced : Bool) →
-      Expected t b number → Known code → (codeOf number ≡ code → ⊥) → Holding size shape r t b home spare (wordOf code b) bytes forced → Enough shape r judged →
+      Expected t b number → code < 16 → (codeOf number ≡ code → ⊥) → Holding size shape r t b home spare (wordOf code b) bytes forced → Enough shape r judged →
       (verdict : Verdict) → Reading.JudgeSized size shape r t judged b home spare verdict → verdict ≡ NotGood otherBlock
   pub other-gives-none :
       (size : ℕ) (shape : Shape) (r : ℕ) (t read : List ℕ) (b : ℕ) (home spare : RefT (List ℕ)) (number code : ℕ) (bytes : List ℕ) (forced : Bool) →
-      Expected t b number → Known code → (codeOf number ≡ code → ⊥) → Holding size shape r t b (home .now) (spare .now) (wordOf code b) bytes forced → Enough shape r read →
+      Expected t b number → code < 16 → (codeOf number ≡ code → ⊥) → Holding size shape r t b (home .now) (spare .now) (wordOf code b) bytes forced → Enough shape r read →
       (part : RefT (List ℕ)) → Reading.DataSized size shape r t read b home spare part → part .now ≡ []

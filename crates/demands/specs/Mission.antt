@@ -17,7 +17,7 @@ pub record Mission : Type 0 where
   pub revectored-lies : Demand2Revectored
   -- 3. After an accepted night each new block lies where you arrive by skipping the named blocks in the old numbering and following the old map; two nights, both accepted, are one night with both lists joined.
   pub nights : Demand3
-  -- Q-4. A header tells a block at home (code 0) from one that is replaced at its primary (2) or elsewhere (3). Images with code 0 keep their bytes, a fourth code is never met, and a read expects the code that the table says: with it the block is judged as it was written, with any other of the three it is refused 16.
+  -- Q-4. A header tells a block at home (code 0) from one that is replaced at its primary (2) or elsewhere (3). Images with code 0 keep their bytes. Where a fourth code is expected, or stands in the header, the verdict is 16. A read expects the code that the table says: with it the block is judged as it was written, with any other it is refused 16.
   pub headers : Headers
   -- Q-6. The scratch that a call is lent with a table is as it was where the shape or r is out of range or the scratch is too short; else its first T × r numbers are zeros after the call, accepted or refused, and the rest is as it was.
   pub scratch : Scratches

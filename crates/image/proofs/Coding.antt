@@ -141,9 +141,9 @@ getD-wordsOf (suc count) (hi ∷ lo ∷ bytes) (suc k) even =
     let next : 2 * suc k ≡ 2 + 2 * k = omega arith in
     getD-wordsOf count bytes k (omega arith) ∙ rw next (word16-drop 2 (hi ∷ lo ∷ bytes) (2 * k))
 
-pub codeOf-below : (bytes : List ℕ) → Bytes bytes → dataCode bytes < 2 ^ 16
+pub dataCode-below : (bytes : List ℕ) → Bytes bytes → dataCode bytes < 2 ^ 16
 unfolding dataCode
-codeOf-below bytes h = codeFrom-below startCode (wordsOf bytes) (omega arith) (wordsOf-below bytes h)
+dataCode-below bytes h = codeFrom-below startCode (wordsOf bytes) (omega arith) (wordsOf-below bytes h)
 
 -- the same code of data of which one byte is changed: it was not changed
 one-byte-from :

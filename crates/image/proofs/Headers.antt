@@ -1,6 +1,6 @@
 -- What the number of a header says: the word of a code and a block that a header may carry says them, and it alone.
 -- Assumes nothing.
-use Prim.Native.Nat.{ℕ, _^_, _<_}
+use Prim.Native.Nat.{ℕ, _<_}
 use mathlib.Core.Path.{_≡_, refl, sym, _∙_}
 use mathlib.Core.Logic.{⊎-elim}
 use native.Mathlib.Nat.{mod-lt}
@@ -16,15 +16,11 @@ tells-known code = tells-either (tells-eq code atHome) (tells-either (tells-eq c
 pub tells-may-head : (code block : ℕ) → Tells (mayHead code block) (Known code × (block < codeUnit))
 tells-may-head code block = tells-both (tells-known code) (tells-lt block codeUnit)
 
--- the three codes are below 4
-pub known-few : {code : ℕ} → Known code → code < 4
+-- the three codes have four bits
+pub known-few : {code : ℕ} → Known code → code < 16
 known-few known = ⊎-elim (λ e. omega arith) (⊎-elim (λ e. omega arith) (λ e. omega arith)) known
 
--- so the word of one of them and a block fits the copies of a header
-pub word-fits : {code block : ℕ} → Known code → block < codeUnit → wordOf code block < 2 ^ 32
-word-fits known below = omega (arith, known-few known)
-
--- that word says the code and the block
+-- the word of one of them and a block says the two
 pub word-says : {code block : ℕ} → Known code → block < codeUnit → Says (wordOf code block) code block
 word-says {code} {block} known below =
     record { known = known; code-is = code-of-word code block below; block-is = number-of-word code block below }

@@ -21,7 +21,7 @@ use Rattle.words.proofs.Stores.{sets-append}
 use Rattle.seek.proofs.Times.{times-all}
 use Rattle.image.specs.Code.{dataCode, complement, carried}
 use Rattle.image.specs.Image.{copiesMade, copies, Stands, headerOf, dataOf, storedIn, foundIn, imageOf, contentsFault}
-use Rattle.image.proofs.Coding.{codeOf-below}
+use Rattle.image.proofs.Coding.{dataCode-below}
 use Rattle.image.proofs.Copies.{stands-header}
 use Rattle.image.proofs.Exact.{sector-good, sector-forced}
 
@@ -112,7 +112,7 @@ module _ (number : ℕ) where
     module _ (h : Bytes bytes) where
       pub carried-below : carried forced bytes < 2 ^ 16
       unfolding carried
-      carried-below = byBool forced (λ e. rw e (omega arith)) (λ e. rw e (codeOf-below bytes h))
+      carried-below = byBool forced (λ e. rw e (omega arith)) (λ e. rw e (dataCode-below bytes h))
 
       pub written-code : storedIn (length bytes) (imageOf number bytes forced) ≡ carried forced bytes
       unfolding storedIn imageOf

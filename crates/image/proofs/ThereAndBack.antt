@@ -24,7 +24,8 @@ use Rattle.image.specs.Image.{headerOf, dataOf, imageOf, contentsFault, 
 use Rattle.image.specs.Judged.{HeadSays, ContentsJudged}
 use Rattle.image.specs.Promises.{HeaderSized, DataSized}
 use Rattle.image.proofs.Copies.{stands-header}
-use Rattle.image.proofs.Headers.{says-own, word-fits, word-says}
+use Rattle.words.proofs.Coded.{word-fits}
+use Rattle.image.proofs.Headers.{known-few, says-own, word-says}
 use Rattle.image.proofs.Exact.{header-passes, header-length, header-shows, image-pair, pair-says, pair-exactly, write-shows}
 use Rattle.image.proofs.Lent.{refused-empty, accepted-data, accepted-lies}
 use Rattle.image.proofs.Images.{length-image, image-first, image-rest, image-data, written-stands, written-data, written-good, written-forced}
@@ -80,7 +81,7 @@ module _ (size block code : ℕ) (bytes : List ℕ) (long : length bytes ≡ siz
   number = wordOf code block
 
   fits : number < 2 ^ 32
-  fits = word-fits known below
+  fits = word-fits (known-few known) below
 
   image-long : (forced : Bool) → length (imageOf number bytes forced) ≡ size + imageExtra
   image-long forced = rw long at (length-image number bytes forced)

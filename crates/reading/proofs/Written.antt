@@ -15,7 +15,8 @@ use Rattle.words.proofs.Stores.{part-sets}
 use Rattle.shape.specs.declared.Shape.{Shape}
 use Rattle.layout.specs.Layouts.{driveOf}
 use Rattle.image.specs.Image.{imageOf}
-use Rattle.image.proofs.Headers.{word-fits}
+use Rattle.words.proofs.Coded.{word-fits}
+use Rattle.image.proofs.Headers.{known-few}
 use Rattle.image.proofs.Exact.{sector-other}
 use Rattle.image.proofs.Images.{length-image, written-stands, written-data, written-good, written-forced}
 use Rattle.reading.specs.Tracks.{Seated, bytesIn, imageAt, imageFor, headerFor}
@@ -40,7 +41,7 @@ image-stored start track number bytes forced inside =
 pub header-fits :
     {size : ℕ} {shape : Shape} {r : ℕ} {t : List ℕ} {b : ℕ} {home spare : List ℕ} → Lent size shape r t b home spare → headerFor t b < 2 ^ 32
 unfolding headerFor
-header-fits {t = t} {b = b} lent = word-fits (code-known t b) (block-few (lent .sound) (lent .below))
+header-fits {t = t} {b = b} lent = word-fits (known-few (code-known t b)) (block-few (lent .sound) (lent .below))
 
 module _ (size : ℕ) (shape : Shape) (r : ℕ) (t scratch : List ℕ) (b : ℕ) where
   -- the sector image where a block lies

@@ -1,4 +1,4 @@
--- Document 01, "Sector image", and document 02, Q-6: the checks of a read, for any number of data bytes.
+-- Document 01, "Sector image", and document 02, Q-6 and Q-4: the checks of a read, for any number of data bytes.
 use Prim.Native.Nat.{ℕ}
 use mathlib.Core.Bool.{Bool, not, _||_}
 use mathlib.Core.List.{List}

@@ -1,4 +1,4 @@
--- `image::pair_fault` meets its contract: a pair that a number can say is judged by that number, whose code is below 4, and any other by the copies alone.
+-- `image::pair_fault` meets its contract: a pair that a number can say is judged by that number, whose code has four bits, and any other by the copies alone.
 -- Assumes nothing.
 use borrow.Author.Needs.{needs}
 use mathlib.Core.Path.{sym, _∙_}

@@ -26,7 +26,7 @@ word-of-requires : tie.Need-word-of-requires
 word-of-requires c κs =
     let a = c .before .before .before .before .before .args in
     let shown = write-shows (a .size) (a .block) (a .code) (a .bytes .now) (a .room .now) (sym (c .before .write-fault .ensures) ∙ c .if1 .left) in
-    (omega (arith, known-few (shown .known)), shown .below)
+    (known-few (shown .known), shown .below)
 
 put-image-requires : tie.Need-put-image-requires
 put-image-requires c κs =
