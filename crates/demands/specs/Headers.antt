@@ -34,7 +34,7 @@ pub data Expected (t : List ℕ) (b : ℕ) : ℕ → Type 0 where
   own : (Replaced t b → ⊥) → Expected t b b
   descriptor : (q : ℕ) → q < length t → Names (getD t q 0) b → Expected t b (getD t q 0)
 
--- block b lies on sector s, in one of two whole track images, and an image of these bytes with this number in its header stands on that sector
+-- block b lies on a sector, as `spares::sector_of` has answered with the scratch `asked`, in one of two whole track images, and an image of these bytes with this number in its header stands there
 pub record Holding (size : ℕ) (shape : Shape) (r : ℕ) (t : List ℕ) (b : ℕ) (home spare : List ℕ) (number : ℕ) (bytes : List ℕ) (forced : Bool) : Type 0 where
   pub asked : List ℕ
   pub sector : ℕ
