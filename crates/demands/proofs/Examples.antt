@@ -64,10 +64,9 @@ use Rattle.image.specs.Code.{wordsOf, rotated, codeAfter, codeFrom, dataCode, c
 use Rattle.image.specs.declared.Verdict.{Verdict}
 use Rattle.image.specs.Header.{Known, isKnown, Says}
 use Rattle.image.specs.Image.{copiesMade, copies, Stands, headerOf, storedIn, imageOf, copiesFault, headerFault, writeFault}
-use Rattle.image.specs.Judged.{ContentsJudged}
 use Rattle.image.specs.Promises.{saidVerdict}
 use Rattle.image.proofs.Headers.{tells-known}
-use Rattle.image.proofs.Exact.{length-passes, image-pair, pair-exactly, write-passes}
+use Rattle.image.proofs.Exact.{length-passes, image-unsaid, write-passes}
 use Rattle.reading.specs.Promises as Reading
 use Rattle.demands.specs.Headers.{Expected, own, descriptor, Holding}
 use Rattle.demands.proofs.Headers.{headers}
@@ -240,11 +239,7 @@ judge-told :
     (heads : List ℕ) (block code number : ℕ) → length heads ≡ copiesMade → ((rest : List ℕ) → Stands (bytesOf heads ++ rest) number) → (Says number code block → ⊥) →
     Holds (image-judge heads block code otherBlock)
 judge-told heads block code number four stands other rest long =
-    let image = bytesOf heads ++ rest in
-    allows (λ k. refl)
-    (rw
-    (image-pair image dataSize block code (whole-image heads four rest long)
-    ∙ pair-exactly image dataSize block code .only otherBlock (ContentsJudged.other-block number (stands rest) other)))
+    allows (λ k. refl) (rw (image-unsaid (bytesOf heads ++ rest) dataSize block code (whole-image heads four rest long) number (stands rest) other))
 
 -- what every verdict is that a read allows
 read-told :

@@ -22,20 +22,20 @@ use Rattle.table.specs.Lookup.{isReplaced}
 use Rattle.table.specs.Rules.{Sound, blockFault}
 use Rattle.table.specs.Scratch.{Enough}
 use Rattle.table.proofs.Exact.{sound-obeys, block-sound, block-below}
-use Rattle.table.proofs.Lookups.{tells-replaced, replaced-place}
+use Rattle.table.proofs.Lookups.{tells-replaced}
 use Rattle.image.specs.declared.Verdict.{Verdict}
 use Rattle.image.specs.declared.Verdict.the-variants.{Refused as NotGood}
 use Rattle.image.specs.Code.{carried}
 use Rattle.image.specs.Header.{atHome, Known}
 use Rattle.image.specs.Image.{copiesMade, Stands, imageOf}
-use Rattle.image.specs.Judged.{ContentsJudged, FourthCode}
+use Rattle.image.specs.Judged.{FourthCode}
 use Rattle.image.specs.Promises.{WriteSized, JudgeSized}
 use Rattle.image.proofs.Headers.{says-below}
-use Rattle.image.proofs.Exact.{image-pair, pair-exactly}
+use Rattle.image.proofs.Exact.{image-unsaid}
 use Rattle.reading.specs.Tracks.{sectorIn, headerFor, imageAt, trackOf, bytesIn}
 use Rattle.reading.specs.Faults.{lentFault}
 use Rattle.reading.proofs.Exact.{block-few, lent-passes}
-use Rattle.reading.proofs.Tracks.{seated, header-home, header-spare}
+use Rattle.reading.proofs.Tracks.{seated, header-home, header-named}
 use Rattle.reading.proofs.Written.{good-read, forced-read, other-read, good-part, forced-part, other-part}
 use Rattle.demands.specs.Headers.{Expected, own, descriptor, Holding, Headers}
 use Rattle.demands.proofs.ReadsInPlace.{its-image}
@@ -59,9 +59,8 @@ never-met :
 never-met size image block code unsaid m stands long verdict judged =
     judged .answers
     ∙ rw
-    (image-pair image size block code long
-    ∙ pair-exactly image size block code .only otherBlock
-    (ContentsJudged.other-block m stands (λ says. ⊎-elim (λ fourth. fourth (says .known)) (λ over. omega (arith, says-below says)) unsaid)))
+    (image-unsaid image size block code long m stands
+    (λ says. ⊎-elim (λ fourth. fourth (says .known)) (λ over. omega (arith, says-below says)) unsaid))
 
 -- a fourth code in the header
 fourth-refused :
@@ -69,10 +68,7 @@ fourth-refused :
     (verdict : Verdict) → JudgeSized size image block code verdict → verdict ≡ NotGood otherBlock
 fourth-refused size image block code other long verdict judged =
     judged .answers
-    ∙ rw
-    (image-pair image size block code long
-    ∙ pair-exactly image size block code .only otherBlock
-    (ContentsJudged.other-block (other .number) (other .stands) (λ says. other .fourth (rw (says .code-is) (says .known)))))
+    ∙ rw (image-unsaid image size block code long (other .number) (other .stands) (λ says. other .fourth (rw (says .code-is) (says .known))))
 
 module _ {size : ℕ} {shape : Shape} {r : ℕ} {t : List ℕ} {b : ℕ} {home spare : List ℕ} {number : ℕ} {bytes : List ℕ} {forced : Bool} (held : Holding size shape r t b home spare number bytes forced) where
   asked-passes : blockFault shape r t (held .asked) b ≡ 0
@@ -96,9 +92,7 @@ module _ {size : ℕ} {shape : Shape} {r : ℕ} {t : List ℕ} {b : ℕ} {home s
 -- the header that is expected
 expected-is : {shape : Shape} {r : ℕ} {t : List ℕ} {b number : ℕ} → Sound shape r t → Expected t b number → headerFor t b ≡ number
 expected-is {t = t} {b = b} sound (own none) = header-home t b (byBool (isReplaced t b) (λ e. absurd (none (tells-replaced t b .holds e))) (λ e. e))
-expected-is {t = t} {b = b} sound (descriptor q in-table named) =
-    let place = replaced-place (sound-obeys sound) (record { place = q; in-table = in-table; named = named }) in
-    header-spare t b (rw place in-table) ∙ rw place
+expected-is {t = t} {b = b} sound (descriptor q in-table named) = header-named t b (sound-obeys sound) q in-table named
 
 -- the code of what is expected is the one that the table says, so that a word with another code is another number
 module _ {shape : Shape} {r : ℕ} {t : List ℕ} {b number code : ℕ} (sound : Sound shape r t) (below : b < driveOf shape r .blocks) (expected : Expected t b number) where

@@ -51,7 +51,7 @@ use Rattle.reading.specs.Promises.{DataSized, JudgeSized}
 use Rattle.reading.proofs.Alike.{home-unread, verdict-alike, part-alike}
 use Rattle.reading.proofs.Parts.{refused-empty, accepted-data, accepted-part}
 use Rattle.reading.proofs.Exact.{block-few, lent-passes}
-use Rattle.reading.proofs.Tracks.{seated-only, header-spare, data-inside}
+use Rattle.reading.proofs.Tracks.{seated-only, header-named, data-inside}
 use Rattle.reading.proofs.Written.{good-read, other-read, good-part, other-part}
 use Rattle.demands.proofs.ByKind.{spot-says}
 use Rattle.demands.specs.Relations.{AllowsOnly}
@@ -101,7 +101,7 @@ module _
 
     -- the header that is expected is the descriptor, which is never the block's plain number
     its-header : headerFor t b ≡ getD t q 0
-    its-header = header-spare t b (rw its-place in-table) ∙ rw its-place
+    its-header = header-named t b (sound-obeys sound) q in-table named
 
     own-few : b < codeUnit
     own-few = block-few sound below

@@ -62,11 +62,11 @@ use Rattle.table.proofs.Exact.{sound-laid, sound-obeys, table-sound, table-exac
 use Rattle.image.specs.Code as Code
 use Rattle.image.specs.Code.{wordsOf, rotated, codeFrom}
 use Rattle.image.specs.Image.{copies, Stands, headerOf, storedIn, foundIn, dataOf, imageOf, copiesFault, codeFault, contentsFault, pairFault, headerFault, imageFault, writeFault}
-use Rattle.image.specs.Judged.{ContentsJudged, HeaderJudged, ImageJudged, WriteJudged}
+use Rattle.image.specs.Judged.{HeaderJudged, ImageJudged, WriteJudged}
 use Rattle.image.specs.declared.Head.the-variants.{Of}
 use Rattle.image.specs.declared.Verdict.the-variants.{Good, Refused as NotGood}
 use Rattle.image.proofs.Copies.{stands-header}
-use Rattle.image.proofs.Exact.{length-passes, address-passes, header-exactly, image-pair, pair-exactly, judge-exactly, write-exactly}
+use Rattle.image.proofs.Exact.{length-passes, address-passes, header-exactly, image-unsaid, judge-exactly, write-exactly}
 use Rattle.image.proofs.Images.{replicate-below, length-image, written-stands, written-data, written-good}
 use Rattle.reading.specs.Tracks.{Seated, on-spare, bytesIn, imageAt, imageFor, sectorIn, codeFor, headerFor}
 use Rattle.reading.specs.Faults.{lentFault, blockReadFault}
@@ -377,9 +377,8 @@ compares-word-unjudged = (
 
     aliased : imageFault dataSize sevenAtPrimary 268435463 1 ≡ otherBlock
     aliased =
-        image-pair sevenAtPrimary dataSize 268435463 1 seven-long
-        ∙ pair-exactly sevenAtPrimary dataSize 268435463 1 .only otherBlock
-        (ContentsJudged.other-block 0x20000007 (written-stands 0x20000007 older false (omega arith)) (λ says. omega (arith, says .code-is)))
+        image-unsaid sevenAtPrimary dataSize 268435463 1 seven-long 0x20000007 (written-stands 0x20000007 older false (omega arith))
+        (λ says. omega (arith, says .code-is))
 
 -- a fourth code answered: the header says code 1 and block 7, and no row accepts it
 abbrev sevenFourth : List ℕ

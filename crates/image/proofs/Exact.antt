@@ -209,6 +209,10 @@ module _ (image : List ℕ) where
     unfolding imageFault
     image-pair long = orElse-none (lengthFault (size + imageExtra) image) _ (length-passes (size + imageExtra) image long)
 
+    -- and 16 where a number stands that does not say the pair
+    pub image-unsaid : length image ≡ size + imageExtra → (m : ℕ) → Stands image m → (Says m code block → ⊥) → imageFault size image block code ≡ otherBlock
+    image-unsaid long m stands other = image-pair long ∙ pair-exactly .only otherBlock (ContentsJudged.other-block m stands other)
+
     -- an image without fault has the right length
     pub image-length : imageFault size image block code ≡ 0 → length image ≡ size + imageExtra
     unfolding imageFault

@@ -21,12 +21,12 @@ use Rattle.image.specs.declared.Verdict.{Verdict}
 use Rattle.image.specs.declared.Verdict.the-variants.{Good, Refused as NotGood}
 use Rattle.image.specs.Header.{Known}
 use Rattle.image.specs.Image.{headerOf, dataOf, imageOf, contentsFault, headerFault, imageFault, writeFault}
-use Rattle.image.specs.Judged.{HeadSays, ContentsJudged}
+use Rattle.image.specs.Judged.{HeadSays}
 use Rattle.image.specs.Promises.{HeaderSized, DataSized}
 use Rattle.image.proofs.Copies.{stands-header}
 use Rattle.words.proofs.Coded.{word-fits}
 use Rattle.image.proofs.Headers.{known-few, says-own, word-says}
-use Rattle.image.proofs.Exact.{header-passes, header-length, header-shows, image-pair, pair-says, pair-exactly, write-shows}
+use Rattle.image.proofs.Exact.{header-passes, header-length, header-shows, image-pair, image-unsaid, pair-says, write-shows}
 use Rattle.image.proofs.Lent.{refused-empty, accepted-data, accepted-lies}
 use Rattle.image.proofs.Images.{length-image, image-first, image-rest, image-data, written-stands, written-data, written-good, written-forced}
 
@@ -99,10 +99,8 @@ module _ (size block code : ℕ) (bytes : List ℕ) (long : length bytes ≡ siz
       imageFault size (imageOf number bytes forced) other-block other-code ≡ otherBlock
   other-fault forced other-block other-code other =
       let says = word-says known below in
-      image-pair (imageOf number bytes forced) size other-block other-code (image-long forced)
-      ∙ pair-exactly (imageOf number bytes forced) size other-block other-code .only otherBlock
-      (ContentsJudged.other-block number (written-stands number bytes forced fits)
-      (λ same. other (sym (same .block-is) ∙ says .block-is, sym (same .code-is) ∙ says .code-is)))
+      image-unsaid (imageOf number bytes forced) size other-block other-code (image-long forced) number (written-stands number bytes forced fits)
+      (λ same. other (sym (same .block-is) ∙ says .block-is, sym (same .code-is) ∙ says .code-is))
 
   pub image-other :
       (forced : Bool) (other-block other-code : ℕ) → ((other-block ≡ block) × (other-code ≡ code) → ⊥) →

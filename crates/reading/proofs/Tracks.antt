@@ -91,6 +91,11 @@ module _ (t : List ℕ) (b : ℕ) where
       let named : Names (getD t (placeOf t b) 0) b = tells-names _ b .holds (place-names t b h) in
       rw (lt-ltb (placeOf t b) (length t) h) ((rw (named .1) at (word-of-parts (getD t (placeOf t b) 0))))
 
+  pub header-named : {drive : Drive} → Obeys drive t → (q : ℕ) → q < length t → Names (getD t q 0) b → headerFor t b ≡ getD t q 0
+  header-named o q h named =
+      let place : placeOf t b ≡ q = place-once o q b h (tells-names _ b .told named) in
+      header-spare (rw place h) ∙ rw place
+
   -- what the image holds that a block lies in
   pub track-now : (home spare : RefT (List ℕ)) → trackOf t b home spare .now ≡ trackOf t b (home .now) (spare .now)
   track-now home spare = byBool (isReplaced t b) (λ e. rw e) (λ e. rw e)
