@@ -218,6 +218,16 @@ module _ (image : List ℕ) where
     unfolding imageFault
     image-length none = length-shows (size + imageExtra) image (orElse-first _ _ none)
 
+    -- and is headed by a block that a header can carry
+    pub image-below : imageFault size image block code ≡ 0 → block < codeUnit
+    unfolding imageFault pairFault
+    image-below none =
+        byBool (mayHead code block)
+        (λ e. tells-may-head code block .holds e .1)
+        (λ e.
+        let unsaid : (copiesFault image orElse otherBlock) ≡ 0 = rw e at (orElse-next (lengthFault (size + imageExtra) image) _ none) in
+        absurd (omega (arith, orElse-next (copiesFault image) otherBlock unsaid)))
+
 -- what is known of a block, a code, data and a room that the writer does not refuse
 pub record Writable (size block code : ℕ) (bytes room : List ℕ) : Type 0 where
   pub long : length bytes ≡ size

@@ -6,10 +6,11 @@ use mathlib.Core.List.{List, []}
 use native.Mathlib.Omega.{arith}
 use lib.ListN.{length}
 use denote.Ref.{RefT}
-use Rattle.paper.specs.Checks.{answer}
-use Rattle.paper.specs.Limits.{headerSize}
+use Rattle.paper.specs.Checks.{_orElse_, answer}
+use Rattle.paper.specs.Limits.{headerSize, dataSizeFault}
+use Rattle.paper.proofs.Chain.{orElse-first}
 use Rattle.image.specs.Image.{dataOf, imageFault}
-use Rattle.image.specs.Promises.{Lends, DataSized}
+use Rattle.image.specs.Promises.{Lends, LendsNone, LendsData, DataSized, Data}
 use Rattle.image.proofs.Images.{length-data}
 use Rattle.image.proofs.Exact.{image-length}
 
@@ -55,13 +56,17 @@ module _ (size : ℕ) (image : RefT (List ℕ)) (block code : ℕ) where
   fault = imageFault size (image .now) block code
 
   abbrev Empty : RefT (List ℕ) → Type 0
-  Empty = Lends image 0 []
+  Empty = LendsNone image
 
   abbrev Whole : RefT (List ℕ) → Type 0
-  Whole = Lends image headerSize (dataOf size (image .now))
+  Whole = LendsData size image
 
-  pub lends-empty : (part : RefT (List ℕ)) → (imageFault size (image .now) block code ≡ 0 → ⊥) → Lends image 0 [] part → DataSized size image block code part
+  pub lends-empty : (part : RefT (List ℕ)) → (imageFault size (image .now) block code ≡ 0 → ⊥) → LendsNone image part → DataSized size image block code part
   lends-empty part = refuses-part Empty Whole part fault
+
+  -- nor does the public call lend any where it refuses the size
+  pub size-lends-empty : (part : RefT (List ℕ)) → (dataSizeFault size ≡ 0 → ⊥) → LendsNone image part → Data size image block code part
+  size-lends-empty part some = refuses-part Empty Whole part (dataSizeFault size orElse fault) (λ none. some (orElse-first (dataSizeFault size) fault none))
 
   module _ (part : RefT (List ℕ)) (lent : DataSized size image block code part) where
     pub refused-empty : (imageFault size (image .now) block code ≡ 0 → ⊥) → part .now ≡ []
@@ -78,8 +83,8 @@ module _ (size : ℕ) (image : RefT (List ℕ)) (block code : ℕ) where
         let long : length (dataOf size (image .now)) ≡ size = length-data size (image .now) (image-length (image .now) size block code none) in
         omega (arith, ap length (sym (accepted-data none) ∙ empty))
 
-  -- two parts that the promise allows hold the same and lie at the same place
+  -- two parts that the promise of the public call allows hold the same and lie at the same place
   pub data-one :
       (first second : RefT (List ℕ)) →
-      DataSized size image block code first → DataSized size image block code second → (first .now ≡ second .now) × (first .ptr ≡ second .ptr)
-  data-one = part-one image 0 [] image headerSize (dataOf size (image .now)) fault
+      Data size image block code first → Data size image block code second → (first .now ≡ second .now) × (first .ptr ≡ second .ptr)
+  data-one = part-one image 0 [] image headerSize (dataOf size (image .now)) (dataSizeFault size orElse fault)

@@ -7,3 +7,4 @@ pub mod Images
 pub mod Changed
 pub mod Lent
 pub mod ThereAndBack
+pub mod Sized

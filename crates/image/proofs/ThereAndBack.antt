@@ -9,7 +9,6 @@ use lib.ListN.{length, take, drop}
 use denote.Ref.{RefT}
 use Rattle.paper.specs.Checks.{answer}
 use Rattle.paper.specs.Limits.{headerSize, imageExtra}
-use Rattle.paper.specs.Promise.{written}
 use Rattle.paper.specs.Refusals.{otherBlock, forcedError}
 use Rattle.paper.proofs.Cases.{byFault}
 use Rattle.paper.proofs.Chain.{answer-refused, answer-accepted}
@@ -22,7 +21,7 @@ use Rattle.image.specs.declared.Verdict.the-variants.{Good, Refused as N
 use Rattle.image.specs.Header.{Known}
 use Rattle.image.specs.Image.{headerOf, dataOf, imageOf, contentsFault, headerFault, imageFault, writeFault}
 use Rattle.image.specs.Judged.{HeadSays}
-use Rattle.image.specs.Promises.{HeaderSized, DataSized}
+use Rattle.image.specs.Promises.{imaged, headIn, HeaderSized, DataSized}
 use Rattle.image.proofs.Copies.{stands-header}
 use Rattle.words.proofs.Coded.{word-fits}
 use Rattle.image.proofs.Headers.{known-few, says-own, word-says}
@@ -32,14 +31,14 @@ use Rattle.image.proofs.Images.{length-image, image-first, image-rest, 
 
 -- what the header's reader and the verdict answer, and the room that the writer leaves
 abbrev pub headed : ℕ → List ℕ → Head
-headed size image = answer (headerFault size image) NoHead (Of (codeOf (headerOf image)) (numberOf (headerOf image)))
+headed size image = answer (headerFault size image) NoHead (headIn image)
 
 abbrev pub verdict : ℕ → List ℕ → ℕ → ℕ → Verdict
 verdict size image block code = answer (imageFault size image block code) NotGood Good
 
 abbrev pub roomAfter : ℕ → ℕ → ℕ → List ℕ → Bool → List ℕ → List ℕ
 roomAfter size block code bytes forced room =
-    answer (writeFault size block code bytes room) (λ fault. room) (written (imageOf (wordOf code block) bytes forced) room)
+    answer (writeFault size block code bytes room) (λ fault. room) (imaged block code bytes forced room)
 
 -- the header's reader answers a code and a block exactly where the image has its length and a number stands that says them
 says-headed : (size : ℕ) (image : List ℕ) (code block : ℕ) → length image ≡ size + imageExtra → HeadSays image code block → headed size image ≡ Of code block
@@ -57,7 +56,7 @@ headed-says :
 headed-says size image code block answered =
     byFault (headerFault size image)
     (λ none.
-    let named : Of (codeOf (headerOf image)) (numberOf (headerOf image)) ≡ Of code block = sym (answer-accepted (headerFault size image) NoHead _ none) ∙ answered in
+    let named : headIn image ≡ Of code block = sym (answer-accepted (headerFault size image) NoHead _ none) ∙ answered in
     let first : codeOf (headerOf image) ≡ code = cc in
     let second : numberOf (headerOf image) ≡ block = cc in
     let shown = header-shows image size none in
@@ -163,4 +162,4 @@ pub room-kept :
     (size block code : ℕ) (bytes : List ℕ) (forced : Bool) (room : List ℕ) → (writeFault size block code bytes room ≡ 0 → ⊥) →
     roomAfter size block code bytes forced room ≡ room
 room-kept size block code bytes forced room some =
-    answer-refused (writeFault size block code bytes room) (λ fault. room) (written (imageOf (wordOf code block) bytes forced) room) some
+    answer-refused (writeFault size block code bytes room) (λ fault. room) (imaged block code bytes forced room) some

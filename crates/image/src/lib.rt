@@ -1,4 +1,4 @@
-// The image of a sector: four copies of a number, which says a code and a block, the data, and the 16-bit code of the data; written, read and judged for any number of data bytes, by the public calls for 512.
+// The image of a sector: four copies of a number, which says a code and a block, the data, and the 16-bit code of the data; written, read and judged for any number of data bytes, by the public calls for the two sizes that a sector has.
 ghost use mathlib.Core.Path.{_≡_};
 ghost use Prim.Native.Nat.{_+_, _<_, _≤_, _^_};
 ghost use lib.ListN.{length, replicate};
@@ -12,7 +12,6 @@ ghost use Rattle.image.specs.Header.{atHome, isKnown, mayHead};
 ghost use Rattle.image.specs.Image.{copiesMade, copies, headerOf, imageOf, copiesFault, codeFault, contentsFault, pairFault, headerFault, imageFault, writeFault};
 ghost use Rattle.image.specs.Promises.{WriteSized, HeaderSized, JudgeSized, DataSized, Write, Header, Judge, Data};
 use paper::BAD_CODE;
-use paper::DATA_SIZE;
 use paper::FORCED_ERROR;
 use paper::HEADER_SIZE;
 use paper::IMAGE_EXTRA;
@@ -326,30 +325,53 @@ fn data_sized(size: usize, image: &[u8], block: u32, code: u32) -> &[u8]
     &image[HEADER_SIZE..HEADER_SIZE + size]
 }
 
-// Writes the image of a block's data, good or forced, with the code that tells where the block is. Checks 14, 5, 22, 7.
-pub fn write(block: u32, code: u32, data: &[u8], forced: bool, room: &mut [u8]) -> Written
-    ensures { λ result. ⌜ Write block code (now («data» .entry)) forced (now (room .entry)) result (now (room .exit)) ⌝ }
+// Writes the image of a block's data, good or forced, with the code that tells where the block is. Checks 1, 14, 5, 22, 7.
+pub fn write(
+    size: u32,
+    block: u32,
+    code: u32,
+    data: &[u8],
+    forced: bool,
+    room: &mut [u8],
+) -> Written
+    ensures { λ result. ⌜ Write size block code (now («data» .entry)) forced (now (room .entry)) result (now (room .exit)) ⌝ }
 {
-    write_sized(DATA_SIZE, block, code, data, forced, room)
+    let fault = paper::data_size_fault(size);
+    if fault != 0 {
+        return Written::Refused(fault);
+    }
+    write_sized(size as usize, block, code, data, forced, room)
 }
 
-// The code and the block that the header of an image says. Checks 14, 15, 16.
-pub fn header(image: &[u8]) -> Head
-    ensures { λ result. ⌜ Header (now (image .entry)) result ⌝ }
+// The code and the block that the header of an image says. Checks 1, 14, 15, 16.
+pub fn header(size: u32, image: &[u8]) -> Head
+    ensures { λ result. ⌜ Header size (now (image .entry)) result ⌝ }
 {
-    header_sized(DATA_SIZE, image)
+    let fault = paper::data_size_fault(size);
+    if fault != 0 {
+        return Head::Refused(fault);
+    }
+    header_sized(size as usize, image)
 }
 
-// The verdict on the image of a block with a code. Checks 14, 15, 16, then 17 or 18.
-pub fn judge(image: &[u8], block: u32, code: u32) -> Verdict
-    ensures { λ result. ⌜ Judge (now (image .entry)) block code result ⌝ }
+// The verdict on the image of a block with a code. Checks 1, 14, 15, 16, then 17 or 18.
+pub fn judge(size: u32, image: &[u8], block: u32, code: u32) -> Verdict
+    ensures { λ result. ⌜ Judge size (now (image .entry)) block code result ⌝ }
 {
-    judge_sized(DATA_SIZE, image, block, code)
+    let fault = paper::data_size_fault(size);
+    if fault != 0 {
+        return Verdict::Refused(fault);
+    }
+    judge_sized(size as usize, image, block, code)
 }
 
-// The 512 bytes of a good image of a block with a code where they lie; the empty part at the image's start exactly when the verdict refuses.
-pub fn data(image: &[u8], block: u32, code: u32) -> &[u8]
-    ensures { λ result. ⌜ Data (image .entry) block code result ⌝ }
+// The data of a good image of a block with a code where it lies; the empty part at the image's start exactly when the verdict refuses.
+pub fn data(size: u32, image: &[u8], block: u32, code: u32) -> &[u8]
+    ensures { λ result. ⌜ Data size (image .entry) block code result ⌝ }
 {
-    data_sized(DATA_SIZE, image, block, code)
+    let fault = paper::data_size_fault(size);
+    if fault != 0 {
+        return &image[0..0];
+    }
+    data_sized(size as usize, image, block, code)
 }

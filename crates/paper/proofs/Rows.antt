@@ -9,10 +9,10 @@ use lib.Dec.{leb, ltb, eqb}
 use borrow.Author.Tests.{ltb-true, lt-ltb, leb-true, le-leb, eqb-true, eq-eqb, not-true, not-false}
 use Rattle.paper.specs.Checks.{refuse, _orElse_}
 use Rattle.paper.specs.Exactly.{When, _andThen_, earlier, later, Exactly}
-use Rattle.paper.specs.Limits.{Within, within, unitsMost, sizeFault, SizeJudged}
+use Rattle.paper.specs.Limits.{dataSize, wideSize, Within, within, unitsMost, sizeFault, SizeJudged, Size, isSize, dataSizeFault, DataSizeJudged}
 use Rattle.paper.specs.Refusals.{outOfRange}
 use Rattle.paper.proofs.Cases.{byBool, byLt, byFault}
-use Rattle.paper.proofs.Chain.{orElse-some, orElse-none}
+use Rattle.paper.proofs.Chain.{orElse-some, orElse-none, orElse-first}
 
 -- a test holds exactly where the condition does
 pub record Tells (test : Bool) (Fault : Type 0) : Type 0 where
@@ -138,3 +138,30 @@ size-shows n = passed-shows (tells-within 1 unitsMost n) outOfRange (omega arith
 
 pub size-passes : (n : ℕ) → Within 1 unitsMost n → sizeFault n ≡ 0
 size-passes n inside = rw (tells-within 1 unitsMost n .told inside)
+
+pub tells-size : (size : ℕ) → Tells (isSize size) (Size size)
+tells-size size = tells-either (tells-eq size dataSize) (tells-eq size wideSize)
+
+pub data-size-exactly : (size : ℕ) → Exactly (DataSizeJudged size) (dataSizeFault size)
+unfolding dataSizeFault
+data-size-exactly size = row (tells-not (tells-size size)) outOfRange
+
+pub data-size-shows : (size : ℕ) → dataSizeFault size ≡ 0 → Size size
+unfolding dataSizeFault
+data-size-shows size = passed-shows (tells-size size) outOfRange (omega arith)
+
+pub data-size-passes : {size : ℕ} → Size size → dataSizeFault size ≡ 0
+unfolding dataSizeFault
+data-size-passes {size} sized = rw (tells-size size .told sized)
+
+-- a size that passes is no larger than the larger of the two
+pub data-size-most : (size : ℕ) → dataSizeFault size ≡ 0 → size ≤ wideSize
+data-size-most size none = ⊎-elim (λ is. omega arith) (λ is. omega arith) (data-size-shows size none)
+
+-- rows that follow that of the size
+pub sized-exactly : (size : ℕ) (Rows : ℕ → Type 0) {fault : ℕ} → Exactly Rows fault → Exactly (DataSizeJudged size andThen Rows) (dataSizeFault size orElse fault)
+sized-exactly size Rows exactly = rows (DataSizeJudged size) Rows (data-size-exactly size) exactly
+
+-- a chain that gives no number shows that its size is one of the two
+pub sized-shows : (size fault : ℕ) → (dataSizeFault size orElse fault) ≡ 0 → Size size
+sized-shows size fault none = data-size-shows size (orElse-first (dataSizeFault size) fault none)

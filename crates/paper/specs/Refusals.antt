@@ -1,7 +1,7 @@
--- The paper's refusal numbers, "Refusal numbers", by name. Each name says what its row says.
+-- The refusal numbers of the paper, "Refusal numbers", and of document 02, by name. Each name says what its row says.
 use Prim.Native.Nat.{ℕ}
 
--- N, a number of the shape, r, or the number of all spares is out of its range
+-- N, a number of the shape, r, the number of all spares, or the size of a sector's data is out of its range, or copies of a format table lie no sector apart
 abbrev pub outOfRange : ℕ
 outOfRange = 1
 
@@ -70,6 +70,10 @@ forcedError = 17
 -- the code matches neither way
 abbrev pub badCode : ℕ
 badCode = 18
+
+-- no copy of the format table says the size of a sector's data
+abbrev pub noMode : ℕ
+noMode = 21
 
 -- there is no such code to write into a header
 abbrev pub unknownCode : ℕ

@@ -1,9 +1,9 @@
-// The paper's numbers: refusals, limits and sizes, the range of N, and the answers that several crates give.
+// The paper's numbers: refusals, limits and sizes, the range of N, the two sizes of a sector's data, and the answers that several crates give.
 ghost use mathlib.Core.Path.{_≡_};
 ghost use Prim.Native.Nat.{_≤_};
 ghost use Rattle.paper.specs.Checks.{oneIf};
-ghost use Rattle.paper.specs.Refusals.{outOfRange, tooLong, notRising, outside, noSuchBlock, noSuchSector, noRoom, badPage, strayCursor, badOption, badTable, noSpare, wrongLength, noAddress, otherBlock, forcedError, badCode, unknownCode};
-ghost use Rattle.paper.specs.Limits.{unitsMost, cylindersMost, headsMost, sectorsLeast, sectorsMost, listMost, sparesMost, tableBlock, dataSize, headerSize, imageExtra, pageFrame, entrySize, pageMost, optionMost, spaceMost, kindMost, listingMost, startCode, within, sizeFault};
+ghost use Rattle.paper.specs.Refusals.{outOfRange, tooLong, notRising, outside, noSuchBlock, noSuchSector, noRoom, badPage, strayCursor, badOption, badTable, noSpare, wrongLength, noAddress, otherBlock, forcedError, badCode, noMode, unknownCode};
+ghost use Rattle.paper.specs.Limits.{unitsMost, cylindersMost, headsMost, sectorsLeast, sectorsMost, listMost, sparesMost, tableBlock, dataSize, wideSize, headerSize, imageExtra, pageFrame, entrySize, pageMost, optionMost, spaceMost, kindMost, listingMost, startCode, within, sizeFault, isSize, dataSizeFault};
 
 pub const OUT_OF_RANGE: u32 = 1;
 
@@ -41,6 +41,8 @@ pub const FORCED_ERROR: u32 = 17;
 
 pub const BAD_CODE: u32 = 18;
 
+pub const NO_MODE: u32 = 21;
+
 pub const UNKNOWN_CODE: u32 = 22;
 
 pub const UNITS_MOST: u32 = 16_777_216;
@@ -60,6 +62,8 @@ pub const SPARES_MOST: u32 = 65_536;
 pub const TABLE_BLOCK: usize = 128;
 
 pub const DATA_SIZE: usize = 512;
+
+pub const WIDE_SIZE: usize = 576;
 
 pub const HEADER_SIZE: usize = 16;
 
@@ -100,6 +104,7 @@ fn refusals_agree()
     ensures { λ result. do ⌜ (← ⟦OTHER_BLOCK⟧ .entry) ≡ otherBlock ⌝ }
     ensures { λ result. do ⌜ (← ⟦FORCED_ERROR⟧ .entry) ≡ forcedError ⌝ }
     ensures { λ result. do ⌜ (← ⟦BAD_CODE⟧ .entry) ≡ badCode ⌝ }
+    ensures { λ result. do ⌜ (← ⟦NO_MODE⟧ .entry) ≡ noMode ⌝ }
     ensures { λ result. do ⌜ (← ⟦UNKNOWN_CODE⟧ .entry) ≡ unknownCode ⌝ }
 {}
 
@@ -114,6 +119,7 @@ fn limits_agree()
     ensures { λ result. do ⌜ (← ⟦SPARES_MOST⟧ .entry) ≡ sparesMost ⌝ }
     ensures { λ result. do ⌜ (← ⟦TABLE_BLOCK⟧ .entry) ≡ tableBlock ⌝ }
     ensures { λ result. do ⌜ (← ⟦DATA_SIZE⟧ .entry) ≡ dataSize ⌝ }
+    ensures { λ result. do ⌜ (← ⟦WIDE_SIZE⟧ .entry) ≡ wideSize ⌝ }
     ensures { λ result. do ⌜ (← ⟦HEADER_SIZE⟧ .entry) ≡ headerSize ⌝ }
     ensures { λ result. do ⌜ (← ⟦IMAGE_EXTRA⟧ .entry) ≡ imageExtra ⌝ }
     ensures { λ result. do ⌜ (← ⟦PAGE_FRAME⟧ .entry) ≡ pageFrame ⌝ }
@@ -171,6 +177,26 @@ pub fn size_fault(n: u32) -> u32
     ensures { λ result. ⌜ result ≡ sizeFault n ⌝ }
 {
     if !within(1, UNITS_MOST, n) {
+        return OUT_OF_RANGE;
+    }
+    0
+}
+
+// Whether a number is one of the two sizes of a sector's data. Only other crates call this.
+pub fn is_size(size: u32) -> bool
+    ensures { λ result. ⌜ result ≡ isSize size ⌝ }
+{
+    if size as usize == DATA_SIZE {
+        return true;
+    }
+    size as usize == WIDE_SIZE
+}
+
+// Refusal 1 for a size that a sector's data does not have, else 0. Only other crates call this.
+pub fn data_size_fault(size: u32) -> u32
+    ensures { λ result. ⌜ result ≡ dataSizeFault size ⌝ }
+{
+    if !is_size(size) {
         return OUT_OF_RANGE;
     }
     0

@@ -4,3 +4,4 @@ pub mod Spots
 pub mod Parts
 pub mod Alike
 pub mod Written
+pub mod Sized

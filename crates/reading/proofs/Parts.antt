@@ -7,18 +7,20 @@ use native.Mathlib.Omega.{arith}
 use lib.ListN.{length, take, drop}
 use denote.Ref.{RefT}
 use Rattle.paper.proofs.Cases.{byBool, byFault}
-use Rattle.paper.proofs.Chain.{answer-refused}
+use Rattle.paper.specs.Checks.{_orElse_}
+use Rattle.paper.specs.Limits.{dataSizeFault}
+use Rattle.paper.proofs.Chain.{orElse-first, answer-refused}
 use Rattle.shape.specs.declared.Shape.{Shape}
 use Rattle.layout.specs.Layouts.{driveOf}
 use Rattle.table.specs.Lookup.{isReplaced}
 use Rattle.image.specs.Image.{dataOf}
-use Rattle.image.specs.Promises.{Lends}
+use Rattle.image.specs.Promises.{Lends, LendsNone}
 use Rattle.image.proofs.Images.{length-data}
 use Rattle.image.proofs.Lent.{part-refused, part-accepted, refuses-part, part-one}
 use Rattle.reading.specs.declared.answers.Spot.the-variants.{InHome, InSpare, Refused as NotSpotted}
 use Rattle.reading.specs.Tracks.{trackOf, startOf, dataStart, imageFor}
 use Rattle.reading.specs.Faults.{blockReadFault}
-use Rattle.reading.specs.Promises.{spotOf, DataSized, AtSpot, in-home, in-spare, nowhere}
+use Rattle.reading.specs.Promises.{spotOf, LendsBlock, DataSized, Data, AtSpot, in-home, in-spare, nowhere}
 use Rattle.reading.proofs.Tracks.{image-long, data-inside}
 use Rattle.reading.proofs.Spots.{lies-inside, track-long, read-shows, spotted, home-told, spare-told, refused-told}
 
@@ -37,10 +39,10 @@ module _ (size : ℕ) (shape : Shape) (r : ℕ) (t scratch : List ℕ) (b : ℕ)
     fault = blockReadFault size shape r t scratch b (home .now) (spare .now)
 
     abbrev Empty : RefT (List ℕ) → Type 0
-    Empty = Lends home 0 []
+    Empty = LendsNone home
 
     abbrev Whole : RefT (List ℕ) → Type 0
-    Whole = Lends (trackOf t b home spare) (dataStart size (driveOf shape r) t b) (dataOf size (imageFor size (driveOf shape r) t b (home .now) (spare .now)))
+    Whole = LendsBlock size shape r t b home spare
 
     -- the part that each spot hands back
     pub lends-home :
@@ -69,18 +71,22 @@ module _ (size : ℕ) (shape : Shape) (r : ℕ) (t scratch : List ℕ) (b : ℕ)
 
     pub lends-empty :
         {number : ℕ} (part : RefT (List ℕ)) → spotted size shape r t scratch b (home .now) (spare .now) ≡ NotSpotted number →
-        Lends home 0 [] part → DataSized size shape r t scratch b home spare part
+        LendsNone home part → DataSized size shape r t scratch b home spare part
     lends-empty part same =
         let told = refused-told size shape r t scratch b (home .now) (spare .now) same in
         refuses-part Empty Whole part fault (λ none. told .1 (sym (told .0) ∙ none))
 
+    -- nor does the public call lend any where it refuses the size
+    pub size-lends-empty : (part : RefT (List ℕ)) → (dataSizeFault size ≡ 0 → ⊥) → LendsNone home part → Data size shape r t scratch b home spare part
+    size-lends-empty part some = refuses-part Empty Whole part (dataSizeFault size orElse fault) (λ none. some (orElse-first (dataSizeFault size) fault none))
+
     module _ (part : RefT (List ℕ)) (lent : DataSized size shape r t scratch b home spare part) where
-      pub refused-part : (blockReadFault size shape r t scratch b (home .now) (spare .now) ≡ 0 → ⊥) → Lends home 0 [] part
+      pub refused-part : (blockReadFault size shape r t scratch b (home .now) (spare .now) ≡ 0 → ⊥) → LendsNone home part
       refused-part some = part-refused Empty Whole part fault some lent
 
       pub accepted-part :
           blockReadFault size shape r t scratch b (home .now) (spare .now) ≡ 0 →
-          Lends (trackOf t b home spare) (dataStart size (driveOf shape r) t b) (dataOf size (imageFor size (driveOf shape r) t b (home .now) (spare .now))) part
+          LendsBlock size shape r t b home spare part
       accepted-part none = part-accepted Empty Whole part fault none lent
 
       pub refused-empty : (blockReadFault size shape r t scratch b (home .now) (spare .now) ≡ 0 → ⊥) → part .now ≡ []
@@ -117,9 +123,10 @@ module _ (size : ℕ) (shape : Shape) (r : ℕ) (t scratch : List ℕ) (b : ℕ)
           }))))
           (λ some. rw (answer-refused (blockReadFault size shape r t scratch b (home .now) (spare .now)) NotSpotted (spotOf size shape r t b) some) (nowhere (refused-part some)))
 
-    -- two parts that the promise allows hold the same and lie at the same place
+    -- two parts that the promise of the public call allows hold the same and lie at the same place
     pub data-one :
-        (first second : RefT (List ℕ)) → DataSized size shape r t scratch b home spare first → DataSized size shape r t scratch b home spare second →
+        (first second : RefT (List ℕ)) → Data size shape r t scratch b home spare first → Data size shape r t scratch b home spare second →
         (first .now ≡ second .now) × (first .ptr ≡ second .ptr)
     data-one =
-        part-one home 0 [] (trackOf t b home spare) (dataStart size (driveOf shape r) t b) (dataOf size (imageFor size (driveOf shape r) t b (home .now) (spare .now))) fault
+        part-one home 0 [] (trackOf t b home spare) (dataStart size (driveOf shape r) t b) (dataOf size (imageFor size (driveOf shape r) t b (home .now) (spare .now)))
+        (dataSizeFault size orElse fault)

@@ -1,17 +1,19 @@
--- What the calls of `reading` promise, for any number of data bytes, and what the public ones promise at 512.
+-- What the calls of `reading` promise, for any number of data bytes, and what the public ones promise: the same, once the size of the data is found to be one of the two.
 use Prim.Native.Nat.{ℕ}
-use mathlib.Core.List.{List, []}
+use mathlib.Core.List.{List}
+use mathlib.Core.Path.{_≡_}
 use lib.ListN.{take, drop}
 use denote.Ref.{RefT}
-use Rattle.paper.specs.Checks.{answer}
+use Rattle.paper.specs.Checks.{_orElse_, answer}
 use Rattle.paper.specs.Promise.{Gives}
-use Rattle.paper.specs.Limits.{dataSize}
+use Rattle.paper.specs.Limits.{dataSizeFault}
 use Rattle.shape.specs.declared.Shape.{Shape}
 use Rattle.layout.specs.Layouts.{driveOf}
+use Rattle.table.specs.Scratch.{scratchAfter}
 use Rattle.image.specs.declared.Verdict.{Verdict}
 use Rattle.image.specs.declared.Verdict.the-variants.{Good}
 use Rattle.image.specs.Image.{dataOf}
-use Rattle.image.specs.Promises.{GivesVerdict, Lends}
+use Rattle.image.specs.Promises.{GivesVerdict, Lends, LendsNone}
 use Rattle.reading.specs.declared.answers.Spot.{Spot}
 use Rattle.reading.specs.declared.answers.Spot.the-variants.{InHome, InSpare, Refused as NotSpotted}
 use Rattle.reading.specs.Tracks.{trackOf, dataStart, imageFor}
@@ -36,24 +38,33 @@ SpotSized size shape r t scratch b home spare = GivesSpot (blockReadFault size s
 abbrev pub JudgeSized : ℕ → Shape → ℕ → List ℕ → List ℕ → ℕ → List ℕ → List ℕ → Verdict → Type 0
 JudgeSized size shape r t scratch b home spare = GivesVerdict (blockReadFault size shape r t scratch b home spare) Good
 
--- the part that is handed back: the data where it lies in the image that the block lies in, or the empty part at the start of home
+-- the data of a block where it lies in the image that the block lies in
+abbrev pub LendsBlock : ℕ → Shape → ℕ → List ℕ → ℕ → RefT (List ℕ) → RefT (List ℕ) → RefT (List ℕ) → Type 0
+LendsBlock size shape r t b home spare =
+    Lends (trackOf t b home spare) (dataStart size (driveOf shape r) t b) (dataOf size (imageFor size (driveOf shape r) t b (home .now) (spare .now)))
+
+-- the part that is handed back: that data, or the empty part at the start of home
 abbrev pub DataSized : ℕ → Shape → ℕ → List ℕ → List ℕ → ℕ → RefT (List ℕ) → RefT (List ℕ) → RefT (List ℕ) → Type 0
 DataSized size shape r t scratch b home spare =
-    answer (blockReadFault size shape r t scratch b (home .now) (spare .now)) (λ fault. Lends home 0 [])
-    (Lends (trackOf t b home spare) (dataStart size (driveOf shape r) t b) (dataOf size (imageFor size (driveOf shape r) t b (home .now) (spare .now))))
+    answer (blockReadFault size shape r t scratch b (home .now) (spare .now)) (λ fault. LendsNone home) (LendsBlock size shape r t b home spare)
 
 -- the part at a spot: so many bytes from the offset on, in the image that the spot names; none at the start of home for a refusal
 pub data AtSpot (size : ℕ) (home spare part : RefT (List ℕ)) : Spot → Type 0 where
   in-home : {offset : ℕ} → Lends home offset (take size (drop offset (home .now))) part → AtSpot size home spare part (InHome offset)
   in-spare : {offset : ℕ} → Lends spare offset (take size (drop offset (spare .now))) part → AtSpot size home spare part (InSpare offset)
-  nowhere : {fault : ℕ} → Lends home 0 [] part → AtSpot size home spare part (NotSpotted fault)
+  nowhere : {fault : ℕ} → LendsNone home part → AtSpot size home spare part (NotSpotted fault)
 
--- the public calls, at 512 data bytes
-abbrev pub Judge : Shape → ℕ → List ℕ → List ℕ → ℕ → List ℕ → List ℕ → Verdict → Type 0
-Judge = JudgeSized dataSize
+-- the public calls: first the size is looked at, and any but the two is refused 1
+abbrev pub Judge : ℕ → Shape → ℕ → List ℕ → List ℕ → ℕ → List ℕ → List ℕ → Verdict → Type 0
+Judge size shape r t scratch b home spare = GivesVerdict (dataSizeFault size orElse blockReadFault size shape r t scratch b home spare) Good
 
-abbrev pub Data : Shape → ℕ → List ℕ → List ℕ → ℕ → RefT (List ℕ) → RefT (List ℕ) → RefT (List ℕ) → Type 0
-Data = DataSized dataSize
+abbrev pub Data : ℕ → Shape → ℕ → List ℕ → List ℕ → ℕ → RefT (List ℕ) → RefT (List ℕ) → RefT (List ℕ) → Type 0
+Data size shape r t scratch b home spare =
+    answer (dataSizeFault size orElse blockReadFault size shape r t scratch b (home .now) (spare .now)) (λ fault. LendsNone home) (LendsBlock size shape r t b home spare)
 
-abbrev pub Spots : Shape → ℕ → List ℕ → List ℕ → ℕ → List ℕ → List ℕ → Spot → Type 0
-Spots = SpotSized dataSize
+abbrev pub Spots : ℕ → Shape → ℕ → List ℕ → List ℕ → ℕ → List ℕ → List ℕ → Spot → Type 0
+Spots size shape r t scratch b home spare = GivesSpot (dataSizeFault size orElse blockReadFault size shape r t scratch b home spare) (spotOf size shape r t b)
+
+-- what they leave of their scratch: refused for the size, all as it was; else what every call leaves that is lent a table
+abbrev pub ReadScratched : ℕ → Shape → ℕ → List ℕ → List ℕ → Type 0
+ReadScratched size shape r before after = after ≡ answer (dataSizeFault size) (λ fault. before) (scratchAfter shape r before)

@@ -1,4 +1,4 @@
-// A read of a revectored block from the images of two tracks, for any number of data bytes, by the public calls for 512.
+// A read of a revectored block from the images of two tracks, for any number of data bytes, by the public calls for the two sizes that a sector has.
 ghost use mathlib.Core.Path.{_≡_};
 ghost use Prim.Native.Nat.{_+_, _*_, _^_, _<_, _≤_};
 ghost use lib.ListN.{length};
@@ -11,14 +11,13 @@ ghost use Rattle.table.specs.Steps.{Obeys};
 ghost use Rattle.reading.specs.Tracks.{imageAt};
 ghost use Rattle.reading.specs.Steps.{seatOf};
 ghost use Rattle.reading.specs.Faults.{lentFault};
-ghost use Rattle.reading.specs.Promises.{SpotSized, JudgeSized, DataSized, Judge, Data, Spots};
+ghost use Rattle.reading.specs.Promises.{SpotSized, JudgeSized, DataSized, Judge, Data, Spots, ReadScratched};
 
 mod answers;
 
 pub use answers::Spot;
 use image::Verdict;
 use layout::Drive;
-use paper::DATA_SIZE;
 use paper::HEADER_SIZE;
 use paper::IMAGE_EXTRA;
 use paper::WRONG_LENGTH;
@@ -184,6 +183,7 @@ fn data_sized<'a>(
 
 // The verdict on a block from the images of its home track and of its spare's track. Checks 1, 7, 11, 5, 14, 15 to 18.
 pub fn judge<'a>(
+    size: u32,
     shape: Shape,
     r: u32,
     table: &[u32],
@@ -192,14 +192,19 @@ pub fn judge<'a>(
     home: &'a [u8],
     spare: &'a [u8],
 ) -> Verdict
-    ensures { λ result. ⌜ Judge shape r (now (table .entry)) (now (scratch .entry)) block (now (home .entry)) (now (spare .entry)) result ⌝ }
-    ensures { λ result. ⌜ Scratched shape r (now (scratch .entry)) (now (scratch .exit)) ⌝ }
+    ensures { λ result. ⌜ Judge size shape r (now (table .entry)) (now (scratch .entry)) block (now (home .entry)) (now (spare .entry)) result ⌝ }
+    ensures { λ result. ⌜ ReadScratched size shape r (now (scratch .entry)) (now (scratch .exit)) ⌝ }
 {
-    judge_sized(DATA_SIZE, shape, r, table, scratch, block, home, spare)
+    let fault = paper::data_size_fault(size);
+    if fault != 0 {
+        return Verdict::Refused(fault);
+    }
+    judge_sized(size as usize, shape, r, table, scratch, block, home, spare)
 }
 
-// The 512 bytes of a good block where they lie, in whichever image that is; the empty part at the start of home exactly when the verdict refuses.
+// The data of a good block where it lies, in whichever image that is; the empty part at the start of home exactly when the verdict refuses.
 pub fn data<'a>(
+    size: u32,
     shape: Shape,
     r: u32,
     table: &[u32],
@@ -208,14 +213,19 @@ pub fn data<'a>(
     home: &'a [u8],
     spare: &'a [u8],
 ) -> &'a [u8]
-    ensures { λ result. ⌜ Data shape r (now (table .entry)) (now (scratch .entry)) block (home .entry) (spare .entry) result ⌝ }
-    ensures { λ result. ⌜ Scratched shape r (now (scratch .entry)) (now (scratch .exit)) ⌝ }
+    ensures { λ result. ⌜ Data size shape r (now (table .entry)) (now (scratch .entry)) block (home .entry) (spare .entry) result ⌝ }
+    ensures { λ result. ⌜ ReadScratched size shape r (now (scratch .entry)) (now (scratch .exit)) ⌝ }
 {
-    data_sized(DATA_SIZE, shape, r, table, scratch, block, home, spare)
+    let fault = paper::data_size_fault(size);
+    if fault != 0 {
+        return &home[0..0];
+    }
+    data_sized(size as usize, shape, r, table, scratch, block, home, spare)
 }
 
-// In which image, and how far inside it, the 512 bytes of a good block begin. Checks 1, 7, 11, 5, 14, 15 to 18.
+// In which image, and how far inside it, the data of a good block begins. Checks 1, 7, 11, 5, 14, 15 to 18.
 pub fn spot<'a>(
+    size: u32,
     shape: Shape,
     r: u32,
     table: &[u32],
@@ -224,8 +234,12 @@ pub fn spot<'a>(
     home: &'a [u8],
     spare: &'a [u8],
 ) -> Spot
-    ensures { λ result. ⌜ Spots shape r (now (table .entry)) (now (scratch .entry)) block (now (home .entry)) (now (spare .entry)) result ⌝ }
-    ensures { λ result. ⌜ Scratched shape r (now (scratch .entry)) (now (scratch .exit)) ⌝ }
+    ensures { λ result. ⌜ Spots size shape r (now (table .entry)) (now (scratch .entry)) block (now (home .entry)) (now (spare .entry)) result ⌝ }
+    ensures { λ result. ⌜ ReadScratched size shape r (now (scratch .entry)) (now (scratch .exit)) ⌝ }
 {
-    spot_sized(DATA_SIZE, shape, r, table, scratch, block, home, spare)
+    let fault = paper::data_size_fault(size);
+    if fault != 0 {
+        return Spot::Refused(fault);
+    }
+    spot_sized(size as usize, shape, r, table, scratch, block, home, spare)
 }
