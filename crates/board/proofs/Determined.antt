@@ -16,9 +16,10 @@ use Rattle.page.specs.Promises.{saidPaged, Reads, Writes}
 use Rattle.format.specs.Promises.{saidFormatted, Formats}
 use Rattle.first_table.specs.Promises.{FirstTable}
 use Rattle.spares.specs.Promises.{SectorOf as SpareSectorOf, AddressOf as SpareAddressOf, ShiftOf, BlockOn as SpareBlockOn, BlockAt as SpareBlockAtOf, Replacement, CensusOf, saidReplaced}
-use Rattle.image.specs.Promises.{WriteSized, HeaderSized, JudgeSized as ImageVerdict}
-use Rattle.reading.specs.Promises.{JudgeSized as ReadVerdict, SpotSized as Spots}
-use Rattle.demands.proofs.Determined.{image-header, image-judge, reading-judge, reading-spot, shape-address-of, shape-sector-of, skip-block-on, skip-cursor-check, skip-cursor-start, skip-cursor-step, skip-sector-of, skipped-address-of, skipped-block-at, spares-address-of, spares-block-at, spares-block-on, spares-census, spares-sector-of, spares-shift}
+use Rattle.image.specs.Promises.{Write, Header, Judge as ImageVerdict}
+use Rattle.mode.specs.Promises.{Finds}
+use Rattle.reading.specs.Promises.{Judge as ReadVerdict, Spots}
+use Rattle.demands.proofs.Determined.{image-header, image-judge, mode-find, reading-judge, reading-spot, shape-address-of, shape-sector-of, skip-block-on, skip-cursor-check, skip-cursor-start, skip-cursor-step, skip-sector-of, skipped-address-of, skipped-block-at, spares-address-of, spares-block-at, spares-block-on, spares-census, spares-sector-of, spares-shift}
 use Rattle.board.specs.declared.answers.TbCounted.{TbCounted}
 use Rattle.board.specs.declared.answers.TbFormatted.{TbFormatted}
 use Rattle.board.specs.declared.answers.TbHeaded.{TbHeaded}
@@ -30,9 +31,10 @@ use Rattle.board.specs.declared.answers.TbPaged.{TbPaged}
 use Rattle.board.specs.declared.answers.TbPlaced.{TbPlaced}
 use Rattle.board.specs.declared.answers.TbReplaced.{TbReplaced}
 use Rattle.board.specs.declared.answers.TbShifted.{TbShifted}
+use Rattle.board.specs.declared.answers.TbSized.{TbSized}
 use Rattle.board.specs.declared.answers.TbSpotted.{TbSpotted}
 use Rattle.board.specs.declared.answers.TbWritten.{TbWritten}
-use Rattle.board.specs.Promises.{formattedFields, pagedFields, replacedFields, writtenFields, TellsCounted, TellsFormatted, TellsHeaded, TellsJob, TellsJudged, TellsLocated, TellsNamed, TellsPaged, TellsPlaced, TellsReplaced, TellsShifted, TellsSpotted, TellsWritten}
+use Rattle.board.specs.Promises.{formattedFields, pagedFields, replacedFields, writtenFields, TellsCounted, TellsFormatted, TellsHeaded, TellsJob, TellsJudged, TellsLocated, TellsNamed, TellsPaged, TellsPlaced, TellsReplaced, TellsShifted, TellsSized, TellsSpotted, TellsWritten}
 use Rattle.board.proofs.Carried.{told-one}
 
 -- each result as it is made of its fields
@@ -68,6 +70,9 @@ replacedOf n = record { refusal = n .0; place = n .1 }
 
 abbrev shiftedOf : ℕ × ℤ → TbShifted
 shiftedOf n = record { refusal = n .0; shift = n .1 }
+
+abbrev sizedOf : ℕ × ℕ → TbSized
+sizedOf n = record { refusal = n .0; size = n .1 }
 
 abbrev spottedOf : ℕ × ℕ × ℕ → TbSpotted
 spottedOf n = record { refusal = n .0; image = n .1; offset = n .2 }
@@ -161,18 +166,21 @@ spare-first-one shape r list room {first} {second} one other =
     (ap writtenOf fields, same .1)
 
 pub image-write-one :
-    (size block code : ℕ) (bytes : List ℕ) (forced : Bool) (room : List ℕ) {after otherAfter : List ℕ} {first second : TbWritten} → TellsWritten (λ answer. WriteSized size block code bytes forced room answer after) first → TellsWritten (λ answer. WriteSized size block code bytes forced room answer otherAfter) second →
+    (size block code : ℕ) (bytes : List ℕ) (forced : Bool) (room : List ℕ) {after otherAfter : List ℕ} {first second : TbWritten} → TellsWritten (λ answer. Write size block code bytes forced room answer after) first → TellsWritten (λ answer. Write size block code bytes forced room answer otherAfter) second →
     (first ≡ second) × (after ≡ otherAfter)
 image-write-one size block code bytes forced room {first} {second} one other =
     let same = fills-one (one .promised) (other .promised) in
     let fields : writtenFields first ≡ writtenFields second = one .are-said ∙ (ap saidWritten (same .0) ∙ sym (other .are-said)) in
     (ap writtenOf fields, same .1)
 
-pub image-header-one : (size : ℕ) (image : List ℕ) {first second : TbHeaded} → TellsHeaded (HeaderSized size image) first → TellsHeaded (HeaderSized size image) second → first ≡ second
+pub image-header-one : (size : ℕ) (image : List ℕ) {first second : TbHeaded} → TellsHeaded (Header size image) first → TellsHeaded (Header size image) second → first ≡ second
 image-header-one size image one other = ap headedOf (told-one (image-header size image) one other)
 
 pub image-judge-one : (size : ℕ) (image : List ℕ) (block code : ℕ) {first second : TbJudged} → TellsJudged (ImageVerdict size image block code) first → TellsJudged (ImageVerdict size image block code) second → first ≡ second
 image-judge-one size image block code one other = ap judgedOf (told-one (image-judge size image block code) one other)
+
+pub mode-one : (images : List ℕ) (apart : ℕ) {first second : TbSized} → TellsSized (Finds images apart) first → TellsSized (Finds images apart) second → first ≡ second
+mode-one images apart one other = ap sizedOf (told-one (mode-find images apart) one other)
 
 pub read-judge-one : (size : ℕ) (shape : Shape) (r : ℕ) (table scratch : List ℕ) (block : ℕ) (home spare : List ℕ) {first second : TbJudged} → TellsJudged (ReadVerdict size shape r table scratch block home spare) first → TellsJudged (ReadVerdict size shape r table scratch block home spare) second → first ≡ second
 read-judge-one size shape r table scratch block home spare one other = ap judgedOf (told-one (reading-judge size shape r table scratch block home spare) one other)

@@ -4,6 +4,8 @@ use Prim.Native.Nat.{ℕ}
 use mathlib.Core.Bool.{Bool}
 use mathlib.Core.List.{List}
 use lib.IntN.{pos}
+use Rattle.paper.specs.Exactly.{_andThen_}
+use Rattle.paper.specs.Limits.{DataSizeJudged}
 use Rattle.shape.specs.declared.Shape.{Shape}
 use Rattle.shape.specs.Promises.{SectorOf as ShapeSectorOf, AddressOf as ShapeAddressOf}
 use Rattle.skip.specs.declared.Cursor.{Cursor}
@@ -13,8 +15,9 @@ use Rattle.page.specs.Promises.{Reads, Writes}
 use Rattle.format.specs.Promises.{Formats}
 use Rattle.first_table.specs.Promises.{FirstTable}
 use Rattle.spares.specs.Promises.{SectorOf as SpareSectorOf, AddressOf as SpareAddressOf, ShiftOf, BlockOn as SpareBlockOn, BlockAt as SpareBlockAtOf, Replacement, CensusOf}
-use Rattle.image.specs.Promises.{WriteSized, HeaderSized, JudgeSized as ImageVerdict}
-use Rattle.reading.specs.Promises.{JudgeSized as ReadVerdict, SpotSized as Spots}
+use Rattle.image.specs.Promises.{Write, Header, Judge as ImageVerdict}
+use Rattle.mode.specs.Promises.{Finds}
+use Rattle.reading.specs.Promises.{Judge as ReadVerdict, Spots}
 use Rattle.shape.specs.Addresses.{SectorOfJudged as ShapeSectorOfJudged, AddressOfJudged as ShapeAddressOfJudged}
 use Rattle.skip.specs.Translation.{SectorOfJudged as SkipSectorOfJudged, BlockOnJudged as SkipBlockOnJudged}
 use Rattle.skip.specs.Cursors.{CheckJudged, StepJudged}
@@ -25,9 +28,10 @@ use Rattle.table.specs.Rules.{TableJudged, BlockJudged}
 use Rattle.first_table.specs.Tables.{FirstTableJudged}
 use Rattle.spares.specs.Spares.{BlockOnJudged as SpareBlockOnJudged, BlockAtJudged as SpareBlockAtJudged, ReplaceJudged}
 use Rattle.image.specs.Judged.{HeaderJudged, ImageJudged, WriteJudged as ImageWriteJudged}
+use Rattle.mode.specs.Modes.{ModeJudged}
 use Rattle.reading.specs.Judged.{BlockReadJudged}
 use Rattle.demands.specs.Relations.{Keeps}
-use Rattle.demands.proofs.Demand1.{skip-sector-of, skip-block-on, cursor-start, cursor-check, cursor-step, shape-sector-of, shape-address-of, skipped-address-of, skipped-block-at, page-read, page-write, format-format, spares-sector-of, spares-address-of, spares-shift, spares-block-on, spares-block-at, spares-replace, spares-census, spares-first-table, image-write, image-header, image-judge, reading-judge, reading-spot, page-read-keeps, page-write-keeps, format-keeps, spares-replace-keeps, spares-first-table-keeps, image-write-keeps}
+use Rattle.demands.proofs.Demand1.{skip-sector-of, skip-block-on, cursor-start, cursor-check, cursor-step, shape-sector-of, shape-address-of, skipped-address-of, skipped-block-at, page-read, page-write, format-format, spares-sector-of, spares-address-of, spares-shift, spares-block-on, spares-block-at, spares-replace, spares-census, spares-first-table, image-write, image-header, image-judge, mode-find, reading-judge, reading-spot, page-read-keeps, page-write-keeps, format-keeps, spares-replace-keeps, spares-first-table-keeps, image-write-keeps}
 use Rattle.board.specs.declared.answers.TbCounted.{TbCounted}
 use Rattle.board.specs.declared.answers.TbFormatted.{TbFormatted}
 use Rattle.board.specs.declared.answers.TbHeaded.{TbHeaded}
@@ -39,9 +43,10 @@ use Rattle.board.specs.declared.answers.TbPaged.{TbPaged}
 use Rattle.board.specs.declared.answers.TbPlaced.{TbPlaced}
 use Rattle.board.specs.declared.answers.TbReplaced.{TbReplaced}
 use Rattle.board.specs.declared.answers.TbShifted.{TbShifted}
+use Rattle.board.specs.declared.answers.TbSized.{TbSized}
 use Rattle.board.specs.declared.answers.TbSpotted.{TbSpotted}
 use Rattle.board.specs.declared.answers.TbWritten.{TbWritten}
-use Rattle.board.specs.Promises.{NumbersBy, countedFields, formattedFields, headedFields, jobFields, judgedFields, locatedFields, namedFields, pagedFields, placedFields, replacedFields, shiftedFields, spottedFields, writtenFields, TellsCounted, TellsFormatted, TellsHeaded, TellsJob, TellsJudged, TellsLocated, TellsNamed, TellsPaged, TellsPlaced, TellsReplaced, TellsShifted, TellsSpotted, TellsWritten}
+use Rattle.board.specs.Promises.{NumbersBy, countedFields, formattedFields, headedFields, jobFields, judgedFields, locatedFields, namedFields, pagedFields, placedFields, replacedFields, shiftedFields, sizedFields, spottedFields, writtenFields, TellsCounted, TellsFormatted, TellsHeaded, TellsJob, TellsJudged, TellsLocated, TellsNamed, TellsPaged, TellsPlaced, TellsReplaced, TellsShifted, TellsSized, TellsSpotted, TellsWritten}
 use Rattle.board.proofs.Carried.{told-numbers, told-keeps}
 
 pub skip-sector-numbers : (n : ℕ) (list : List ℕ) (block : ℕ) {result : TbPlaced} → TellsPlaced (SkipSectorOf n list block) result → NumbersBy (λ fields. fields .0) (λ k. (k, 0)) (SkipSectorOfJudged n list block) (placedFields result)
@@ -119,20 +124,23 @@ spare-first-numbers shape r list room after = told-numbers (λ given promise. sp
 pub spare-first-kept : (shape : Shape) (r : ℕ) (list room : List ℕ) (after : List ℕ) {result : TbWritten} → TellsWritten (λ answer. FirstTable shape r list room answer after) result → Keeps (writtenFields result .0) room after
 spare-first-kept shape r list room after = told-keeps (λ fields. fields .0) (λ given promise. spares-first-table-keeps shape r list room given after promise)
 
-pub image-write-numbers : (size block code : ℕ) (bytes : List ℕ) (forced : Bool) (room : List ℕ) (after : List ℕ) {result : TbWritten} → TellsWritten (λ answer. WriteSized size block code bytes forced room answer after) result → NumbersBy (λ fields. fields .0) (λ k. (k, 0)) (ImageWriteJudged size block code bytes room) (writtenFields result)
+pub image-write-numbers : (size block code : ℕ) (bytes : List ℕ) (forced : Bool) (room : List ℕ) (after : List ℕ) {result : TbWritten} → TellsWritten (λ answer. Write size block code bytes forced room answer after) result → NumbersBy (λ fields. fields .0) (λ k. (k, 0)) (DataSizeJudged size andThen ImageWriteJudged size block code bytes room) (writtenFields result)
 image-write-numbers size block code bytes forced room after = told-numbers (λ given promise. image-write size block code bytes forced room given after promise)
 
-pub image-write-kept : (size block code : ℕ) (bytes : List ℕ) (forced : Bool) (room : List ℕ) (after : List ℕ) {result : TbWritten} → TellsWritten (λ answer. WriteSized size block code bytes forced room answer after) result → Keeps (writtenFields result .0) room after
+pub image-write-kept : (size block code : ℕ) (bytes : List ℕ) (forced : Bool) (room : List ℕ) (after : List ℕ) {result : TbWritten} → TellsWritten (λ answer. Write size block code bytes forced room answer after) result → Keeps (writtenFields result .0) room after
 image-write-kept size block code bytes forced room after = told-keeps (λ fields. fields .0) (λ given promise. image-write-keeps size block code bytes forced room given after promise)
 
-pub image-header-numbers : (size : ℕ) (image : List ℕ) {result : TbHeaded} → TellsHeaded (HeaderSized size image) result → NumbersBy (λ fields. fields .0) (λ k. (k, 0, 0)) (HeaderJudged size image) (headedFields result)
+pub image-header-numbers : (size : ℕ) (image : List ℕ) {result : TbHeaded} → TellsHeaded (Header size image) result → NumbersBy (λ fields. fields .0) (λ k. (k, 0, 0)) (DataSizeJudged size andThen HeaderJudged size image) (headedFields result)
 image-header-numbers size image = told-numbers (image-header size image)
 
-pub image-judge-numbers : (size : ℕ) (image : List ℕ) (block code : ℕ) {result : TbJudged} → TellsJudged (ImageVerdict size image block code) result → NumbersBy (λ fields. fields) (λ k. k) (ImageJudged size image block code) (judgedFields result)
+pub image-judge-numbers : (size : ℕ) (image : List ℕ) (block code : ℕ) {result : TbJudged} → TellsJudged (ImageVerdict size image block code) result → NumbersBy (λ fields. fields) (λ k. k) (DataSizeJudged size andThen ImageJudged size image block code) (judgedFields result)
 image-judge-numbers size image block code = told-numbers (image-judge size image block code)
 
-pub read-judge-numbers : (size : ℕ) (shape : Shape) (r : ℕ) (table scratch : List ℕ) (block : ℕ) (home spare : List ℕ) {result : TbJudged} → TellsJudged (ReadVerdict size shape r table scratch block home spare) result → NumbersBy (λ fields. fields) (λ k. k) (BlockReadJudged size shape r table scratch block home spare) (judgedFields result)
+pub mode-numbers : (images : List ℕ) (apart : ℕ) {result : TbSized} → TellsSized (Finds images apart) result → NumbersBy (λ fields. fields .0) (λ k. (k, 0)) (ModeJudged images apart) (sizedFields result)
+mode-numbers images apart = told-numbers (mode-find images apart)
+
+pub read-judge-numbers : (size : ℕ) (shape : Shape) (r : ℕ) (table scratch : List ℕ) (block : ℕ) (home spare : List ℕ) {result : TbJudged} → TellsJudged (ReadVerdict size shape r table scratch block home spare) result → NumbersBy (λ fields. fields) (λ k. k) (DataSizeJudged size andThen BlockReadJudged size shape r table scratch block home spare) (judgedFields result)
 read-judge-numbers size shape r table scratch block home spare = told-numbers (reading-judge size shape r table scratch block home spare)
 
-pub read-data-numbers : (size : ℕ) (shape : Shape) (r : ℕ) (table scratch : List ℕ) (block : ℕ) (home spare : List ℕ) {result : TbSpotted} → TellsSpotted (Spots size shape r table scratch block home spare) result → NumbersBy (λ fields. fields .0) (λ k. (k, 0, 0)) (BlockReadJudged size shape r table scratch block home spare) (spottedFields result)
+pub read-data-numbers : (size : ℕ) (shape : Shape) (r : ℕ) (table scratch : List ℕ) (block : ℕ) (home spare : List ℕ) {result : TbSpotted} → TellsSpotted (Spots size shape r table scratch block home spare) result → NumbersBy (λ fields. fields .0) (λ k. (k, 0, 0)) (DataSizeJudged size andThen BlockReadJudged size shape r table scratch block home spare) (spottedFields result)
 read-data-numbers size shape r table scratch block home spare = told-numbers (reading-spot size shape r table scratch block home spare)

@@ -22,6 +22,8 @@ use Rattle.spares.specs.declared.Counted.{Counted}
 use Rattle.image.specs.Promises.{saidHead, saidVerdict}
 use Rattle.image.specs.declared.Head.{Head}
 use Rattle.image.specs.declared.Verdict.{Verdict}
+use Rattle.mode.specs.Promises.{saidMode}
+use Rattle.mode.specs.declared.Mode.{Mode}
 use Rattle.reading.specs.Promises.{saidSpot}
 use Rattle.reading.specs.declared.answers.Spot.{Spot}
 use Rattle.board.specs.declared.answers.TbPlaced.{TbPlaced}
@@ -36,6 +38,7 @@ use Rattle.board.specs.declared.answers.TbReplaced.{TbReplaced}
 use Rattle.board.specs.declared.answers.TbCounted.{TbCounted}
 use Rattle.board.specs.declared.answers.TbHeaded.{TbHeaded}
 use Rattle.board.specs.declared.answers.TbJudged.{TbJudged}
+use Rattle.board.specs.declared.answers.TbSized.{TbSized}
 use Rattle.board.specs.declared.answers.TbSpotted.{TbSpotted}
 
 -- the fields are the numbers that some answer says which the promise allows; a promise allows one answer
@@ -132,6 +135,13 @@ judgedFields r = r .refusal
 
 abbrev pub TellsJudged : (Verdict → Type 0) → TbJudged → Type 0
 TellsJudged Promise r = Tells saidVerdict Promise (judgedFields r)
+
+-- refusal, size
+abbrev pub sizedFields : TbSized → ℕ × ℕ
+sizedFields r = (r .refusal, r .size)
+
+abbrev pub TellsSized : (Mode → Type 0) → TbSized → Type 0
+TellsSized Promise r = Tells saidMode Promise (sizedFields r)
 
 -- refusal, image, offset
 abbrev pub spottedFields : TbSpotted → ℕ × ℕ × ℕ

@@ -7,11 +7,13 @@ ghost use Rattle.page.specs.Promises.{saidPaged};
 ghost use Rattle.format.specs.Promises.{saidFormatted};
 ghost use Rattle.spares.specs.Promises.{saidShifted, saidReplaced, saidCounted};
 ghost use Rattle.image.specs.Promises.{saidHead, saidVerdict};
+ghost use Rattle.mode.specs.Promises.{saidMode};
 ghost use Rattle.reading.specs.Promises.{saidSpot};
-ghost use Rattle.board.specs.Promises.{placedFields, namedFields, writtenFields, locatedFields, jobFields, pagedFields, formattedFields, shiftedFields, replacedFields, countedFields, headedFields, judgedFields, spottedFields};
+ghost use Rattle.board.specs.Promises.{placedFields, namedFields, writtenFields, locatedFields, jobFields, pagedFields, formattedFields, shiftedFields, replacedFields, countedFields, headedFields, judgedFields, sizedFields, spottedFields};
 use format::Formatted;
 use image::Head;
 use image::Verdict;
+use mode::Mode;
 use page::Paged;
 use paper::Named;
 use paper::Placed;
@@ -117,6 +119,13 @@ pub struct TbHeaded {
 #[repr(C)]
 pub struct TbJudged {
     pub refusal: u32,
+}
+
+// The size of a sector's data.
+#[repr(C)]
+pub struct TbSized {
+    pub refusal: u32,
+    pub size: u32,
 }
 
 // Where the data of a block begins: in image 0, that of its home track, or in image 1, the second one, and how far inside it.
@@ -311,6 +320,15 @@ pub fn judged(answer: Verdict) -> TbJudged
     match answer {
         Verdict::Good => TbJudged { refusal: 0 },
         Verdict::Refused(refusal) => TbJudged { refusal },
+    }
+}
+
+pub fn sized(answer: Mode) -> TbSized
+    ensures { λ result. ⌜ sizedFields result ≡ saidMode answer ⌝ }
+{
+    match answer {
+        Mode::Of(size) => TbSized { refusal: 0, size },
+        Mode::Refused(refusal) => TbSized { refusal, size: 0 },
     }
 }
 

@@ -8,8 +8,9 @@ ghost use Rattle.table.specs.Scratch.{Scratched};
 ghost use Rattle.first_table.specs.Promises.{FirstTable};
 ghost use Rattle.spares.specs.Promises.{SectorOf as SpareSectorOf, AddressOf as SpareAddressOf, ShiftOf, BlockOn as SpareBlockOn, BlockAt as SpareBlockAtOf, Replacement, CensusOf};
 ghost use Rattle.image.specs.Promises.{Write, Header, Judge as ImageVerdict};
-ghost use Rattle.reading.specs.Promises.{Judge as ReadVerdict, Spots};
-ghost use Rattle.board.specs.Promises.{TellsPlaced, TellsNamed, TellsWritten, TellsLocated, TellsJob, TellsPaged, TellsFormatted, TellsShifted, TellsReplaced, TellsCounted, TellsHeaded, TellsJudged, TellsSpotted};
+ghost use Rattle.mode.specs.Promises.{Finds};
+ghost use Rattle.reading.specs.Promises.{Judge as ReadVerdict, Spots, ReadScratched};
+ghost use Rattle.board.specs.Promises.{TellsPlaced, TellsNamed, TellsWritten, TellsLocated, TellsJob, TellsPaged, TellsFormatted, TellsShifted, TellsReplaced, TellsCounted, TellsHeaded, TellsJudged, TellsSized, TellsSpotted};
 
 mod answers;
 
@@ -24,6 +25,7 @@ pub use answers::TbPaged;
 pub use answers::TbPlaced;
 pub use answers::TbReplaced;
 pub use answers::TbShifted;
+pub use answers::TbSized;
 pub use answers::TbSpotted;
 pub use answers::TbWritten;
 use shape::Shape;
@@ -254,39 +256,49 @@ pub extern "C" fn tb_spare_first(shape: Shape, r: u32, list: &[u32], room: &mut 
     answers::written(spares::first_table(shape, r, list, room))
 }
 
-// Writes the image of a block's data, good or forced, with the code that tells where the block is, and answers its length. Checks 14, 5, 22, 7.
+// Writes the image of a block's data, good or forced, with the code that tells where the block is, and answers its length. Checks 1, 14, 5, 22, 7.
 #[no_mangle]
 pub extern "C" fn tb_image_write(
+    size: u32,
     block: u32,
     code: u32,
     data: &[u8],
     forced: bool,
     room: &mut [u8],
 ) -> TbWritten
-    ensures { λ result. ⌜ TellsWritten (λ answer. Write block code (now («data» .entry)) forced (now (room .entry)) answer (now (room .exit))) result ⌝ }
+    ensures { λ result. ⌜ TellsWritten (λ answer. Write size block code (now («data» .entry)) forced (now (room .entry)) answer (now (room .exit))) result ⌝ }
 {
-    answers::written(image::write(block, code, data, forced, room))
+    answers::written(image::write(size, block, code, data, forced, room))
 }
 
-// The code and the block that the header of an image says. Checks 14, 15, 16.
+// The code and the block that the header of an image says. Checks 1, 14, 15, 16.
 #[no_mangle]
-pub extern "C" fn tb_image_header(image: &[u8]) -> TbHeaded
-    ensures { λ result. ⌜ TellsHeaded (Header (now (image .entry))) result ⌝ }
+pub extern "C" fn tb_image_header(size: u32, image: &[u8]) -> TbHeaded
+    ensures { λ result. ⌜ TellsHeaded (Header size (now (image .entry))) result ⌝ }
 {
-    answers::headed(image::header(image))
+    answers::headed(image::header(size, image))
 }
 
-// The verdict on the image of a block with a code. Checks 14, 15, 16, then 17 or 18.
+// The verdict on the image of a block with a code. Checks 1, 14, 15, 16, then 17 or 18.
 #[no_mangle]
-pub extern "C" fn tb_image_judge(image: &[u8], block: u32, code: u32) -> TbJudged
-    ensures { λ result. ⌜ TellsJudged (ImageVerdict (now (image .entry)) block code) result ⌝ }
+pub extern "C" fn tb_image_judge(size: u32, image: &[u8], block: u32, code: u32) -> TbJudged
+    ensures { λ result. ⌜ TellsJudged (ImageVerdict size (now (image .entry)) block code) result ⌝ }
 {
-    answers::judged(image::judge(image, block, code))
+    answers::judged(image::judge(size, image, block, code))
+}
+
+// The size of the drive's sectors, from the sector images of the XBN area, in which copies of the format table begin so many sectors apart. Checks 1, 21.
+#[no_mangle]
+pub extern "C" fn tb_mode(images: &[u8], apart: u32) -> TbSized
+    ensures { λ result. ⌜ TellsSized (Finds (now (images .entry)) apart) result ⌝ }
+{
+    answers::sized(mode::find(images, apart))
 }
 
 // The verdict on a block from the images of its home track and of its spare's track. Checks 1, 7, 11, 5, 14, 15 to 18.
 #[no_mangle]
 pub extern "C" fn tb_read_judge<'a>(
+    size: u32,
     shape: Shape,
     r: u32,
     table: &[u32],
@@ -295,15 +307,16 @@ pub extern "C" fn tb_read_judge<'a>(
     home: &'a [u8],
     spare: &'a [u8],
 ) -> TbJudged
-    ensures { λ result. ⌜ TellsJudged (ReadVerdict shape r (now (table .entry)) (now (scratch .entry)) block (now (home .entry)) (now (spare .entry))) result ⌝ }
-    ensures { λ result. ⌜ Scratched shape r (now (scratch .entry)) (now (scratch .exit)) ⌝ }
+    ensures { λ result. ⌜ TellsJudged (ReadVerdict size shape r (now (table .entry)) (now (scratch .entry)) block (now (home .entry)) (now (spare .entry))) result ⌝ }
+    ensures { λ result. ⌜ ReadScratched size shape r (now (scratch .entry)) (now (scratch .exit)) ⌝ }
 {
-    answers::judged(reading::judge(shape, r, table, scratch, block, home, spare))
+    answers::judged(reading::judge(size, shape, r, table, scratch, block, home, spare))
 }
 
-// In which image, and how far inside it, the 512 bytes of a good block begin. Checks 1, 7, 11, 5, 14, 15 to 18.
+// In which image, and how far inside it, the data of a good block begins. Checks 1, 7, 11, 5, 14, 15 to 18.
 #[no_mangle]
 pub extern "C" fn tb_read_data<'a>(
+    size: u32,
     shape: Shape,
     r: u32,
     table: &[u32],
@@ -312,8 +325,8 @@ pub extern "C" fn tb_read_data<'a>(
     home: &'a [u8],
     spare: &'a [u8],
 ) -> TbSpotted
-    ensures { λ result. ⌜ TellsSpotted (Spots shape r (now (table .entry)) (now (scratch .entry)) block (now (home .entry)) (now (spare .entry))) result ⌝ }
-    ensures { λ result. ⌜ Scratched shape r (now (scratch .entry)) (now (scratch .exit)) ⌝ }
+    ensures { λ result. ⌜ TellsSpotted (Spots size shape r (now (table .entry)) (now (scratch .entry)) block (now (home .entry)) (now (spare .entry))) result ⌝ }
+    ensures { λ result. ⌜ ReadScratched size shape r (now (scratch .entry)) (now (scratch .exit)) ⌝ }
 {
-    answers::spotted(reading::spot(shape, r, table, scratch, block, home, spare))
+    answers::spotted(reading::spot(size, shape, r, table, scratch, block, home, spare))
 }

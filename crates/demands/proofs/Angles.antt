@@ -2,11 +2,14 @@
 -- Assumes nothing.
 use Prim.Native.Nat.{ℕ, zero, suc, _<_}
 use mathlib.Core.Path.{_≡_, refl, sym, _∙_, ap, subst}
+use mathlib.Core.List.{List}
 use native.Mathlib.Nat.{mod-lt}
 use native.Mathlib.Omega.{arith}
-use Rattle.paper.specs.Checks.{answer}
+use Rattle.paper.specs.Checks.{_orElse_, answer}
 use Rattle.paper.specs.Exactly.{When}
+use Rattle.paper.specs.Limits.{isSize, dataSizeFault}
 use Rattle.paper.specs.Refusals.{outOfRange}
+use Rattle.paper.proofs.Cases.{byBool}
 use Rattle.paper.proofs.Chain.{orElse-first}
 use Rattle.paper.proofs.Kept.{gives-one, fills-refuses}
 use Rattle.paper.specs.declared.Written.the-variants.{Refused as NotWritten}
@@ -27,7 +30,7 @@ use Rattle.table.specs.Scratch.{scratchFault}
 use Rattle.spares.specs.declared.Replaced.the-variants.{Refused as NotReplaced}
 use Rattle.reading.specs.Faults.{lentFault, blockReadFault}
 use Rattle.demands.specs.Angles.{Answered, for-sector, by-list, by-table, Angled, BothAngled, Alike, InAnyGroups, butAngle, EachCall, Angles}
-use Rattle.demands.proofs.Determined.{spares-replace, spares-first-table, reading-data, scratch}
+use Rattle.demands.proofs.Determined.{spares-replace, spares-first-table, reading-data, scratch, read-scratch}
 
 -- an address that is answered is that of a sector number, on a drive whose shape passes
 record Found (shape : Shape) (address : Address) : Type 0 where
@@ -131,6 +134,16 @@ same-but-angle :
 same-but-angle fault one other same here there =
     ap butAngle (here .says) ∙ (but-angle-answered fault (saidLocated (LocatedAt one)) (saidLocated (LocatedAt other)) same ∙ sym (ap butAngle (there .says)))
 
+-- 1 for the size, or 1 after it, is 1
+one-either : (size : ℕ) → (dataSizeFault size orElse outOfRange) ≡ outOfRange
+unfolding dataSizeFault
+one-either size = byBool (isSize size) (λ e. rw e) (λ e. rw e)
+
+-- what is left alike where a call refuses and where it accepts is left so
+answered-alike : (fault : ℕ) (left : List ℕ) → answer fault (λ k. left) left ≡ left
+answered-alike zero left = refl
+answered-alike (suc fault) left = refl
+
 each-call : EachCall
 unfolding lentFault blockReadFault
 each-call =
@@ -153,13 +166,16 @@ each-call =
           in-any-groups _
           (λ shape bad outcome given. spares-first-table shape r list room outcome (NotWritten outOfRange, room) given (fills-refuses (λ k. refl) outOfRange (rw bad) (omega arith)))
           (λ shape g tracks offset one other first second here there. spares-first-table shape r list room first second here (rw one (rw other at there)));
-      read-judge = λ size r t scratch b home spare. in-any-groups _ (λ shape bad answer given. rw bad at (given .answers)) (λ shape g tracks offset one other first second here there. gives-one (rw one at here) (rw other at there));
-      read-spot = λ size r t scratch b home spare. in-any-groups _ (λ shape bad answer given. rw bad at (given .answers)) (λ shape g tracks offset one other first second here there. gives-one (rw one at here) (rw other at there));
+      read-judge = λ size r t scratch b home spare. in-any-groups _ (λ shape bad answer given. (rw bad at (given .answers)) ∙ rw (one-either size)) (λ shape g tracks offset one other first second here there. gives-one (rw one at here) (rw other at there));
+      read-spot = λ size r t scratch b home spare. in-any-groups _ (λ shape bad answer given. (rw bad at (given .answers)) ∙ rw (one-either size)) (λ shape g tracks offset one other first second here there. gives-one (rw one at here) (rw other at there));
       read-data = λ size r t scratch b home spare.
           in-any-groups _
-          (λ shape bad part given. rw bad at given)
+          (λ shape bad part given. rw (one-either size) at (rw bad at given))
           (λ shape g tracks offset one other first second here there. reading-data size shape r t scratch b home spare first second here (rw one (rw other at there)));
       scratch-left = λ r before. in-any-groups _ (λ shape bad after given. rw bad at given) (λ shape g tracks offset one other first second here there. scratch shape r before first second here (rw one (rw other at there)));
+      read-scratch-left = λ size r before.
+          in-any-groups _ (λ shape bad after given. (rw bad at given) ∙ answered-alike (dataSizeFault size) before)
+          (λ shape g tracks offset one other first second here there. read-scratch size shape r before first second here (rw one (rw other at there)));
     }
 
 pub angles : Angles

@@ -9,8 +9,8 @@ use lib.ListN.{length, getD, set, replicate}
 use lib.Seq.{sets}
 use denote.Ref.{RefT}
 use Rattle.paper.specs.Checks.{pick, refuse, _orElse_, answer}
-use Rattle.paper.specs.Limits.{tableBlock, dataSize, headerSize, imageExtra}
-use Rattle.paper.specs.Refusals.{noSuchBlock, noRoom, badTable, noSpare, otherBlock, forcedError, unknownCode}
+use Rattle.paper.specs.Limits.{tableBlock, dataSize, headerSize, imageExtra, isSize, dataSizeFault}
+use Rattle.paper.specs.Refusals.{outOfRange, noSuchBlock, noRoom, badTable, noSpare, otherBlock, forcedError, noMode, unknownCode}
 use Rattle.paper.specs.declared.Placed.{Placed}
 use Rattle.paper.specs.declared.Placed.the-variants.{At, Refused as NotPlaced}
 use Rattle.seek.specs.Search.{firstOr, rising}
@@ -58,12 +58,15 @@ use Rattle.spares.specs.declared.Shifted.{Shifted}
 use Rattle.spares.specs.declared.Shifted.the-variants.{By, Refused as NotShifted}
 use Rattle.spares.specs.declared.Counted.{Counted}
 use Rattle.spares.specs.declared.Counted.the-variants.{Counts, Refused as NotCounted}
-use Rattle.image.specs.Header.{isKnown}
-use Rattle.image.specs.Image.{copiesMade, headerOf, storedIn, foundIn, dataOf, imageOf, lengthFault, copiesFault, codeFault, contentsFault}
+use Rattle.image.specs.Header.{atHome, isKnown}
+use Rattle.image.specs.Image.{copiesMade, headerOf, storedIn, foundIn, dataOf, imageOf, lengthFault, copiesFault, codeFault, contentsFault, imageFault}
 use Rattle.image.specs.declared.Head.{Head}
 use Rattle.image.specs.declared.Head.the-variants.{Of, Refused as NoHead}
 use Rattle.image.specs.declared.Verdict.{Verdict}
 use Rattle.image.specs.declared.Verdict.the-variants.{Good, Refused as NotGood}
+use Rattle.mode.specs.declared.Mode.{Mode}
+use Rattle.mode.specs.declared.Mode.the-variants.{Of as ModeOf, Refused as NoMode}
+use Rattle.mode.specs.Modes.{xbnImage, firstWord, sizeIn, modeOf}
 use Rattle.reading.specs.Tracks.{bytesIn, imageAt, imageFor}
 use Rattle.reading.specs.Faults.{lentFault}
 use Rattle.demands.specs.Inputs.{few, eight}
@@ -362,44 +365,60 @@ takesLowest shape r t scratch b = (
   answer (replaceFault shape r t scratch b) (λ fault. t) (set (killedIn t b) (lowestFree t) (descriptorAt (driveOf shape r) (lowestFree t) b)),
 )
 
--- Boards for images.
+-- Boards for images. Each is handed the size first and looks at it before all else, as the call that it stands for.
 
 -- image::judge: takes every mismatch for a forced error
-abbrev pub everyForced : List ℕ → ℕ → ℕ → Verdict
-everyForced image block code =
+abbrev pub everyForced : ℕ → List ℕ → ℕ → ℕ → Verdict
+everyForced size image block code =
     answer
-    (lengthFault (dataSize + imageExtra) image
+    (dataSizeFault size
+    orElse (lengthFault (size + imageExtra) image
     orElse (copiesFault image
     orElse (refuse (not (isKnown code && (eqb (codeOf (headerOf image)) code && eqb (numberOf (headerOf image)) block))) otherBlock
-    orElse refuse (not (eqb (storedIn dataSize image) (foundIn dataSize image))) forcedError)))
+    orElse refuse (not (eqb (storedIn size image) (foundIn size image))) forcedError))))
+    NotGood Good
+
+-- image::judge: codes 256 words at either size
+abbrev pub codesShort : ℕ → List ℕ → ℕ → ℕ → Verdict
+codesShort size image block code =
+    answer
+    (dataSizeFault size
+    orElse (lengthFault (size + imageExtra) image
+    orElse (copiesFault image
+    orElse (refuse (not (isKnown code && (eqb (codeOf (headerOf image)) code && eqb (numberOf (headerOf image)) block))) otherBlock
+    orElse codeFault (storedIn size image) (foundIn dataSize image)))))
     NotGood Good
 
 -- image::judge: makes a word of whatever block and code are expected, and compares it
-abbrev pub comparesWord : List ℕ → ℕ → ℕ → Verdict
-comparesWord image block code = answer (lengthFault (dataSize + imageExtra) image orElse contentsFault dataSize image (wordOf code block)) NotGood Good
+abbrev pub comparesWord : ℕ → List ℕ → ℕ → ℕ → Verdict
+comparesWord size image block code =
+    answer (dataSizeFault size orElse (lengthFault (size + imageExtra) image orElse contentsFault size image (wordOf code block))) NotGood Good
 
 -- image::header: answers whatever code the header has
-abbrev pub answersFourth : List ℕ → Head
-answersFourth image =
-    answer (lengthFault (dataSize + imageExtra) image orElse copiesFault image) NoHead (Of (codeOf (headerOf image)) (numberOf (headerOf image)))
+abbrev pub answersFourth : ℕ → List ℕ → Head
+answersFourth size image =
+    answer (dataSizeFault size orElse (lengthFault (size + imageExtra) image orElse copiesFault image)) NoHead
+    (Of (codeOf (headerOf image)) (numberOf (headerOf image)))
 
--- image::write: checks 14, 22, 5, 7
-abbrev pub codeFirst : ℕ → ℕ → List ℕ → List ℕ → ℕ
-codeFirst block code bytes room =
-    lengthFault dataSize bytes
+-- image::write: checks 1, 14, 22, 5, 7
+abbrev pub codeFirst : ℕ → ℕ → ℕ → List ℕ → List ℕ → ℕ
+codeFirst size block code bytes room =
+    dataSizeFault size
+    orElse (lengthFault size bytes
     orElse (refuse (not (isKnown code)) unknownCode
     orElse (refuse (leb codeUnit block) noSuchBlock
-    orElse refuse (ltb (length room) (dataSize + imageExtra)) noRoom))
+    orElse refuse (ltb (length room) (size + imageExtra)) noRoom)))
 
 -- reading::judge: of the header compares the block alone
-abbrev pub comparesBlock : Shape → ℕ → List ℕ → List ℕ → ℕ → List ℕ → List ℕ → Verdict
-comparesBlock shape r t scratch b home spare =
-    let image = imageFor dataSize (driveOf shape r) t b home spare in
+abbrev pub comparesBlock : ℕ → Shape → ℕ → List ℕ → List ℕ → ℕ → List ℕ → List ℕ → Verdict
+comparesBlock size shape r t scratch b home spare =
+    let image = imageFor size (driveOf shape r) t b home spare in
     answer
-    (lentFault dataSize shape r t scratch b home spare
+    (dataSizeFault size
+    orElse (lentFault size shape r t scratch b home spare
     orElse (copiesFault image
     orElse (refuse (not (eqb (numberOf (headerOf image)) b)) otherBlock
-    orElse codeFault (storedIn dataSize image) (foundIn dataSize image))))
+    orElse codeFault (storedIn size image) (foundIn size image)))))
     NotGood Good
 
 -- the part of lent bytes that begins at a place of them
@@ -407,13 +426,46 @@ abbrev pub partAt : RefT (List ℕ) → ℕ → List ℕ → RefT (List ℕ)
 partAt bytes at held = record { ptr = (bytes .ptr .0, at + bytes .ptr .1); name = bytes .name; now = held }
 
 -- the sector image at a block's home
-abbrev pub homeImage : Shape → ℕ → ℕ → List ℕ → List ℕ
-homeImage shape r b home = imageAt dataSize (bytesIn dataSize (b % driveOf shape r .l)) home
+abbrev pub homeImage : ℕ → Shape → ℕ → ℕ → List ℕ → List ℕ
+homeImage size shape r b home = imageAt size (bytesIn size (b % driveOf shape r .l)) home
 
 -- reading::data: looks at home for every block
-abbrev pub readsHome : Shape → ℕ → List ℕ → List ℕ → ℕ → RefT (List ℕ) → RefT (List ℕ) → RefT (List ℕ)
-readsHome shape r t scratch b home spare =
+abbrev pub readsHome : ℕ → Shape → ℕ → List ℕ → List ℕ → ℕ → RefT (List ℕ) → RefT (List ℕ) → RefT (List ℕ)
+readsHome size shape r t scratch b home spare =
     answer
-    (lentFault dataSize shape r t scratch b (home .now) (spare .now) orElse contentsFault dataSize (homeImage shape r b (home .now)) b)
+    (dataSizeFault size
+    orElse (lentFault size shape r t scratch b (home .now) (spare .now)
+    orElse contentsFault size (homeImage size shape r b (home .now)) b))
     (λ fault. partAt home 0 [])
-    (partAt home (bytesIn dataSize (b % driveOf shape r .l) + headerSize) (dataOf dataSize (homeImage shape r b (home .now))))
+    (partAt home (bytesIn size (b % driveOf shape r .l) + headerSize) (dataOf size (homeImage size shape r b (home .now))))
+
+-- Boards for the mode sector.
+
+-- what mode::find answers where it comes to this size, or to none, which is 0
+abbrev pub modeFrom : ℕ → ℕ → Mode
+modeFrom apart size = answer (refuse (eqb apart 0) outOfRange orElse refuse (eqb size 0) noMode) NoMode (ModeOf size)
+
+-- the XBN of the first copy whose image passes a test
+abbrev pub firstCopy : (List ℕ → ℕ → Bool) → List ℕ → ℕ → ℕ
+firstCopy test images apart = firstBelow (λ k. test (xbnImage images (k * apart)) (k * apart)) (length images) * apart
+
+-- the size that an image says, good or forced
+abbrev pub sizeForced : List ℕ → ℕ → ℕ
+sizeForced image xbn =
+    pick ((eqb (imageFault dataSize image xbn atHome) 0 || eqb (imageFault dataSize image xbn atHome) forcedError) && isSize (firstWord image)) (firstWord image) 0
+
+-- mode::find: takes a forced copy
+abbrev pub takesForced : List ℕ → ℕ → Mode
+takesForced images apart =
+    let xbn = firstCopy (λ image number. not (eqb (sizeForced image number) 0)) images apart in
+    modeFrom apart (sizeForced (xbnImage images xbn) xbn)
+
+-- mode::find: goes one sector on to the next copy, however far apart they are
+abbrev pub goesOneOn : List ℕ → ℕ → Mode
+goesOneOn images apart = modeFrom apart (modeOf images 1)
+
+-- mode::find: looks no further than the first copy that is good, whatever its first word is
+abbrev pub stopsUnknown : List ℕ → ℕ → Mode
+stopsUnknown images apart =
+    let xbn = firstCopy (λ image number. eqb (imageFault dataSize image number atHome) 0) images apart in
+    modeFrom apart (sizeIn (xbnImage images xbn) xbn)

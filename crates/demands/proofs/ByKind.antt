@@ -51,10 +51,13 @@ use Rattle.image.specs.declared.Head.{Head}
 use Rattle.image.specs.declared.Head.the-variants.{Of, Refused as NoHead}
 use Rattle.image.specs.declared.Verdict.{Verdict}
 use Rattle.image.specs.declared.Verdict.the-variants.{Good, Refused as NotGood}
+use Rattle.mode.specs.Promises.{saidMode, GivesMode}
+use Rattle.mode.specs.declared.Mode.{Mode}
+use Rattle.mode.specs.declared.Mode.the-variants.{Of as ModeOf, Refused as NoMode}
 use Rattle.reading.specs.Promises.{saidSpot, GivesSpot}
 use Rattle.reading.specs.declared.answers.Spot.{Spot}
 use Rattle.reading.specs.declared.answers.Spot.the-variants.{InHome, InSpare, Refused as NotSpotted}
-use Rattle.demands.specs.Numbered.{JobRefused, PlacedBy, NamedBy, WrittenBy, LocatedBy, JobBy, PagedBy, FormattedBy, ShiftedBy, ReplacedBy, CountedBy, HeadBy, VerdictBy, SpotBy}
+use Rattle.demands.specs.Numbered.{JobRefused, PlacedBy, NamedBy, WrittenBy, LocatedBy, JobBy, PagedBy, FormattedBy, ShiftedBy, ReplacedBy, CountedBy, HeadBy, VerdictBy, ModeBy, SpotBy}
 use Rattle.demands.proofs.Chains.{by-the-numbers}
 
 -- a block or no block, and no refusal
@@ -168,6 +171,11 @@ module _ {Judged : ℕ → Type 0} {fault : ℕ} (exactly : Exactly Judged fault
   pub verdict-by : {result : Verdict} → GivesVerdict fault Good result → VerdictBy Judged result
   verdict-by given =
       by-the-numbers (λ number. number) (λ k. refl) refl (λ k result. result ≡ NotGood k) (λ k e. ap saidVerdict e)
+      (λ clash. let z : _≡_ {A = ℕ} 0 1 = cc in absurd (omega arith)) given exactly
+
+  pub mode-by : {size : ℕ} {result : Mode} → GivesMode fault (ModeOf size) result → ModeBy Judged result
+  mode-by given =
+      by-the-numbers (λ numbers. numbers .0) (λ k. refl) refl (λ k result. result ≡ NoMode k) (λ k e. ap (λ (r : Mode). saidMode r .0) e)
       (λ clash. let z : _≡_ {A = ℕ} 0 1 = cc in absurd (omega arith)) given exactly
 
   pub spot-by : (on-spare : Bool) (offset : ℕ) {result : Spot} → GivesSpot fault (pick on-spare InSpare InHome offset) result → SpotBy Judged result

@@ -8,6 +8,11 @@ use mathlib.Core.List.{List}
 use lib.ListN.{length}
 use denote.Ref.{RefT}
 use Rattle.paper.specs.Answers.{saidWritten}
+use Rattle.paper.specs.Checks.{_orElse_}
+use Rattle.paper.specs.Exactly.{_andThen_}
+use Rattle.paper.specs.Limits.{dataSizeFault, DataSizeJudged}
+use Rattle.paper.proofs.Chain.{orElse-next}
+use Rattle.paper.proofs.Rows.{sized-exactly}
 use Rattle.paper.specs.declared.Placed.{Placed}
 use Rattle.paper.specs.declared.Named.{Named}
 use Rattle.paper.specs.declared.Written.{Written}
@@ -49,24 +54,28 @@ use Rattle.spares.proofs.Exact.{block-on-exactly as spare-block-on-exactly, blo
 use Rattle.table.proofs.Exact.{block-exactly}
 use Rattle.image.specs.Image.{imageFault}
 use Rattle.image.specs.Judged.{HeaderJudged, ImageJudged, WriteJudged}
-use Rattle.image.specs.Promises.{WriteSized, HeaderSized, JudgeSized, DataSized}
+use Rattle.image.specs.Promises.{LendsNone, LendsData, Write, Header, Judge, Data}
 use Rattle.image.specs.declared.Head.{Head}
 use Rattle.image.specs.declared.Verdict.{Verdict}
 use Rattle.image.proofs.Exact.{header-exactly, judge-exactly, write-exactly, image-length}
 use Rattle.image.proofs.Images.{length-data}
-use Rattle.image.proofs.Lent.{refused-empty, accepted-data}
+use Rattle.image.proofs.Lent.{part-refused, part-accepted}
+use Rattle.mode.specs.declared.Mode.{Mode}
+use Rattle.mode.specs.Modes.{ModeJudged}
+use Rattle.mode.specs.Promises.{Finds}
+use Rattle.mode.proofs.Exact.{mode-exactly}
 use Rattle.reading.specs.Tracks.{dataStart}
 use Rattle.reading.specs.Faults.{blockReadFault}
 use Rattle.reading.specs.Judged.{BlockReadJudged}
-use Rattle.reading.specs.Promises.{JudgeSized as ReadJudge, DataSized as ReadData, SpotSized as Spots}
+use Rattle.reading.specs.Promises.{LendsBlock, Judge as ReadJudge, Data as ReadData, Spots}
 use Rattle.reading.specs.declared.answers.Spot.{Spot}
 use Rattle.reading.proofs.Exact.{read-exactly}
-use Rattle.reading.proofs.Parts.{read-length, refused-empty as read-refused-empty, accepted-data as read-accepted-data}
+use Rattle.reading.proofs.Parts.{read-length}
 use Rattle.demands.specs.Relations.{Keeps, PartBy}
-use Rattle.demands.specs.Numbered.{PlacedBy, NamedBy, WrittenBy, LocatedBy, JobBy, PagedBy, FormattedBy, ShiftedBy, ReplacedBy, CountedBy, HeadBy, VerdictBy, SpotBy}
+use Rattle.demands.specs.Numbered.{PlacedBy, NamedBy, WrittenBy, LocatedBy, JobBy, PagedBy, FormattedBy, ShiftedBy, ReplacedBy, CountedBy, HeadBy, VerdictBy, ModeBy, SpotBy}
 use Rattle.demands.specs.Demand1.{EachByTheNumbers, EachKeeps, Demand1}
 use Rattle.demands.proofs.Chains.{keeps}
-use Rattle.demands.proofs.ByKind.{found-naming, lying-naming, placed-by, named-by, written-by, located-by, ready-by, stepped-by, paged-by, formatted-by, shifted-by, replaced-by, counted-by, head-by, verdict-by, spot-by}
+use Rattle.demands.proofs.ByKind.{found-naming, lying-naming, placed-by, named-by, written-by, located-by, ready-by, stepped-by, paged-by, formatted-by, shifted-by, replaced-by, counted-by, head-by, verdict-by, mode-by, spot-by}
 use Rattle.demands.proofs.Rooms.{each-hands}
 use Rattle.demands.proofs.Determined.{each-determined}
 use Rattle.demands.proofs.ThereAndBack.{each-again}
@@ -181,58 +190,69 @@ module _ (shape : Shape) (r : ℕ) (list room : List ℕ) (result : Written) (af
   spares-first-table-keeps = keeps (λ said. said .0) (λ k. refl) refl promise
 
 -- the sector image
-module _ (size block code : ℕ) (bytes : List ℕ) (forced : Bool) (room : List ℕ) (result : Written) (after : List ℕ) (promise : WriteSized size block code bytes forced room result after) where
-  pub image-write : WrittenBy (WriteJudged size block code bytes room) result
-  image-write = written-by (write-exactly size block code bytes room) (fills-gives promise)
+module _ (size block code : ℕ) (bytes : List ℕ) (forced : Bool) (room : List ℕ) (result : Written) (after : List ℕ) (promise : Write size block code bytes forced room result after) where
+  pub image-write : WrittenBy (DataSizeJudged size andThen WriteJudged size block code bytes room) result
+  image-write = written-by (sized-exactly size (WriteJudged size block code bytes room) (write-exactly size block code bytes room)) (fills-gives promise)
 
   pub image-write-keeps : Keeps (saidWritten result .0) room after
   image-write-keeps = keeps (λ said. said .0) (λ k. refl) refl promise
 
-pub image-header : (size : ℕ) (image : List ℕ) (result : Head) → HeaderSized size image result → HeadBy (HeaderJudged size image) result
-image-header size image result promise = head-by (header-exactly image size) promise
+pub image-header : (size : ℕ) (image : List ℕ) (result : Head) → Header size image result → HeadBy (DataSizeJudged size andThen HeaderJudged size image) result
+image-header size image result promise = head-by (sized-exactly size (HeaderJudged size image) (header-exactly image size)) promise
 
-pub image-judge : (size : ℕ) (image : List ℕ) (block code : ℕ) (result : Verdict) → JudgeSized size image block code result → VerdictBy (ImageJudged size image block code) result
-image-judge size image block code result promise = verdict-by (judge-exactly image size block code) promise
+pub image-judge :
+    (size : ℕ) (image : List ℕ) (block code : ℕ) (result : Verdict) → Judge size image block code result →
+    VerdictBy (DataSizeJudged size andThen ImageJudged size image block code) result
+image-judge size image block code result promise = verdict-by (sized-exactly size (ImageJudged size image block code) (judge-exactly image size block code)) promise
 
 -- the part is empty exactly where the verdict refuses
 pub image-data :
-    (size : ℕ) (image : RefT (List ℕ)) (block code : ℕ) (part : RefT (List ℕ)) → DataSized size image block code part →
-    PartBy (ImageJudged size (image .now) block code) size (part .now)
+    (size : ℕ) (image : RefT (List ℕ)) (block code : ℕ) (part : RefT (List ℕ)) → Data size image block code part →
+    PartBy (DataSizeJudged size andThen ImageJudged size (image .now) block code) size (part .now)
 image-data size image block code part promise =
+    let fault = imageFault size (image .now) block code in
     record {
-      number = imageFault size (image .now) block code;
-      exactly = judge-exactly (image .now) size block code;
-      refused-empty = refused-empty size image block code part promise;
+      number = dataSizeFault size orElse fault;
+      exactly = sized-exactly size (ImageJudged size (image .now) block code) (judge-exactly (image .now) size block code);
+      refused-empty = λ some. part-refused (LendsNone image) (LendsData size image) part (dataSizeFault size orElse fault) some promise .holds;
       accepted-whole =
           λ passes.
-          ap length (accepted-data size image block code part promise passes)
-          ∙ length-data size (image .now) (image-length (image .now) size block code passes);
+          ap length (part-accepted (LendsNone image) (LendsData size image) part (dataSizeFault size orElse fault) passes promise .holds)
+          ∙ length-data size (image .now) (image-length (image .now) size block code (orElse-next (dataSizeFault size) fault passes));
     }
+
+-- the mode sector
+pub mode-find : (images : List ℕ) (apart : ℕ) (result : Mode) → Finds images apart result → ModeBy (ModeJudged images apart) result
+mode-find images apart result promise = mode-by (mode-exactly images apart) promise
 
 -- a read of a revectored block
 module _ (size : ℕ) (shape : Shape) (r : ℕ) (t scratch : List ℕ) (b : ℕ) where
   pub reading-judge :
       (home spare : List ℕ) (result : Verdict) → ReadJudge size shape r t scratch b home spare result →
-      VerdictBy (BlockReadJudged size shape r t scratch b home spare) result
-  reading-judge home spare result promise = verdict-by (read-exactly size shape r t scratch b home spare) promise
+      VerdictBy (DataSizeJudged size andThen BlockReadJudged size shape r t scratch b home spare) result
+  reading-judge home spare result promise =
+      verdict-by (sized-exactly size (BlockReadJudged size shape r t scratch b home spare) (read-exactly size shape r t scratch b home spare)) promise
 
   pub reading-spot :
       (home spare : List ℕ) (result : Spot) → Spots size shape r t scratch b home spare result →
-      SpotBy (BlockReadJudged size shape r t scratch b home spare) result
-  reading-spot home spare result promise = spot-by (read-exactly size shape r t scratch b home spare) (isReplaced t b) (dataStart size (driveOf shape r) t b) promise
+      SpotBy (DataSizeJudged size andThen BlockReadJudged size shape r t scratch b home spare) result
+  reading-spot home spare result promise =
+      spot-by (sized-exactly size (BlockReadJudged size shape r t scratch b home spare) (read-exactly size shape r t scratch b home spare))
+      (isReplaced t b) (dataStart size (driveOf shape r) t b) promise
 
   pub reading-data :
       (home spare part : RefT (List ℕ)) → ReadData size shape r t scratch b home spare part →
-      PartBy (BlockReadJudged size shape r t scratch b (home .now) (spare .now)) size (part .now)
+      PartBy (DataSizeJudged size andThen BlockReadJudged size shape r t scratch b (home .now) (spare .now)) size (part .now)
   reading-data home spare part promise =
+      let fault = blockReadFault size shape r t scratch b (home .now) (spare .now) in
       record {
-        number = blockReadFault size shape r t scratch b (home .now) (spare .now);
-        exactly = read-exactly size shape r t scratch b (home .now) (spare .now);
-        refused-empty = read-refused-empty size shape r t scratch b home spare part promise;
+        number = dataSizeFault size orElse fault;
+        exactly = sized-exactly size (BlockReadJudged size shape r t scratch b (home .now) (spare .now)) (read-exactly size shape r t scratch b (home .now) (spare .now));
+        refused-empty = λ some. part-refused (LendsNone home) (LendsBlock size shape r t b home spare) part (dataSizeFault size orElse fault) some promise .holds;
         accepted-whole =
             λ passes.
-            ap length (read-accepted-data size shape r t scratch b home spare part promise passes)
-            ∙ read-length size shape r t scratch b (home .now) (spare .now) passes;
+            ap length (part-accepted (LendsNone home) (LendsBlock size shape r t b home spare) part (dataSizeFault size orElse fault) passes promise .holds)
+            ∙ read-length size shape r t scratch b (home .now) (spare .now) (orElse-next (dataSizeFault size) fault passes);
       }
 
 -- each sentence, call by call
@@ -263,6 +283,7 @@ each-by-the-numbers =
       image-header = image-header;
       image-judge = image-judge;
       image-data = image-data;
+      mode-find = mode-find;
       reading-judge = reading-judge;
       reading-spot = reading-spot;
       reading-data = reading-data;

@@ -1,12 +1,15 @@
 -- Each public call's promise leaves no choice: what it allows for the same inputs is one result, one content of each lent room, one part and one place of it.
 -- Assumes nothing.
-use Prim.Native.Nat.{ℕ}
-use mathlib.Core.Path.{_≡_, sym, _∙_}
+use Prim.Native.Nat.{ℕ, _+_}
+use mathlib.Core.Path.{_≡_, refl, sym, _∙_}
 use mathlib.Core.Bool.{Bool}
 use mathlib.Core.List.{List}
+use lib.ListN.{length}
 use denote.Ref.{RefT}
+use Rattle.paper.specs.Limits.{imageExtra, Size}
 use Rattle.paper.specs.Promise.{Gives, Fills}
-use Rattle.paper.proofs.Kept.{gives-one, fills-one}
+use Rattle.paper.proofs.Kept.{gives-one, gives-number, fills-one}
+use Rattle.paper.proofs.Rows.{data-size-passes}
 use Rattle.shape.specs.declared.Shape.{Shape}
 use Rattle.shape.specs.Promises as Shapes
 use Rattle.skip.specs.declared.Cursor.{Cursor}
@@ -18,11 +21,14 @@ use Rattle.format.specs.Promises.{Formats}
 use Rattle.table.specs.Scratch.{Scratched}
 use Rattle.first_table.specs.Promises.{FirstTable}
 use Rattle.spares.specs.Promises as Spares
+use Rattle.image.specs.declared.Verdict.{Verdict}
+use Rattle.image.specs.Image.{pairFault}
 use Rattle.image.specs.Judged.{ContentsJudged}
 use Rattle.image.specs.Promises as Image
-use Rattle.image.proofs.Exact.{sector-one}
+use Rattle.image.proofs.Exact.{sector-one, pair-exactly, image-pair}
 use Rattle.image.proofs.Lent.{data-one}
 use Rattle.reading.specs.Promises as Reading
+use Rattle.mode.specs.Promises.{Finds}
 use Rattle.reading.proofs.Parts.{data-one as read-one}
 use Rattle.demands.specs.Relations.{OneResult, OneFilled, OneFilledTwice, OneLent}
 use Rattle.demands.specs.Demand1.{EachDetermined}
@@ -107,38 +113,53 @@ pub spares-first-table : (shape : Shape) (r : ℕ) (list room : List ℕ) → On
 spares-first-table shape r list room = fills-determines _ _ _ _ _ _ _
 
 module _ (size : ℕ) where
-  pub image-write : (block code : ℕ) (bytes : List ℕ) (forced : Bool) (room : List ℕ) → OneFilled (Image.WriteSized size block code bytes forced room)
+  pub image-write : (block code : ℕ) (bytes : List ℕ) (forced : Bool) (room : List ℕ) → OneFilled (Image.Write size block code bytes forced room)
   image-write block code bytes forced room = fills-determines _ _ _ _ _ _ _
 
-  pub image-header : (image : List ℕ) → OneResult (Image.HeaderSized size image)
+  pub image-header : (image : List ℕ) → OneResult (Image.Header size image)
   image-header image = gives-determines _ _ _ _ _
 
-  pub image-judge : (image : List ℕ) (block code : ℕ) → OneResult (Image.JudgeSized size image block code)
+  pub image-judge : (image : List ℕ) (block code : ℕ) → OneResult (Image.Judge size image block code)
   image-judge image block code = gives-determines _ _ _ _ _
 
-  pub image-data : (image : RefT (List ℕ)) (block code : ℕ) → OneLent (Image.DataSized size image block code)
+  pub image-data : (image : RefT (List ℕ)) (block code : ℕ) → OneLent (Image.Data size image block code)
   image-data image block code first second one other =
       let same = data-one size image block code first second one other in λ i. (same .0 i, same .1 i)
 
+pub mode-find : (images : List ℕ) (apart : ℕ) → OneResult (Finds images apart)
+mode-find images apart = gives-determines _ _ _ _ _
+
 module _ (size : ℕ) (shape : Shape) (r : ℕ) (t scratch : List ℕ) (b : ℕ) where
-  pub reading-judge : (home spare : List ℕ) → OneResult (Reading.JudgeSized size shape r t scratch b home spare)
+  pub reading-judge : (home spare : List ℕ) → OneResult (Reading.Judge size shape r t scratch b home spare)
   reading-judge home spare = gives-determines _ _ _ _ _
 
-  pub reading-data : (home spare : RefT (List ℕ)) → OneLent (Reading.DataSized size shape r t scratch b home spare)
+  pub reading-data : (home spare : RefT (List ℕ)) → OneLent (Reading.Data size shape r t scratch b home spare)
   reading-data home spare first second one other =
       let same = read-one size shape r t scratch b home spare first second one other in λ i. (same .0 i, same .1 i)
 
-  pub reading-spot : (home spare : List ℕ) → OneResult (Reading.SpotSized size shape r t scratch b home spare)
+  pub reading-spot : (home spare : List ℕ) → OneResult (Reading.Spots size shape r t scratch b home spare)
   reading-spot home spare = gives-determines _ _ _ _ _
 
 -- what is left of scratch
 pub scratch : (shape : Shape) (r : ℕ) (before : List ℕ) → OneResult (Scratched shape r before)
 scratch shape r before first second one other = one ∙ sym other
 
+pub read-scratch : (size : ℕ) (shape : Shape) (r : ℕ) (before : List ℕ) → OneResult (Reading.ReadScratched size shape r before)
+read-scratch size shape r before first second one other = one ∙ sym other
+
 -- what an image holds has one verdict
 pub one-verdict :
     (size : ℕ) (image : List ℕ) (block code j k : ℕ) → ContentsJudged size image block code j → ContentsJudged size image block code k → j ≡ k
 one-verdict size image block code j k = sector-one image size block code j k
+
+-- the call says the number of its row
+pub verdict-of-row :
+    (size : ℕ) → Size size → (image : List ℕ) (block code k : ℕ) → length image ≡ size + imageExtra → ContentsJudged size image block code k →
+    (result : Verdict) → Image.Judge size image block code result → Image.saidVerdict result ≡ k
+verdict-of-row size sized image block code k long row result promise =
+    gives-number promise (λ said. said) (λ number. refl) refl
+    ∙ rw (data-size-passes sized) (image-pair image size block code long)
+    ∙ one-verdict size image block code (pairFault size image block code) k (pair-exactly image size block code .judged) row
 
 -- each of them
 pub each-determined : EachDetermined
@@ -168,9 +189,12 @@ each-determined =
       image-header = image-header;
       image-judge = image-judge;
       image-data = image-data;
+      mode-find = mode-find;
       reading-judge = reading-judge;
       reading-spot = reading-spot;
       reading-data = reading-data;
       scratch = scratch;
+      read-scratch = read-scratch;
       one-verdict = one-verdict;
+      verdict-of-row = verdict-of-row;
     }

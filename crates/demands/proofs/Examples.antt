@@ -1,23 +1,25 @@
 -- The paper's "Numbers to try" and ours beside them: every row of the table holds. Where a block lies is told by the walk, which is the definition; the rest is computed.
 -- Assumes nothing.
-use Prim.Native.Nat.{ℕ, suc, _+_, _<_, _≤_}
+use Prim.Native.Nat.{ℕ, suc, _+_, _*_, _<_, _≤_}
 use mathlib.Core.Path.{_≡_, refl, sym, _∙_, ap}
 use mathlib.Core.Bool.{Bool, true, false, not, true≢false}
 use mathlib.Core.Logic.{inl, inr}
 use mathlib.Core.List.{List, [], _∷_, _++_}
+use native.Mathlib.Nat.{mul-le-mul-right}
 use native.Mathlib.Omega.{arith}
 use lib.Dec.{eqb}
 use lib.IntN.{ℤ, pos}
-use lib.ListN.{length, getD, set, replicate, length-append, length-replicate}
-use borrow.Author.Tests.{lt-ltb}
+use lib.ListN.{length, take, getD, set, replicate, length-append, length-replicate}
+use borrow.Author.Tests.{lt-ltb, eqb-true}
 use Rattle.paper.specs.Answers.{saidNamed}
-use Rattle.paper.specs.Limits.{dataSize, headerSize, imageExtra}
-use Rattle.paper.specs.Refusals.{noSpare, otherBlock}
+use Rattle.paper.specs.Limits.{headerSize, imageExtra, Size, dataSizeFault}
+use Rattle.paper.specs.Refusals.{outOfRange, noSpare, otherBlock, noMode}
 use Rattle.paper.specs.Promise.{Gives, Fills}
 use Rattle.paper.specs.Checks.{refuse, _orElse_, answer}
+use Rattle.paper.proofs.Cases.{byLt, byFault}
 use Rattle.paper.proofs.Chain.{answer-refused}
 use Rattle.paper.proofs.Kept.{gives, fills}
-use Rattle.paper.proofs.Rows.{tells-false}
+use Rattle.paper.proofs.Rows.{tells-false, data-size-passes}
 use Rattle.words.specs.Coded.{codeUnit, wordOf, numberOf}
 use Rattle.words.specs.Words.{bytes16, bytes32, bytesOf, word16At, word32At, entriesAt, Bytes}
 use Rattle.words.proofs.Runs.{length-bytesOf}
@@ -63,16 +65,19 @@ use Rattle.spares.proofs.Accepted.{no-spare-told}
 use Rattle.image.specs.Code.{wordsOf, rotated, codeAfter, codeFrom, dataCode, carried}
 use Rattle.image.specs.declared.Verdict.{Verdict}
 use Rattle.image.specs.Header.{Known, isKnown, Says}
-use Rattle.image.specs.Image.{copiesMade, copies, Stands, headerOf, storedIn, imageOf, copiesFault, headerFault, writeFault}
+use Rattle.image.specs.Image.{copiesMade, copies, Stands, headerOf, dataOf, storedIn, foundIn, imageOf, copiesFault, contentsFault, pairFault, headerFault, imageFault, writeFault}
 use Rattle.image.specs.Promises.{saidVerdict}
 use Rattle.image.proofs.Headers.{tells-known}
 use Rattle.image.proofs.Exact.{length-passes, image-unsaid, write-passes}
+use Rattle.mode.specs.Modes.{xbnBytes, xbnImage, firstWord, sizeIn, sizeSaid, modeOf}
+use Rattle.mode.proofs.Found.{number-says, says-inside, found-first, found-none}
+use Rattle.mode.proofs.Exact.{mode-apart, mode-none, mode-some}
 use Rattle.reading.specs.Promises as Reading
 use Rattle.demands.specs.Headers.{Expected, own, descriptor, Holding}
 use Rattle.demands.proofs.Headers.{headers}
 use Rattle.demands.specs.Relations.{AllowsOnly}
 use Rattle.demands.specs.Inputs.{chart, small, eight, holding, noneReplaced, afterSeven, afterEight, afterSix, sevenOnFive, eightOnThree, sevenOnSix, sixOnTwo, sevenOnSeven, zeroOnZero, sevenOnOne, sevenPastFour, tall, tallWith}
-use Rattle.demands.specs.Rows.{skip-sector, skip-block, format, spare-first, spare-replace, spare-full, spare-shift, spare-address, spare-sector, spare-block, spare-census, spare-short, image-write, image-heads, image-unwritten, image-header, image-judge, read-judge, Holds, AllHold, done, _also_, zeros, firstOne, lastOne, paperRows}
+use Rattle.demands.specs.Rows.{skip-sector, skip-block, format, spare-first, spare-replace, spare-full, spare-shift, spare-address, spare-sector, spare-block, spare-census, spare-short, image-write, image-heads, image-unwritten, image-header, image-judge, image-unheaded, image-unjudged, read-judge, read-unsized, mode-find, Holds, AllHold, done, _also_, zeros, firstOne, lastOne, thousands, modeData, modeImage, modeDamaged, paperRows}
 
 module _ {Answer Said : Type 0} {said : Answer → Said} {nothing : ℕ → Said} {refused : ℕ → Answer} {fault : ℕ} {accepted : Answer} (alone : (k : ℕ) → said (refused k) ≡ nothing k) where
   -- a promise allows the answer that its chain makes, and what holds of every answer that it allows
@@ -198,72 +203,124 @@ module _ (shape : Shape) (r : ℕ) where
 
 -- an image of data of the right length, in a room that is long enough
 code-carried :
-    (forced : Bool) (bytes : List ℕ) {code : ℕ} → length bytes ≡ dataSize →
-    ((number : ℕ) (room : List ℕ) → storedIn dataSize (written (imageOf number bytes forced) room) ≡ code) → Holds (image-write forced bytes code)
-code-carried forced bytes {code} long stored block header-code below known room fits =
-    let none : writeFault dataSize block header-code bytes room ≡ 0 = write-passes dataSize block header-code bytes room (record { long = long; below = below; known = known; fits = fits }) in
-    allows-room (λ k. refl) (rw none) (λ held. storedIn dataSize held ≡ code)
-    (rw none (stored (wordOf header-code block) room))
+    (size : ℕ) (forced : Bool) (bytes : List ℕ) {code : ℕ} → Size size → length bytes ≡ size →
+    ((number : ℕ) (room : List ℕ) → storedIn size (written (imageOf number bytes forced) room) ≡ code) → Holds (image-write size forced bytes code)
+code-carried size forced bytes {code} sized long stored block header-code below known room fits =
+    let none : writeFault size block header-code bytes room ≡ 0 = write-passes size block header-code bytes room (record { long = long; below = below; known = known; fits = fits }) in
+    allows-room (λ k. refl) (rw (data-size-passes sized, none)) (λ held. storedIn size held ≡ code)
+    (rw (data-size-passes sized, none) (stored (wordOf header-code block) room))
 
 heads-made :
-    (block code : ℕ) {heads : List ℕ} → block < codeUnit → Known code →
-    ((bytes : List ℕ) (forced : Bool) (room : List ℕ) → copies (written (imageOf (wordOf code block) bytes forced) room) ≡ heads) → Holds (image-heads block code heads)
-heads-made block code {heads} below known made bytes forced room long fits =
-    let none : writeFault dataSize block code bytes room ≡ 0 = write-passes dataSize block code bytes room (record { long = long; below = below; known = known; fits = fits }) in
-    allows-room (λ k. refl) (rw none) (λ held. copies held ≡ heads) (rw none (made bytes forced room))
+    (size block code : ℕ) {heads : List ℕ} → Size size → block < codeUnit → Known code →
+    ((bytes : List ℕ) (forced : Bool) (room : List ℕ) → copies (written (imageOf (wordOf code block) bytes forced) room) ≡ heads) → Holds (image-heads size block code heads)
+heads-made size block code {heads} sized below known made bytes forced room long fits =
+    let none : writeFault size block code bytes room ≡ 0 = write-passes size block code bytes room (record { long = long; below = below; known = known; fits = fits }) in
+    allows-room (λ k. refl) (rw (data-size-passes sized, none)) (λ held. copies held ≡ heads) (rw (data-size-passes sized, none) (made bytes forced room))
 
--- a write that is refused, for its lengths, its block or its code
+-- a write that is refused, for its size, its lengths, its block or its code
 not-written :
-    (block code data-length room-length refusal : ℕ) → (refusal ≡ 0 → ⊥) →
-    ((bytes room : List ℕ) → length bytes ≡ data-length → length room ≡ room-length → writeFault dataSize block code bytes room ≡ refusal) →
-    Holds (image-unwritten block code data-length room-length refusal)
-not-written block code data-length room-length refusal some given bytes forced room long room-long =
-    let fault : writeFault dataSize block code bytes room ≡ refusal = given bytes room long room-long in
+    (size block code data-length room-length refusal : ℕ) → (refusal ≡ 0 → ⊥) →
+    ((bytes room : List ℕ) → length bytes ≡ data-length → length room ≡ room-length → (dataSizeFault size orElse writeFault size block code bytes room) ≡ refusal) →
+    Holds (image-unwritten size block code data-length room-length refusal)
+not-written size block code data-length room-length refusal some given bytes forced room long room-long =
+    let fault : (dataSizeFault size orElse writeFault size block code bytes room) ≡ refusal = given bytes room long room-long in
     allows-room (λ k. refl) (rw fault (answer-refused refusal _ _ some)) (λ held. held ≡ room) (rw fault (answer-refused refusal _ _ some))
 
 -- an image of the right length, whose header says what its copies are
-module _ (heads : List ℕ) (four : length heads ≡ copiesMade) (rest : List ℕ) (long : headerSize + length rest ≡ dataSize + imageExtra) where
-  whole-image : length (bytesOf heads ++ rest) ≡ dataSize + imageExtra
+module _ (size : ℕ) (heads : List ℕ) (four : length heads ≡ copiesMade) (rest : List ℕ) (long : headerSize + length rest ≡ size + imageExtra) where
+  whole-image : length (bytesOf heads ++ rest) ≡ size + imageExtra
   whole-image = length-append (bytesOf heads) rest ∙ omega (arith, length-bytesOf heads)
 
 header-told :
-    (heads : List ℕ) {figures : ℕ × ℕ × ℕ} → length heads ≡ copiesMade →
+    (size : ℕ) (heads : List ℕ) {figures : ℕ × ℕ × ℕ} → Size size → length heads ≡ copiesMade →
     ((rest : List ℕ) → answer (copiesFault (bytesOf heads ++ rest) orElse refuse (not (isKnown (codeOf (headerOf (bytesOf heads ++ rest))))) otherBlock) (λ k. (k, 0, 0)) (0, codeOf (headerOf (bytesOf heads ++ rest)), numberOf (headerOf (bytesOf heads ++ rest))) ≡ figures) →
-    Holds (image-header heads figures)
+    Holds (image-header size heads figures)
 unfolding headerFault
-header-told heads four said rest long =
-    allows (λ k. refl) (rw (length-passes (dataSize + imageExtra) (bytesOf heads ++ rest) (whole-image heads four rest long)) (said rest))
+header-told size heads sized four said rest long =
+    allows (λ k. refl) (rw (data-size-passes sized, length-passes (size + imageExtra) (bytesOf heads ++ rest) (whole-image size heads four rest long)) (said rest))
 
 -- a header that does not say the block and the code is judged 16, whatever follows
 judge-told :
-    (heads : List ℕ) (block code number : ℕ) → length heads ≡ copiesMade → ((rest : List ℕ) → Stands (bytesOf heads ++ rest) number) → (Says number code block → ⊥) →
-    Holds (image-judge heads block code otherBlock)
-judge-told heads block code number four stands other rest long =
-    allows (λ k. refl) (rw (image-unsaid (bytesOf heads ++ rest) dataSize block code (whole-image heads four rest long) number (stands rest) other))
+    (size : ℕ) (heads : List ℕ) (block code number : ℕ) → Size size → length heads ≡ copiesMade → ((rest : List ℕ) → Stands (bytesOf heads ++ rest) number) → (Says number code block → ⊥) →
+    Holds (image-judge size heads block code otherBlock)
+judge-told size heads block code number sized four stands other rest long =
+    allows (λ k. refl) (rw (data-size-passes sized, image-unsaid (bytesOf heads ++ rest) size block code (whole-image size heads four rest long) number (stands rest) other))
+
+-- an image that the header's reader and the verdict refuse for the size, or for its length
+module _ (size image-length refusal : ℕ) (some : refusal ≡ 0 → ⊥) where
+  no-header : ((image : List ℕ) → length image ≡ image-length → (dataSizeFault size orElse headerFault size image) ≡ refusal) → Holds (image-unheaded size image-length refusal)
+  no-header given image long = allows (λ k. refl) (rw (given image long) (answer-refused refusal _ _ some))
+
+  no-verdict :
+      ((image : List ℕ) (block code : ℕ) → length image ≡ image-length → (dataSizeFault size orElse imageFault size image block code) ≡ refusal) →
+      Holds (image-unjudged size image-length refusal)
+  no-verdict given image block code long = allows (λ k. refl) (rw (given image block code long) (answer-refused refusal _ _ some))
 
 -- what every verdict is that a read allows
 read-told :
-    (shape : Shape) (r : ℕ) (table : List ℕ) (block number refusal : ℕ) →
-    ((home spare bytes judged : List ℕ) → Bytes bytes → Holding dataSize shape r table block home spare number bytes false → Enough shape r judged →
-    (verdict : Verdict) → Reading.Judge shape r table judged block home spare verdict → saidVerdict verdict ≡ refusal) →
-    Holds (read-judge shape r table block number refusal)
-read-told shape r table block number refusal every home spare bytes are-bytes held scratch enough =
+    (size : ℕ) (shape : Shape) (r : ℕ) (table : List ℕ) (block number refusal : ℕ) →
+    ((home spare bytes judged : List ℕ) → Bytes bytes → Holding size shape r table block home spare number bytes false → Enough shape r judged →
+    (verdict : Verdict) → Reading.Judge size shape r table judged block home spare verdict → saidVerdict verdict ≡ refusal) →
+    Holds (read-judge size shape r table block number refusal)
+read-told size shape r table block number refusal every home spare bytes are-bytes held scratch enough =
     allows-where (λ k. refl) (every home spare bytes scratch are-bytes held enough)
 
 -- with the number that is expected, or with another code
-read-good : (shape : Shape) (r : ℕ) (table : List ℕ) (block number : ℕ) → Expected table block number → Holds (read-judge shape r table block number 0)
-read-good shape r table block number expected =
-    read-told shape r table block number 0
+read-good : (size : ℕ) (shape : Shape) (r : ℕ) (table : List ℕ) (block number : ℕ) → Expected table block number → Holds (read-judge size shape r table block number 0)
+read-good size shape r table block number expected =
+    read-told size shape r table block number 0
     (λ home spare bytes judged are-bytes held enough verdict given.
-    ap saidVerdict (headers .expected-good dataSize shape r table judged block home spare number bytes expected are-bytes held enough verdict given))
+    ap saidVerdict (headers .expected-good size shape r table judged block home spare number bytes expected are-bytes held enough verdict given))
 
 read-other :
-    (shape : Shape) (r : ℕ) (table : List ℕ) (block number code : ℕ) → Expected table block number → code < 16 → (codeOf number ≡ code → ⊥) →
-    Holds (read-judge shape r table block (wordOf code block) otherBlock)
-read-other shape r table block number code expected few other =
-    read-told shape r table block (wordOf code block) otherBlock
+    (size : ℕ) (shape : Shape) (r : ℕ) (table : List ℕ) (block number code : ℕ) → Expected table block number → code < 16 → (codeOf number ≡ code → ⊥) →
+    Holds (read-judge size shape r table block (wordOf code block) otherBlock)
+read-other size shape r table block number code expected few other =
+    read-told size shape r table block (wordOf code block) otherBlock
     (λ home spare bytes judged are-bytes held enough verdict given.
-    ap saidVerdict (headers .other-code dataSize shape r table judged block home spare number code bytes false expected few other held enough verdict given))
+    ap saidVerdict (headers .other-code size shape r table judged block home spare number code bytes false expected few other held enough verdict given))
+
+-- with a size that is none
+no-read : (size : ℕ) → dataSizeFault size ≡ outOfRange → Holds (read-unsized size)
+no-read size fault shape r table scratch block home spare = allows (λ k. refl) (rw fault)
+
+module _ (images : List ℕ) (apart : ℕ) where
+  -- so many first copies say no size
+  abbrev noneSaid : ℕ → Bool
+  noneSaid = allBelow (λ k. eqb (sizeSaid images apart k) 0)
+
+  none-said : (count : ℕ) → noneSaid count ≡ true → (k : ℕ) → k < count → sizeSaid images apart k ≡ 0
+  none-said count none k below = eqb-true _ _ (every-here (λ k. eqb (sizeSaid images apart k) 0) count none k below)
+
+  module _ (some : 0 < apart) where
+    -- the mode is the size that a copy says where the copies before it say none
+    pub mode-said : (k : ℕ) {size : ℕ} → sizeSaid images apart k ≡ size → 0 < size → noneSaid k ≡ true → modeOf images apart ≡ size
+    mode-said k here is before = found-first images apart some k (λ none. omega (arith, here, none)) (none-said k before) ∙ here
+
+    pub mode-told : (k : ℕ) {size : ℕ} → sizeSaid images apart k ≡ size → 0 < size → noneSaid k ≡ true → Holds (mode-find images apart (0, size))
+    mode-told k here is before =
+        let found = mode-said k here is before in
+        allows (λ k. refl) (rw (mode-some images apart (λ none. omega arith) (λ none. omega (arith, found, none)), found))
+
+    -- there is none where so many first copies say none and the images end before the next one does
+    pub mode-unsaid : (count long : ℕ) → length images ≡ long → long < (count * apart + 1) * xbnBytes → noneSaid count ≡ true → modeOf images apart ≡ 0
+    mode-unsaid count long is short none =
+        found-none images apart
+        (λ k.
+        byLt k count
+        (none-said count none k)
+        (λ after.
+        byFault (sizeSaid images apart k)
+        (λ zero. zero)
+        (λ said. absurd (omega (arith, is, short, says-inside images (k * apart) (number-says images (k * apart) said), mul-le-mul-right apart after)))))
+
+    pub mode-untold :
+        (count long : ℕ) → length images ≡ long → long < (count * apart + 1) * xbnBytes → noneSaid count ≡ true → Holds (mode-find images apart (noMode, 0))
+    mode-untold count long is short none = allows (λ k. refl) (rw (mode-none images apart (λ zero. omega arith) (mode-unsaid count long is short none)))
+
+-- copies that are no sector apart
+mode-unapart : (images : List ℕ) → Holds (mode-find images 0 (outOfRange, 0))
+mode-unapart images = allows (λ k. refl) (rw (mode-apart images 0 refl))
 
 -- of the small drive: blocks 7 and 8 lie on places 4 and 5, and block 6 at home
 seven-expected : Expected afterEight 7 0x20000007
@@ -279,9 +336,16 @@ six-expected = own (tells-false (tells-replaced afterEight 6) refl)
 not-known-one : Known 1 → ⊥
 not-known-one known = tells-false (tells-known 1) refl known
 
+-- the two sizes
+normal : Size 512
+normal = inl refl
+
+wide : Size 576
+wide = inr refl
+
 -- every row of the table
 pub numbers-to-try : AllHold paperRows
-unfolding faultBelow passes isIn countBelow allBelow firstBelow firstOr rising placeOf outward passing badSpares badHomes marked replacedAll bytes16 bytes32 bytesOf word16At wordsOf rotated codeAfter codeFrom dataCode carried storedIn imageOf writeFault copies times headerOf copiesFault entriesAt word32At
+unfolding faultBelow passes isIn countBelow allBelow firstBelow firstOr rising placeOf outward passing badSpares badHomes marked replacedAll bytes16 bytes32 bytesOf word16At wordsOf rotated codeAfter codeFrom dataCode carried storedIn imageOf writeFault copies times headerOf copiesFault entriesAt word32At thousands dataSizeFault headerFault imageFault pairFault contentsFault dataOf foundIn xbnImage firstWord sizeIn
 numbers-to-try =
     block-walked 848 chart 3 refl refl
     also block-walked 848 chart 57 refl refl
@@ -305,10 +369,10 @@ numbers-to-try =
     also lying-told small 2 afterSix 9 refl
     also lying-told small 2 afterSix 10 refl
     also census-told small 2 afterSix refl
-    also code-carried false zeros refl (λ number room. refl)
-    also code-carried false firstOne refl (λ number room. refl)
-    also code-carried false lastOne refl (λ number room. refl)
-    also code-carried true zeros refl (λ number room. refl)
+    also code-carried 512 false (zeros 512) normal refl (λ number room. refl)
+    also code-carried 512 false (firstOne 512) normal refl (λ number room. refl)
+    also code-carried 512 false (lastOne 512) normal refl (λ number room. refl)
+    also code-carried 512 true (zeros 512) normal refl (λ number room. refl)
     also allows (λ k. refl) refl
     also allows (λ k. refl) refl
     also allows (λ k. refl) refl
@@ -355,29 +419,70 @@ numbers-to-try =
     also lies-told tall 1 (set (tallWith 5 0x30000190) 259 0) 400 refl
     also lies-told tall 1 (set (tallWith 5 0x30000190) 4 0) 400 refl
     also lies-told tall 1 (set (tallWith 5 0x30000190) 6 0) 400 refl
-    also heads-made 7 0 (omega arith) (inl refl) (λ bytes forced room. refl)
-    also heads-made 7 2 (omega arith) (inr (inl refl)) (λ bytes forced room. refl)
-    also heads-made 268435455 3 (omega arith) (inr (inr refl)) (λ bytes forced room. refl)
-    also not-written 268435456 1 511 530 14 (λ none. omega arith) (λ bytes room long room-long. rw long)
-    also not-written 268435456 1 512 530 5 (λ none. omega arith) (λ bytes room long room-long. rw long)
-    also not-written 7 1 512 530 22 (λ none. omega arith) (λ bytes room long room-long. rw long)
-    also not-written 7 15 512 530 22 (λ none. omega arith) (λ bytes room long room-long. rw long)
-    also not-written 7 2 512 529 7 (λ none. omega arith) (λ bytes room long room-long. rw (long, room-long))
-    also header-told (0x30000007 ∷ 0x30000007 ∷ 0x30000007 ∷ 0x00000007 ∷ []) refl (λ rest. refl)
-    also header-told (replicate 4 0x10000007) refl (λ rest. refl)
-    also header-told (replicate 4 0x80000000) refl (λ rest. refl)
-    also header-told (replicate 4 0xffffffff) refl (λ rest. refl)
-    also header-told (0x20000007 ∷ 0x20000007 ∷ 0x00000007 ∷ 0x00000007 ∷ []) refl (λ rest. refl)
-    also judge-told (replicate 4 0x20000007) 7 0 0x20000007 refl (λ rest. omega arith) (λ says. omega (arith, says .code-is))
-    also judge-told (replicate 4 0x20000007) 7 1 0x20000007 refl (λ rest. omega arith) (λ says. omega (arith, says .code-is))
-    also judge-told (replicate 4 0x20000007) 7 3 0x20000007 refl (λ rest. omega arith) (λ says. omega (arith, says .code-is))
-    also judge-told (replicate 4 0x20000007) 268435463 1 0x20000007 refl (λ rest. omega arith) (λ says. omega (arith, says .code-is))
-    also judge-told (replicate 4 0x10000007) 7 1 0x10000007 refl (λ rest. omega arith) (λ says. not-known-one (says .known))
-    also read-good small 2 afterEight 7 0x20000007 seven-expected
-    also read-other small 2 afterEight 7 0x20000007 3 seven-expected (omega arith) (λ same. omega arith)
-    also read-other small 2 afterEight 7 0x20000007 0 seven-expected (omega arith) (λ same. omega arith)
-    also read-good small 2 afterEight 8 0x30000008 eight-expected
-    also read-other small 2 afterEight 8 0x30000008 2 eight-expected (omega arith) (λ same. omega arith)
-    also read-good small 2 afterEight 6 6 six-expected
-    also read-other small 2 afterEight 6 6 2 six-expected (omega arith) (λ same. omega arith)
+    also heads-made 512 7 0 normal (omega arith) (inl refl) (λ bytes forced room. refl)
+    also heads-made 512 7 2 normal (omega arith) (inr (inl refl)) (λ bytes forced room. refl)
+    also heads-made 512 268435455 3 normal (omega arith) (inr (inr refl)) (λ bytes forced room. refl)
+    also not-written 512 268435456 1 511 530 14 (λ none. omega arith) (λ bytes room long room-long. rw long)
+    also not-written 512 268435456 1 512 530 5 (λ none. omega arith) (λ bytes room long room-long. rw long)
+    also not-written 512 7 1 512 530 22 (λ none. omega arith) (λ bytes room long room-long. rw long)
+    also not-written 512 7 15 512 530 22 (λ none. omega arith) (λ bytes room long room-long. rw long)
+    also not-written 512 7 2 512 529 7 (λ none. omega arith) (λ bytes room long room-long. rw (long, room-long))
+    also header-told 512 (0x30000007 ∷ 0x30000007 ∷ 0x30000007 ∷ 0x00000007 ∷ []) normal refl (λ rest. refl)
+    also header-told 512 (replicate 4 0x10000007) normal refl (λ rest. refl)
+    also header-told 512 (replicate 4 0x80000000) normal refl (λ rest. refl)
+    also header-told 512 (replicate 4 0xffffffff) normal refl (λ rest. refl)
+    also header-told 512 (0x20000007 ∷ 0x20000007 ∷ 0x00000007 ∷ 0x00000007 ∷ []) normal refl (λ rest. refl)
+    also judge-told 512 (replicate 4 0x20000007) 7 0 0x20000007 normal refl (λ rest. omega arith) (λ says. omega (arith, says .code-is))
+    also judge-told 512 (replicate 4 0x20000007) 7 1 0x20000007 normal refl (λ rest. omega arith) (λ says. omega (arith, says .code-is))
+    also judge-told 512 (replicate 4 0x20000007) 7 3 0x20000007 normal refl (λ rest. omega arith) (λ says. omega (arith, says .code-is))
+    also judge-told 512 (replicate 4 0x20000007) 268435463 1 0x20000007 normal refl (λ rest. omega arith) (λ says. omega (arith, says .code-is))
+    also judge-told 512 (replicate 4 0x10000007) 7 1 0x10000007 normal refl (λ rest. omega arith) (λ says. not-known-one (says .known))
+    also read-good 512 small 2 afterEight 7 0x20000007 seven-expected
+    also read-other 512 small 2 afterEight 7 0x20000007 3 seven-expected (omega arith) (λ same. omega arith)
+    also read-other 512 small 2 afterEight 7 0x20000007 0 seven-expected (omega arith) (λ same. omega arith)
+    also read-good 512 small 2 afterEight 8 0x30000008 eight-expected
+    also read-other 512 small 2 afterEight 8 0x30000008 2 eight-expected (omega arith) (λ same. omega arith)
+    also read-good 512 small 2 afterEight 6 6 six-expected
+    also read-other 512 small 2 afterEight 6 6 2 six-expected (omega arith) (λ same. omega arith)
+    also code-carried 576 false (zeros 576) wide refl (λ number room. refl)
+    also code-carried 576 true (zeros 576) wide refl (λ number room. refl)
+    also code-carried 576 false (firstOne 576) wide refl (λ number room. refl)
+    also code-carried 576 false (lastOne 576) wide refl (λ number room. refl)
+    also code-carried 576 false (thousands 0 288) wide refl (λ number room. refl)
+    also code-carried 576 true (thousands 0 288) wide refl (λ number room. refl)
+    also code-carried 512 false (modeData 0x200) normal refl (λ number room. refl)
+    also code-carried 512 false (modeData 0x240) normal refl (λ number room. refl)
+    also not-written 0 268435456 1 511 0 1 (λ none. omega arith) (λ bytes room long room-long. refl)
+    also not-written 511 268435456 1 512 0 1 (λ none. omega arith) (λ bytes room long room-long. refl)
+    also not-written 513 268435456 1 512 0 1 (λ none. omega arith) (λ bytes room long room-long. refl)
+    also not-written 575 268435456 1 576 0 1 (λ none. omega arith) (λ bytes room long room-long. refl)
+    also not-written 577 268435456 1 576 0 1 (λ none. omega arith) (λ bytes room long room-long. refl)
+    also not-written 4294967295 268435456 1 512 0 1 (λ none. omega arith) (λ bytes room long room-long. refl)
+    also no-header 575 593 1 (λ none. omega arith) (λ image long. refl)
+    also no-verdict 577 595 1 (λ none. omega arith) (λ image block code long. refl)
+    also no-read 513 refl
+    also not-written 576 7 0 512 594 14 (λ none. omega arith) (λ bytes room long room-long. rw long)
+    also not-written 512 7 0 576 594 14 (λ none. omega arith) (λ bytes room long room-long. rw long)
+    also not-written 576 7 0 576 593 7 (λ none. omega arith) (λ bytes room long room-long. rw (long, room-long))
+    also no-header 576 530 14 (λ none. omega arith) (λ image long. rw long)
+    also no-header 512 594 14 (λ none. omega arith) (λ image long. rw long)
+    also no-verdict 576 530 14 (λ none. omega arith) (λ image block code long. rw long)
+    also no-verdict 512 594 14 (λ none. omega arith) (λ image block code long. rw long)
+    also header-told 576 (replicate 4 0x30000007) wide refl (λ rest. refl)
+    also read-good 576 small 2 afterEight 7 0x20000007 seven-expected
+    also read-other 576 small 2 afterEight 7 0x20000007 0 seven-expected (omega arith) (λ same. omega arith)
+    also mode-told (modeImage 0 0x240 false) 1 (omega arith) 0 refl (omega arith) refl
+    also mode-told (modeImage 0 0x200 false) 7 (omega arith) 0 refl (omega arith) refl
+    also mode-told (modeImage 0 0x200 false) 4294967295 (omega arith) 0 refl (omega arith) refl
+    also mode-told (modeImage 0 0x200 true ++ (modeImage 1 0x200 false ++ modeImage 2 0x240 false)) 2 (omega arith) 1 refl (omega arith) refl
+    also mode-told (modeImage 0 0x201 false ++ modeImage 1 0x200 false) 1 (omega arith) 1 refl (omega arith) refl
+    also mode-told (modeImage 0x20000000 0x200 false ++ modeImage 1 0x240 false) 1 (omega arith) 1 refl (omega arith) refl
+    also mode-told (replicate 530 0 ++ modeImage 1 0x240 false) 1 (omega arith) 1 refl (omega arith) refl
+    also mode-unapart (modeImage 0 0x200 false)
+    also mode-unapart []
+    also mode-untold [] 1 (omega arith) 0 0 refl (omega arith) refl
+    also mode-untold (take 529 (modeImage 0 0x200 false)) 1 (omega arith) 0 529 refl (omega arith) refl
+    also mode-untold (modeDamaged 0x200 ++ modeImage 0 0x200 false) 1 (omega arith) 2 1060 refl (omega arith) refl
+    also mode-untold (modeDamaged 0x200 ++ modeImage 1 0x200 false) 2 (omega arith) 1 1060 refl (omega arith) refl
+    also mode-untold (modeDamaged 0x200 ++ take 529 (modeImage 1 0x200 false)) 1 (omega arith) 1 1059 refl (omega arith) refl
     also done

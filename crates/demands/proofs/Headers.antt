@@ -8,11 +8,12 @@ use mathlib.Core.List.{List, _++_}
 use native.Mathlib.Omega.{arith}
 use lib.ListN.{length, take, replicate}
 use Rattle.paper.specs.Conditions.{NotBelow}
-use Rattle.paper.specs.Limits.{imageExtra}
+use Rattle.paper.specs.Limits.{imageExtra, Size}
 use Rattle.paper.specs.Refusals.{otherBlock}
 use Rattle.paper.specs.declared.Written.the-variants.{Length}
 use Rattle.paper.proofs.Cases.{byBool}
 use Rattle.paper.proofs.Kept.{gives-number}
+use Rattle.paper.proofs.Rows.{data-size-passes}
 use Rattle.words.specs.Coded.{codeUnit, wordOf, codeOf}
 use Rattle.words.specs.Words.{bytes16, bytesOf}
 use Rattle.words.proofs.Coded.{code-of-word, word-fits}
@@ -29,13 +30,14 @@ use Rattle.image.specs.Code.{carried}
 use Rattle.image.specs.Header.{atHome, Known}
 use Rattle.image.specs.Image.{copiesMade, Stands, imageOf}
 use Rattle.image.specs.Judged.{FourthCode}
-use Rattle.image.specs.Promises.{WriteSized, JudgeSized}
+use Rattle.image.specs.Promises.{Write, Judge}
 use Rattle.image.proofs.Headers.{says-below}
 use Rattle.image.proofs.Exact.{image-unsaid}
 use Rattle.reading.specs.Tracks.{sectorIn, headerFor, imageAt, trackOf, bytesIn}
 use Rattle.reading.specs.Faults.{lentFault}
 use Rattle.reading.proofs.Exact.{block-few, lent-passes}
 use Rattle.reading.proofs.Tracks.{seated, header-home, header-named}
+use Rattle.reading.proofs.Sized.{data-sized}
 use Rattle.reading.proofs.Written.{good-read, forced-read, other-read, good-part, forced-part, other-part}
 use Rattle.demands.specs.Headers.{Expected, own, descriptor, Holding, Headers}
 use Rattle.demands.proofs.ReadsInPlace.{its-image}
@@ -44,7 +46,7 @@ use Rattle.demands.proofs.Rooms.{image-write-hands}
 -- what is written with code 0
 home-plain :
     (size block : ℕ) (bytes : List ℕ) (forced : Bool) (room : List ℕ) (long : ℕ) (after : List ℕ) →
-    WriteSized size block atHome bytes forced room (Length long) after →
+    Write size block atHome bytes forced room (Length long) after →
     take long after ≡ bytesOf (replicate copiesMade block) ++ (bytes ++ bytes16 (carried forced bytes))
 unfolding imageOf
 home-plain size block bytes forced room long after wrote =
@@ -53,22 +55,24 @@ home-plain size block bytes forced room long after wrote =
 
 -- a pair that no number says
 never-met :
-    (size : ℕ) (image : List ℕ) (block code : ℕ) → (Known code → ⊥) ⊎ NotBelow codeUnit block →
+    (size : ℕ) → Size size → (image : List ℕ) (block code : ℕ) → (Known code → ⊥) ⊎ NotBelow codeUnit block →
     (m : ℕ) → Stands image m → length image ≡ size + imageExtra →
-    (verdict : Verdict) → JudgeSized size image block code verdict → verdict ≡ NotGood otherBlock
-never-met size image block code unsaid m stands long verdict judged =
+    (verdict : Verdict) → Judge size image block code verdict → verdict ≡ NotGood otherBlock
+never-met size sized image block code unsaid m stands long verdict judged =
     judged .answers
-    ∙ rw
-    (image-unsaid image size block code long m stands
-    (λ says. ⊎-elim (λ fourth. fourth (says .known)) (λ over. omega (arith, says-below says)) unsaid))
+    ∙ rw (
+      data-size-passes sized,
+      image-unsaid image size block code long m stands
+          (λ says. ⊎-elim (λ fourth. fourth (says .known)) (λ over. omega (arith, says-below says)) unsaid),
+    )
 
 -- a fourth code in the header
 fourth-refused :
-    (size : ℕ) (image : List ℕ) (block code : ℕ) → FourthCode image → length image ≡ size + imageExtra →
-    (verdict : Verdict) → JudgeSized size image block code verdict → verdict ≡ NotGood otherBlock
-fourth-refused size image block code other long verdict judged =
+    (size : ℕ) → Size size → (image : List ℕ) (block code : ℕ) → FourthCode image → length image ≡ size + imageExtra →
+    (verdict : Verdict) → Judge size image block code verdict → verdict ≡ NotGood otherBlock
+fourth-refused size sized image block code other long verdict judged =
     judged .answers
-    ∙ rw (image-unsaid image size block code long (other .number) (other .stands) (λ says. other .fourth (rw (says .code-is) (says .known))))
+    ∙ rw (data-size-passes sized, image-unsaid image size block code long (other .number) (other .stands) (λ says. other .fourth (rw (says .code-is) (says .known))))
 
 module _ {size : ℕ} {shape : Shape} {r : ℕ} {t : List ℕ} {b : ℕ} {home spare : List ℕ} {number : ℕ} {bytes : List ℕ} {forced : Bool} (held : Holding size shape r t b home spare number bytes forced) where
   asked-passes : blockFault shape r t (held .asked) b ≡ 0
@@ -108,28 +112,34 @@ headers =
       fourth-refused = fourth-refused;
       expected-good = λ size shape r t judged b home spare number bytes expected are-bytes held enough verdict promise.
           promise .answers
-          ∙ rw
-          (good-read size shape r t judged b bytes (held .long) are-bytes (passes held judged enough) (seated (driveOf shape r) t b home spare)
-          (on-sector held ∙ rw (expected-is (is-sound held) expected)));
+          ∙ rw (
+            data-size-passes (held .sized),
+            good-read size shape r t judged b bytes (held .long) are-bytes (passes held judged enough) (seated (driveOf shape r) t b home spare)
+                (on-sector held ∙ rw (expected-is (is-sound held) expected)),
+          );
       expected-gives = λ size shape r t read b home spare number bytes expected are-bytes held enough part promise.
-          good-part size shape r t read b bytes (held .long) are-bytes home spare part promise (passes held read enough) (seated (driveOf shape r) t b (home .now) (spare .now))
+          good-part size shape r t read b bytes (held .long) are-bytes home spare part (rw (data-sized size shape r t read b (held .sized) home spare) at promise) (passes held read enough) (seated (driveOf shape r) t b (home .now) (spare .now))
           (on-sector held ∙ rw (expected-is (is-sound held) expected));
       expected-forced = λ size shape r t judged b home spare number bytes expected are-bytes held enough verdict promise.
           promise .answers
-          ∙ rw
-          (forced-read size shape r t judged b bytes (held .long) are-bytes (passes held judged enough) (seated (driveOf shape r) t b home spare)
-          (on-sector held ∙ rw (expected-is (is-sound held) expected)));
+          ∙ rw (
+            data-size-passes (held .sized),
+            forced-read size shape r t judged b bytes (held .long) are-bytes (passes held judged enough) (seated (driveOf shape r) t b home spare)
+                (on-sector held ∙ rw (expected-is (is-sound held) expected)),
+          );
       forced-gives-none = λ size shape r t read b home spare number bytes expected are-bytes held enough part promise.
-          forced-part size shape r t read b bytes (held .long) are-bytes home spare part promise (passes held read enough) (seated (driveOf shape r) t b (home .now) (spare .now))
+          forced-part size shape r t read b bytes (held .long) are-bytes home spare part (rw (data-sized size shape r t read b (held .sized) home spare) at promise) (passes held read enough) (seated (driveOf shape r) t b (home .now) (spare .now))
           (on-sector held ∙ rw (expected-is (is-sound held) expected));
       other-code = λ size shape r t judged b home spare number code bytes forced expected few other held enough verdict promise.
           promise .answers
-          ∙ rw
-          (other-read size shape r t judged b bytes (wordOf code b) forced
-          (word-fits few (block-few (is-sound held) (is-below held))) (coded-other (is-sound held) (is-below held) expected other)
-          (passes held judged enough) (seated (driveOf shape r) t b home spare) (on-sector held));
+          ∙ rw (
+            data-size-passes (held .sized),
+            other-read size shape r t judged b bytes (wordOf code b) forced
+                (word-fits few (block-few (is-sound held) (is-below held))) (coded-other (is-sound held) (is-below held) expected other)
+                (passes held judged enough) (seated (driveOf shape r) t b home spare) (on-sector held),
+          );
       other-gives-none = λ size shape r t read b home spare number code bytes forced expected few other held enough part promise.
           other-part size shape r t read b bytes (wordOf code b) forced
           (word-fits few (block-few (is-sound held) (is-below held))) (coded-other (is-sound held) (is-below held) expected other)
-          home spare part promise (passes held read enough) (seated (driveOf shape r) t b (home .now) (spare .now)) (on-sector held);
+          home spare part (rw (data-sized size shape r t read b (held .sized) home spare) at promise) (passes held read enough) (seated (driveOf shape r) t b (home .now) (spare .now)) (on-sector held);
     }

@@ -4,7 +4,7 @@ use Rattle.paper.proofs.Kept.{gives-number, fills-gives}
 use Prim.Native.Nat.{ℕ, zero, suc, _+_, _-_, _%_, _^_, _<_}
 use mathlib.Core.Path.{_≡_, refl, sym, _∙_, ap}
 use mathlib.Core.Bool.{Bool, true, false}
-use mathlib.Core.Logic.{⊎-elim}
+use mathlib.Core.Logic.{inl, inr, ⊎-elim}
 use mathlib.Core.List.{List, []}
 use native.Mathlib.Omega.{arith}
 use lib.IntN.{ℤ, pos, negsuc, _+ℤ_, _-ℤ_}
@@ -12,11 +12,13 @@ use lib.ListN.{length, getD, take, drop}
 use denote.Ref.{RefT}
 use borrow.Author.Tests.{le-ltb}
 use Rattle.paper.specs.Answers.{saidWritten}
-use Rattle.paper.specs.Checks.{answer}
-use Rattle.paper.specs.Limits.{dataSize, imageExtra}
+use Rattle.paper.specs.Checks.{_orElse_, answer}
+use Rattle.paper.specs.Limits.{dataSize, wideSize, imageExtra, Size, dataSizeFault}
 use Rattle.paper.specs.Refusals.{otherBlock}
 use Rattle.paper.specs.declared.Written.{Written}
 use Rattle.paper.proofs.Cases.{byFault}
+use Rattle.paper.proofs.Chain.{orElse-next}
+use Rattle.paper.proofs.Rows.{data-size-passes, sized-shows}
 use Rattle.words.specs.Coded.{codeUnit, wordOf, codeOf}
 use Rattle.words.specs.Words.{Bytes}
 use Rattle.words.proofs.Coded.{word-of-parts}
@@ -41,17 +43,19 @@ use Rattle.table.proofs.Exact.{sound-obeys, block-passes}
 use Rattle.spares.proofs.Shifts.{shift-replaced, shift-leads}
 use Rattle.image.specs.declared.Verdict.{Verdict}
 use Rattle.image.specs.Image.{dataOf, imageOf, writeFault}
-use Rattle.image.specs.Promises.{Lends, WriteSized}
+use Rattle.image.specs.Promises.{Lends, WriteSized, Write}
 use Rattle.image.proofs.Exact.{write-shows}
 use Rattle.image.proofs.Lent.{partAt, part-some}
+use Rattle.image.proofs.Sized.{write-sized}
 use Rattle.image.proofs.ThereAndBack.{room-image}
 use Rattle.reading.specs.Tracks.{dataStart, headerFor, imageAt, imageFor, on-spare, sectorIn, trackOf}
 use Rattle.reading.specs.Faults.{lentFault, blockReadFault}
-use Rattle.reading.specs.Promises.{DataSized, JudgeSized}
+use Rattle.reading.specs.Promises.{DataSized, JudgeSized, Data}
 use Rattle.reading.proofs.Alike.{home-unread, verdict-alike, part-alike}
 use Rattle.reading.proofs.Parts.{refused-empty, accepted-data, accepted-part}
 use Rattle.reading.proofs.Exact.{block-few, lent-passes}
 use Rattle.reading.proofs.Tracks.{seated-only, header-named, data-inside}
+use Rattle.reading.proofs.Sized.{judge-sized, data-sized, spot-sized}
 use Rattle.reading.proofs.Written.{good-read, other-read, good-part, other-part}
 use Rattle.demands.proofs.ByKind.{spot-says}
 use Rattle.demands.specs.Relations.{AllowsOnly}
@@ -78,6 +82,7 @@ allows-part size shape r t scratch b home spare every =
 -- a drive and a table that pass, a block of theirs, and a place that names it
 module _
     (size : ℕ)
+    (sized : Size size)
     (shape : Shape)
     (r : ℕ)
     (t : List ℕ)
@@ -207,6 +212,15 @@ module _
           moved-empty part given-part =
               other-part size shape r t scratch b bytes b forced own-fits own-other home spare part given-part passes (on-spare q in-table named) moved-held
 
+    -- the reads with this size are those for any number of data bytes
+    part-of : (scratch : List ℕ) (home spare part : RefT (List ℕ)) → Data size shape r t scratch b home spare part → DataSized size shape r t scratch b home spare part
+    part-of scratch home spare part promise = rw (data-sized size shape r t scratch b sized home spare) at promise
+
+    every-part :
+        (scratch : List ℕ) (home spare : RefT (List ℕ)) {Figures : RefT (List ℕ) → Type 0} →
+        ((part : RefT (List ℕ)) → DataSized size shape r t scratch b home spare part → Figures part) → AllowsOnly (Data size shape r t scratch b home spare) Figures
+    every-part scratch home spare every = rw (data-sized size shape r t scratch b sized home spare) (allows-part size shape r t scratch b home spare every)
+
     -- where a place names the block, reads are safe, and the shift is the difference of the cylinders
     pub named-safe : Safe size shape r t b q (pos (spareCylinder (driveOf shape r) q) -ℤ pos (homeCylinder (driveOf shape r) b))
     named-safe =
@@ -214,22 +228,26 @@ module _
           answers = λ scratch enough. allows (λ k. refl) (rw (block-passes shape r t scratch sound enough b below, its-shift));
           leads = rw its-shift at shift-goes;
           spots = λ scratch home spare.
-              allows-where (λ k. refl)
+              rw (spot-sized size shape r t scratch b sized home spare)
+              (allows-where (λ k. refl)
               (λ answer given-spot none.
               let passes : blockReadFault size shape r t scratch b home spare ≡ 0 = sym (gives-number given-spot (λ said. said .0) (λ k. refl) (spot-says (isReplaced t b) (dataStart size (driveOf shape r) t b))) ∙ none in
-              given-spot .says ∙ rw (passes, is-replaced, its-sector));
-          lends = λ scratch home spare. allows-part size shape r t scratch b home spare (part-filled scratch home spare);
-          same-part = part-unread;
-          same-verdict = verdict-unread;
+              given-spot .says ∙ rw (passes, is-replaced, its-sector)));
+          lends = λ scratch home spare. every-part scratch home spare (part-filled scratch home spare);
+          same-part = λ scratch again-scratch enough enough′ home other spare part again long first second.
+              part-unread scratch again-scratch enough enough′ home other spare part again long (part-of scratch home spare part first) (part-of again-scratch other spare again second);
+          same-verdict = λ scratch again-scratch enough enough′ home other spare verdict again long first second.
+              verdict-unread scratch again-scratch enough enough′ home other spare verdict again long
+              (rw (judge-sized size shape r t scratch b sized home spare) at first) (rw (judge-sized size shape r t again-scratch b sized other spare) at second);
           gives-back = λ home spare bytes whole whole′ long h stands.
               record {
-                accepted = λ scratch enough. allows (λ k. refl) (rw (read-passes home spare bytes whole whole′ scratch enough long h stands));
-                bytes-lent = λ scratch enough. allows-part size shape r t scratch b home spare (data-lent home spare bytes whole whole′ scratch enough long h stands);
+                accepted = λ scratch enough. allows (λ k. refl) (rw (data-size-passes sized, read-passes home spare bytes whole whole′ scratch enough long h stands));
+                bytes-lent = λ scratch enough. every-part scratch home spare (data-lent home spare bytes whole whole′ scratch enough long h stands);
               };
           refuses-moved = λ home spare bytes forced whole whole′ stands.
               record {
-                refused = λ scratch enough. allows (λ k. refl) (rw (moved-refused home spare bytes whole whole′ scratch enough forced stands));
-                none-lent = λ scratch enough. allows-part size shape r t scratch b home spare (moved-empty home spare bytes whole whole′ scratch enough forced stands);
+                refused = λ scratch enough. allows (λ k. refl) (rw (data-size-passes sized, moved-refused home spare bytes whole whole′ scratch enough forced stands));
+                none-lent = λ scratch enough. every-part scratch home spare (moved-empty home spare bytes whole whole′ scratch enough forced stands);
               };
         }
 
@@ -239,14 +257,14 @@ one-less a zero one = absurd (omega arith)
 one-less a (suc c) one = let none : suc c - suc a ≡ 0 = omega arith in minus-below a (suc c) (omega arith) ∙ ap negsuc none
 
 -- an accepted replacement, and the table that it leaves
-module _ (size : ℕ) (shape : Shape) (r : ℕ) (t scratch : List ℕ) (b q : ℕ) (after : List ℕ) (replacement : Replacement shape r t scratch b (Place q) after) where
+module _ (size : ℕ) (sized : Size size) (shape : Shape) (r : ℕ) (t scratch : List ℕ) (b q : ℕ) (after : List ℕ) (replacement : Replacement shape r t scratch b (Place q) after) where
   moved : Moved (driveOf shape r) t b q after
   moved = replacement-moves shape r t scratch b q after replacement
 
   -- reads of a replaced block are safe, and the shift leads from its home's cylinder to its spare's
   pub replaced-safe : Safe size shape r after b q (pos (spareCylinder (driveOf shape r) q) -ℤ pos (homeCylinder (driveOf shape r) b))
   replaced-safe =
-      named-safe size shape r after b q
+      named-safe size sized shape r after b q
       (taken-after shape r t scratch b q after replacement)
       (taken-below shape r t scratch b q after replacement)
       (rw (moved .same-length) (moved .in-table))
@@ -274,13 +292,15 @@ module _
     -- by the writer's call: the image of an accepted good write of the block, with the code of its descriptor, stands on the spare's sector
     pub written-back :
         Names (getD t q 0) b →
-        (room image : List ℕ) (answer : Written) → WriteSized size b (codeOf (getD t q 0)) bytes false room answer image → saidWritten answer .0 ≡ 0 →
+        (room image : List ℕ) (answer : Written) → Write size b (codeOf (getD t q 0)) bytes false room answer image → saidWritten answer .0 ≡ 0 →
         imageFrom size (spareStart size shape r q) (spare .now) ≡ take (size + imageExtra) image →
         HandsBack size shape r t b q home spare bytes
     written-back named room image answer writes none stands =
         let code = codeOf (getD t q 0) in
-        let fits : writeFault size b code bytes room ≡ 0 = sym (gives-number (fills-gives writes) (λ said. said .0) (λ k. refl) refl) ∙ none in
-        let image-is : take (size + imageExtra) image ≡ imageOf (wordOf code b) bytes false = rw (writes .holds) (room-image size b code bytes false room fits) in
+        let passes : (dataSizeFault size orElse writeFault size b code bytes room) ≡ 0 = sym (gives-number (fills-gives writes) (λ said. said .0) (λ k. refl) refl) ∙ none in
+        let fits : writeFault size b code bytes room ≡ 0 = orElse-next (dataSizeFault size) _ passes in
+        let promise : WriteSized size b code bytes false room answer image = rw (write-sized (sized-shows size _ passes) b code bytes false room) at writes in
+        let image-is : take (size + imageExtra) image ≡ imageOf (wordOf code b) bytes false = rw (promise .holds) (room-image size b code bytes false room fits) in
         let word : wordOf code b ≡ getD t q 0 = rw (named .1) at (word-of-parts (getD t q 0)) in
         safe .gives-back home spare bytes whole whole′ (write-shows size b code bytes room fits .long) h
         (stands ∙ image-is ∙ ap (λ (number : ℕ). imageOf number bytes false) word)
@@ -291,11 +311,16 @@ module _ (scratch : List ℕ) (enough : Enough small 2 scratch) (given : Answers
   unfolding allBelow placeOf firstBelow firstOr outward rising
   goes-to-3 = rw (le-ltb (length scratch) 8 enough)
 
-  pub six-safe : Safe dataSize small 2 after 6 3 (negsuc 0)
-  six-safe = outward-safe dataSize small 2 afterEight scratch 6 3 after (rw (replacement .answers ∙ goes-to-3) at replacement) refl
+  pub six-safe : (size : ℕ) → Size size → Safe size small 2 after 6 3 (negsuc 0)
+  six-safe size sized = outward-safe size sized small 2 afterEight scratch 6 3 after (rw (replacement .answers ∙ goes-to-3) at replacement) refl
 
-  -- its data begins at (3 + 3 mod 2) × 530 + 16 of the second image
+  -- its data begins at (3 + 3 mod 2) × 530 + 16 of the second image, and at (3 + 3 mod 2) × 594 + 16 on a wide drive
   pub six-part :
-      (read : List ℕ) (home spare part : RefT (List ℕ)) → DataSized dataSize small 2 after read 6 home spare part → (part .now ≡ [] → ⊥) →
+      (read : List ℕ) (home spare part : RefT (List ℕ)) → Data dataSize small 2 after read 6 home spare part → (part .now ≡ [] → ⊥) →
       Lends spare 2136 (take 512 (drop 2136 (spare .now))) part
-  six-part read home spare = six-safe .lends read home spare .every
+  six-part read home spare = six-safe dataSize (inl refl) .lends read home spare .every
+
+  pub six-wide-part :
+      (read : List ℕ) (home spare part : RefT (List ℕ)) → Data wideSize small 2 after read 6 home spare part → (part .now ≡ [] → ⊥) →
+      Lends spare 2392 (take 576 (drop 2392 (spare .now))) part
+  six-wide-part read home spare = six-safe wideSize (inr refl) .lends read home spare .every

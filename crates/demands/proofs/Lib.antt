@@ -13,10 +13,12 @@ pub mod ReadsInPlace
 pub mod Headers
 pub mod Demand3
 pub mod Angles
+pub mod Sizes
 pub mod ThereAndBack
 pub mod Examples
 pub mod Incident
 pub mod Determined
 pub mod Boards
 pub mod WrongBoards
+pub mod WrongSizes
 pub mod Readings

@@ -26,7 +26,8 @@ use Rattle.first_table.specs.Promises.{FirstTable}
 use Rattle.first_table.proofs.Exact.{first-obeys, first-made}
 use Rattle.words.specs.Coded.{wordOf}
 use Rattle.image.specs.Image.{imageOf, writeFault as imageWriteFault}
-use Rattle.image.specs.Promises.{WriteSized}
+use Rattle.image.specs.Promises.{WriteSized, Write}
+use Rattle.image.proofs.Sized.{write-sized, written-size}
 use Rattle.image.proofs.ThereAndBack.{room-image, room-rest}
 use Rattle.image.proofs.Exact.{write-shows}
 use Rattle.image.proofs.Images.{length-image}
@@ -90,9 +91,11 @@ first-table-hands shape r list room long after promise =
 
 -- `image::write` hands back the bytes of the image
 pub image-write-hands :
-    (size block code : ℕ) (bytes : List ℕ) (forced : Bool) (room : List ℕ) (long : ℕ) (after : List ℕ) → WriteSized size block code bytes forced room (Length long) after →
+    (size block code : ℕ) (bytes : List ℕ) (forced : Bool) (room : List ℕ) (long : ℕ) (after : List ℕ) → Write size block code bytes forced room (Length long) after →
     (long ≡ size + imageExtra) × Handed (imageOf (wordOf code block) bytes forced) room long after
-image-write-hands size block code bytes forced room long after promise =
+image-write-hands size block code bytes forced room long after wrote =
+    let promise : WriteSized size block code bytes forced room (Length long) after =
+    rw (write-sized (written-size size block code bytes forced room long after wrote) block code bytes forced room) at wrote in
     let passes : imageWriteFault size block code bytes room ≡ 0 = sym (gives-number (fills-gives promise) (λ said. said .0) (λ k. refl) refl) in
     let is : long ≡ size + imageExtra = rw passes at (ap (λ (said : ℕ × ℕ). said .1) (promise .says)) in (
       is,

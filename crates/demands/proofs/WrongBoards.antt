@@ -10,10 +10,12 @@ use lib.IntN.{pos}
 use lib.ListN.{length, take, drop, getD, set, replicate, length-replicate}
 use lib.Seq.{length-sets}
 use denote.Ref.{RefT}
+use Rattle.paper.proofs.Chain.{orElse-none}
 use Rattle.paper.proofs.Kept.{accepts}
+use Rattle.paper.proofs.Rows.{data-size-passes, sized-exactly}
 use Rattle.paper.specs.Checks.{answer}
-use Rattle.paper.specs.Limits.{dataSize, headerSize, imageExtra}
-use Rattle.paper.specs.Exactly.{Exactly}
+use Rattle.paper.specs.Limits.{dataSize, headerSize, imageExtra, Size, dataSizeFault, DataSizeJudged}
+use Rattle.paper.specs.Exactly.{_andThen_, Exactly}
 use Rattle.paper.specs.Answers.{saidPlaced}
 use Rattle.paper.specs.Refusals.{noSuchBlock, badTable, outside, noSpare, otherBlock, forcedError, badCode, unknownCode}
 use Rattle.paper.specs.declared.Placed.the-variants.{At}
@@ -72,8 +74,8 @@ use Rattle.reading.specs.Tracks.{Seated, on-spare, bytesIn, imageAt, imageFor, 
 use Rattle.reading.specs.Faults.{lentFault, blockReadFault}
 use Rattle.reading.specs.Judged.{BlockReadJudged}
 use Rattle.reading.proofs.Exact.{read-exactly}
-use Rattle.reading.specs.Promises.{AtSpot, in-spare}
-use Rattle.reading.proofs.Spots.{spotted}
+use Rattle.reading.specs.Promises.{AtSpot, in-spare, Spots}
+use Rattle.reading.specs.declared.answers.Spot.{Spot}
 use Rattle.reading.specs.declared.answers.Spot.the-variants.{InSpare}
 use Rattle.reading.proofs.Tracks.{image-inside, data-inside}
 use Rattle.reading.proofs.Written.{good-read, other-read}
@@ -345,15 +347,24 @@ pub writes-early-keeps-not : (writesEarly (pageWith 20) lent ≡ (NotPaged outsi
 unfolding laidOut word32At entriesAt faultBelow
 writes-early-keeps-not = (refl, λ keeps. omega (arith, ap (λ (l : List ℕ). getD l 0 0) (keeps (λ none. omega arith))))
 
+-- 512 is a size, so that no other number is given by rows that follow that of the size
+normal : Size dataSize
+normal = inl refl
+
+sized-other : (Rows : ℕ → Type 0) {number k : ℕ} → Exactly Rows number → (number ≡ k → ⊥) → (DataSizeJudged dataSize andThen Rows) k → ⊥
+sized-other Rows {number} exactly other =
+    no-other (sized-exactly dataSize Rows exactly) (λ same. other (sym (orElse-none (dataSizeFault dataSize) number (data-size-passes normal)) ∙ same))
+
 -- every mismatch taken for a forced error: the code is neither, and no row gives 17
 damaged-fault : imageFault dataSize damaged 6 0 ≡ badCode
 unfolding damaged imageFault pairFault contentsFault copiesFault headerOf times copies storedIn foundIn dataOf Code.dataCode codeFrom Code.codeAfter rotated wordsOf bytesOf bytes32 word16At word32At entriesAt
 damaged-fault = refl
 
-pub every-forced-unjudged : (everyForced damaged 6 0 ≡ NotGood forcedError) × (ImageJudged dataSize damaged 6 0 forcedError → ⊥)
-unfolding damaged copiesFault headerOf times copies storedIn foundIn dataOf Code.dataCode codeFrom Code.codeAfter rotated wordsOf bytesOf bytes32 word16At word32At entriesAt
+pub every-forced-unjudged :
+    (everyForced dataSize damaged 6 0 ≡ NotGood forcedError) × ((DataSizeJudged dataSize andThen ImageJudged dataSize damaged 6 0) forcedError → ⊥)
+unfolding dataSizeFault damaged copiesFault headerOf times copies storedIn foundIn dataOf Code.dataCode codeFrom Code.codeAfter rotated wordsOf bytesOf bytes32 word16At word32At entriesAt
 every-forced-unjudged =
-    (refl, no-other (judge-exactly damaged dataSize 6 0) (λ same. let clash : badCode ≡ forcedError = sym damaged-fault ∙ same in omega arith))
+    (refl, sized-other (ImageJudged dataSize damaged 6 0) (judge-exactly damaged dataSize 6 0) (λ same. let clash : badCode ≡ forcedError = sym damaged-fault ∙ same in omega arith))
 
 older-long : length older ≡ dataSize
 older-long = length-replicate {A = ℕ} 512 0
@@ -366,10 +377,10 @@ seven-contents : contentsFault dataSize sevenAtPrimary 0x20000007 ≡ 0
 seven-contents = rw older-long at (written-good 0x20000007 older (omega arith) (replicate-below 512 0 (omega arith) (omega arith)))
 
 pub compares-word-unjudged :
-    (comparesWord sevenAtPrimary 268435463 1 ≡ Good) × (ImageJudged dataSize sevenAtPrimary 268435463 1 0 → ⊥)
+    (comparesWord dataSize sevenAtPrimary 268435463 1 ≡ Good) × ((DataSizeJudged dataSize andThen ImageJudged dataSize sevenAtPrimary 268435463 1) 0 → ⊥)
 compares-word-unjudged = (
-  rw (length-passes (dataSize + imageExtra) sevenAtPrimary seven-long, seven-contents),
-  no-other (judge-exactly sevenAtPrimary dataSize 268435463 1) (λ same. let clash : otherBlock ≡ 0 = sym aliased ∙ same in omega arith),
+  rw (data-size-passes normal, length-passes (dataSize + imageExtra) sevenAtPrimary seven-long, seven-contents),
+  sized-other (ImageJudged dataSize sevenAtPrimary 268435463 1) (judge-exactly sevenAtPrimary dataSize 268435463 1) (λ same. let clash : otherBlock ≡ 0 = sym aliased ∙ same in omega arith),
 )
   where
     seven-long : length sevenAtPrimary ≡ dataSize + imageExtra
@@ -388,18 +399,21 @@ fourth-fault : headerFault dataSize sevenFourth ≡ otherBlock
 unfolding headerFault copiesFault headerOf times copies imageOf bytesOf bytes16 bytes32 word32At entriesAt
 fourth-fault = refl
 
-pub answers-fourth-unjudged : (answersFourth sevenFourth ≡ Of 1 7) × (HeaderJudged dataSize sevenFourth 0 → ⊥)
-unfolding copiesFault headerOf times copies imageOf bytesOf bytes16 bytes32 word32At entriesAt
-answers-fourth-unjudged = (refl, no-other (header-exactly sevenFourth dataSize) (λ same. let clash : otherBlock ≡ 0 = sym fourth-fault ∙ same in omega arith))
+pub answers-fourth-unjudged : (answersFourth dataSize sevenFourth ≡ Of 1 7) × ((DataSizeJudged dataSize andThen HeaderJudged dataSize sevenFourth) 0 → ⊥)
+unfolding dataSizeFault copiesFault headerOf times copies imageOf bytesOf bytes16 bytes32 word32At entriesAt
+answers-fourth-unjudged =
+    (refl, sized-other (HeaderJudged dataSize sevenFourth) (header-exactly sevenFourth dataSize) (λ same. let clash : otherBlock ≡ 0 = sym fourth-fault ∙ same in omega arith))
 
 -- 22 before 5: a block that no header can carry, with a fourth code, is refused 5, and no row gives 22
 block-fault : writeFault dataSize 268435456 1 older [] ≡ noSuchBlock
 unfolding writeFault
 block-fault = refl
 
-pub code-first-unjudged : (codeFirst 268435456 1 older [] ≡ unknownCode) × (WriteJudged dataSize 268435456 1 older [] unknownCode → ⊥)
+pub code-first-unjudged :
+    (codeFirst dataSize 268435456 1 older [] ≡ unknownCode) × ((DataSizeJudged dataSize andThen WriteJudged dataSize 268435456 1 older []) unknownCode → ⊥)
+unfolding dataSizeFault
 code-first-unjudged =
-    (refl, no-other (write-exactly dataSize 268435456 1 older []) (λ same. let clash : noSuchBlock ≡ unknownCode = sym block-fault ∙ same in omega arith))
+    (refl, sized-other (WriteJudged dataSize 268435456 1 older []) (write-exactly dataSize 268435456 1 older []) (λ same. let clash : noSuchBlock ≡ unknownCode = sym block-fault ∙ same in omega arith))
 
 -- a track image is as long as before a sector image was stored in it
 blank-long : length blank ≡ bytesIn dataSize 5
@@ -436,22 +450,26 @@ module _ (home spare : RefT (List ℕ)) (home-is : home .now ≡ trackWith 0 6 o
   unfolding lentFault allBelow firstOr rising
   lent-passes = rw (home-is, spare-is, track-long 0 6 older, track-long 4 0x30000006 newer)
 
-  home-holds : homeImage small 2 6 (home .now) ≡ imageOf 6 older false
+  home-holds : homeImage dataSize small 2 6 (home .now) ≡ imageOf 6 older false
   home-holds = rw home-is (track-holds 0 6 older (omega arith) older-long)
 
   spare-holds : imageAt dataSize (bytesIn dataSize 4) (spare .now) ≡ imageOf 0x30000006 newer false
   spare-holds = rw spare-is (track-holds 4 0x30000006 newer (omega arith) newer-long)
 
-  home-good : contentsFault dataSize (homeImage small 2 6 (home .now)) 6 ≡ 0
+  home-good : contentsFault dataSize (homeImage dataSize small 2 6 (home .now)) 6 ≡ 0
   home-good = rw home-holds (rw older-long at (written-good 6 older (omega arith) (replicate-below 512 0 (omega arith) (omega arith))))
 
-  home-handed : readsHome small 2 afterSix eightZeros 6 home spare .now ≡ older
-  home-handed = rw (lent-passes, home-good, home-holds) (rw older-long at (written-data 6 older false))
+  home-handed : readsHome dataSize small 2 afterSix eightZeros 6 home spare .now ≡ older
+  home-handed = rw (data-size-passes normal, lent-passes, home-good, home-holds) (rw older-long at (written-data 6 older false))
 
-  spare-spot : spotted dataSize small 2 afterSix eightZeros 6 (home .now) (spare .now) ≡ InSpare (bytesIn dataSize 4 + headerSize)
+  spare-spot : (spot : Spot) → Spots dataSize small 2 afterSix eightZeros 6 (home .now) (spare .now) spot → spot ≡ InSpare (bytesIn dataSize 4 + headerSize)
   unfolding headerFor codeFor placeOf firstBelow sectorIn
-  spare-spot =
-      rw (good-read dataSize small 2 afterSix eightZeros 6 newer newer-long (replicate-below 512 1 (omega arith) (omega arith)) lent-passes (six-on-spare (home .now) (spare .now)) spare-holds)
+  spare-spot spot promise =
+      promise .answers
+      ∙ rw (
+        data-size-passes normal,
+        good-read dataSize small 2 afterSix eightZeros 6 newer newer-long (replicate-below 512 1 (omega arith) (omega arith)) lent-passes (six-on-spare (home .now) (spare .now)) spare-holds,
+      )
 
   spare-data : take dataSize (drop (bytesIn dataSize 4 + headerSize) (spare .now)) ≡ newer
   spare-data =
@@ -459,12 +477,13 @@ module _ (home spare : RefT (List ℕ)) (home-is : home .now ≡ trackWith 0 6 o
 
   -- home for every block: the older data is handed back, and it is not the part at the spot where block 6 lies
   pub reads-home-strays :
-      (readsHome small 2 afterSix eightZeros 6 home spare .now ≡ older)
-      × (AtSpot dataSize home spare (readsHome small 2 afterSix eightZeros 6 home spare) (spotted dataSize small 2 afterSix eightZeros 6 (home .now) (spare .now)) → ⊥)
+      (readsHome dataSize small 2 afterSix eightZeros 6 home spare .now ≡ older)
+      × ((spot : Spot) → Spots dataSize small 2 afterSix eightZeros 6 (home .now) (spare .now) spot →
+      AtSpot dataSize home spare (readsHome dataSize small 2 afterSix eightZeros 6 home spare) spot → ⊥)
   reads-home-strays = (
     home-handed,
-    λ part.
-        let same : older ≡ newer = sym home-handed ∙ (in-spare-holds (rw spare-spot at part) ∙ spare-data) in
+    λ spot promise part.
+        let same : older ≡ newer = sym home-handed ∙ (in-spare-holds (rw (spare-spot spot promise) at part) ∙ spare-data) in
         omega (arith, ap (λ (l : List ℕ). getD l 0 0) same),
   )
 
@@ -489,10 +508,11 @@ module _ (home spare : List ℕ) (home-long : length home ≡ bytesIn dataSize 5
       (rw spare-is (track-holds 4 6 older (omega arith) older-long))
 
   pub compares-block-unjudged :
-      (comparesBlock small 2 afterSix eightZeros 6 home spare ≡ Good) × (BlockReadJudged dataSize small 2 afterSix eightZeros 6 home spare 0 → ⊥)
+      (comparesBlock dataSize small 2 afterSix eightZeros 6 home spare ≡ Good)
+      × ((DataSizeJudged dataSize andThen BlockReadJudged dataSize small 2 afterSix eightZeros 6 home spare) 0 → ⊥)
   compares-block-unjudged = (
-    rw (moved-passes, moved-holds, address-passes (imageOf 6 older false) 6 stands, stands-header (imageOf 6 older false) 6 stands, six-code),
-    no-other (read-exactly dataSize small 2 afterSix eightZeros 6 home spare) (λ same. let clash : otherBlock ≡ 0 = sym moved-fault ∙ same in omega arith),
+    rw (data-size-passes normal, moved-passes, moved-holds, address-passes (imageOf 6 older false) 6 stands, stands-header (imageOf 6 older false) 6 stands, six-code),
+    sized-other (BlockReadJudged dataSize small 2 afterSix eightZeros 6 home spare) (read-exactly dataSize small 2 afterSix eightZeros 6 home spare) (λ same. let clash : otherBlock ≡ 0 = sym moved-fault ∙ same in omega arith),
   )
     where
       stands : Stands (imageOf 6 older false) 6
@@ -516,23 +536,28 @@ small-shaped = shape-shows small refl
 small-spared : Spared small 2
 small-spared = drive-shows small 2 refl .1
 
-first-zero : {after : List ℕ} → LeavesScratch small 2 ones after → getD (take 8 after) 0 0 ≡ 0
-first-zero leaves = ap (λ (l : List ℕ). getD l 0 0) (leaves .zeros small-shaped small-spared (omega arith))
+-- whichever of the size, the shape and r a call looks at before its scratch: a read looks at all three, the other calls at the shape and r
+module _ (InRange : Type 0) (looked-at : Size dataSize × (Shaped small × Spared small 2) → InRange) where
+  in-range : InRange
+  in-range = looked-at (normal, (small-shaped, small-spared))
 
--- a mark is left on after 11
-pub leaves-mark-on : (getD (leavesMark small 2 zeroTwice ones) 0 0 ≡ 1) × (LeavesScratch small 2 ones (leavesMark small 2 zeroTwice ones) → ⊥)
-unfolding allBelow
-leaves-mark-on = (refl, λ leaves. omega (arith, first-zero leaves))
+  first-zero : {after : List ℕ} → LeavesScratch InRange small 2 ones after → getD (take 8 after) 0 0 ≡ 0
+  first-zero leaves = ap (λ (l : List ℕ). getD l 0 0) (leaves .zeros in-range (omega arith))
 
--- cleared only where the call accepts: a table that is refused 11 leaves what was lent
-pub clears-accepted-leaves : (clearsAccepted small 2 twice ones ≡ ones) × (LeavesScratch small 2 ones (clearsAccepted small 2 twice ones) → ⊥)
-unfolding allBelow
-clears-accepted-leaves = (refl, λ leaves. omega (arith, first-zero leaves))
+  -- a mark is left on after 11
+  pub leaves-mark-on : (getD (leavesMark small 2 zeroTwice ones) 0 0 ≡ 1) × (LeavesScratch InRange small 2 ones (leavesMark small 2 zeroTwice ones) → ⊥)
+  unfolding allBelow
+  leaves-mark-on = (refl, λ leaves. omega (arith, first-zero leaves))
 
--- all that is lent is cleared: the three numbers beyond the spares do not stand
-pub clears-all-beyond : (clearsAll small 2 afterSix ones ≡ replicate 11 0) × (LeavesScratch small 2 ones (clearsAll small 2 afterSix ones) → ⊥)
-clears-all-beyond =
-    (refl, λ leaves. omega (arith, ap (λ (l : List ℕ). getD l 0 0) (leaves .rest-stands small-shaped small-spared (omega arith))))
+  -- cleared only where the call accepts: a table that is refused 11 leaves what was lent
+  pub clears-accepted-leaves : (clearsAccepted small 2 twice ones ≡ ones) × (LeavesScratch InRange small 2 ones (clearsAccepted small 2 twice ones) → ⊥)
+  unfolding allBelow
+  clears-accepted-leaves = (refl, λ leaves. omega (arith, first-zero leaves))
+
+  -- all that is lent is cleared: the three numbers beyond the spares do not stand
+  pub clears-all-beyond : (clearsAll small 2 afterSix ones ≡ replicate 11 0) × (LeavesScratch InRange small 2 ones (clearsAll small 2 afterSix ones) → ⊥)
+  clears-all-beyond =
+      (refl, λ leaves. omega (arith, ap (λ (l : List ℕ). getD l 0 0) (leaves .rest-stands in-range (omega arith))))
 
 -- 11 before 7: with no scratch at all a table that breaks a rule is refused 7, and no row gives 11
 pub rules-first-unjudged : (rulesFirst small 2 twice [] ≡ badTable) × (TableJudged small 2 twice [] badTable → ⊥)

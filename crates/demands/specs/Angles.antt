@@ -1,7 +1,7 @@
 -- Document 02, Q-9: groups of heads. Every address that a call answers has its angle; bad groups are refused; and good ones change nothing but the angle.
 use Prim.Native.Nat.{ℕ, _+_, _%_, _<_}
 use mathlib.Core.Path.{_≡_}
-use mathlib.Core.List.{List, []}
+use mathlib.Core.List.{List}
 use denote.Ref.{RefT}
 use Rattle.paper.specs.Refusals.{outOfRange}
 use Rattle.paper.specs.declared.Placed.the-variants.{Refused as NotPlaced}
@@ -22,7 +22,7 @@ use Rattle.spares.specs.declared.Shifted.the-variants.{Refused as NotShifted}
 use Rattle.spares.specs.declared.Counted.the-variants.{Refused as NotCounted}
 use Rattle.spares.specs.Promises as Spares
 use Rattle.image.specs.declared.Verdict.the-variants.{Refused as NotGood}
-use Rattle.image.specs.Promises.{Lends}
+use Rattle.image.specs.Promises.{LendsNone}
 use Rattle.reading.specs.declared.answers.Spot.the-variants.{Refused as NotSpotted}
 use Rattle.reading.specs.Promises as Reading
 use Rattle.demands.specs.Relations.{partShown}
@@ -82,7 +82,7 @@ butAngle said = (said .0, said .1, said .2, said .3)
 abbrev pub SameButAngle : (Shape → Located → Type 0) → Type 0
 SameButAngle = InAnyGroups (λ located. butAngle (Shapes.saidLocated located)) (λ located. located ≡ NotLocated outOfRange)
 
--- the 15 calls that take a shape, and what ten of them leave of their scratch
+-- the 15 calls that take a shape, and what ten of them, the three reads among them, leave of their scratch
 pub record EachCall : Type 0 where
   pub shape-sector : (cylinder head sector : ℕ) → SameAnswer NotPlaced (λ shape. Shapes.SectorOf shape cylinder head sector)
   pub shape-address : (x : ℕ) → SameButAngle (λ shape. Shapes.AddressOf shape x)
@@ -96,12 +96,13 @@ pub record EachCall : Type 0 where
   pub spare-census : (r : ℕ) (t scratch : List ℕ) → SameAnswer NotCounted (λ shape. Spares.CensusOf shape r t scratch)
   pub spare-replace : (r : ℕ) (t scratch : List ℕ) (b : ℕ) → SameFilled NotReplaced t (λ shape. Spares.Replacement shape r t scratch b)
   pub spare-first : (r : ℕ) (list room : List ℕ) → SameFilled NotWritten room (λ shape. FirstTable shape r list room)
-  pub read-judge : (size r : ℕ) (t scratch : List ℕ) (b : ℕ) (home spare : List ℕ) → SameAnswer NotGood (λ shape. Reading.JudgeSized size shape r t scratch b home spare)
-  pub read-spot : (size r : ℕ) (t scratch : List ℕ) (b : ℕ) (home spare : List ℕ) → SameAnswer NotSpotted (λ shape. Reading.SpotSized size shape r t scratch b home spare)
+  pub read-judge : (size r : ℕ) (t scratch : List ℕ) (b : ℕ) (home spare : List ℕ) → SameAnswer NotGood (λ shape. Reading.Judge size shape r t scratch b home spare)
+  pub read-spot : (size r : ℕ) (t scratch : List ℕ) (b : ℕ) (home spare : List ℕ) → SameAnswer NotSpotted (λ shape. Reading.Spots size shape r t scratch b home spare)
   pub read-data :
       (size r : ℕ) (t scratch : List ℕ) (b : ℕ) (home spare : RefT (List ℕ)) →
-      InAnyGroups partShown (Lends home 0 []) (λ shape. Reading.DataSized size shape r t scratch b home spare)
+      InAnyGroups partShown (LendsNone home) (λ shape. Reading.Data size shape r t scratch b home spare)
   pub scratch-left : (r : ℕ) (before : List ℕ) → InAnyGroups (λ after. after) (λ after. after ≡ before) (λ shape. Scratched shape r before)
+  pub read-scratch-left : (size r : ℕ) (before : List ℕ) → InAnyGroups (λ after. after) (λ after. after ≡ before) (λ shape. Reading.ReadScratched size shape r before)
 
 pub record Angles : Type 0 where
   -- An address that is answered has its angle, (sector + offset × group) mod S.

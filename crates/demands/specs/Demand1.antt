@@ -1,6 +1,6 @@
 -- Demand 1: every call takes whatever it is handed, ends, and answers or refuses by the paper's numbers. The record `Demand1`, at the end, has a field for each sentence.
--- That a call takes anything and ends is no field: none of the 27 calls below has a `requires`, and Rattle proves of each function that it is safe and ends.
--- What is said of images and of reads is said for any number of data bytes; the public calls are those at 512.
+-- That a call takes anything and ends is no field: none of the 28 calls below has a `requires`, and Rattle proves of each function that it is safe and ends.
+-- A call on a sector image or on a read is handed the size of a sector's data first; what is said of it is said of whatever size, and any but the two is refused 1.
 use Prim.Native.Nat.{ℕ, _+_, _*_, _^_, _<_, _≤_}
 use mathlib.Core.Path.{_≡_}
 use mathlib.Core.Bool.{Bool, true, false}
@@ -9,7 +9,8 @@ use lib.Bits.{bitXor}
 use lib.ListN.{length, getD, set, take}
 use denote.Ref.{RefT}
 use Rattle.paper.specs.Answers.{saidWritten}
-use Rattle.paper.specs.Limits.{headerSize, imageExtra}
+use Rattle.paper.specs.Exactly.{_andThen_}
+use Rattle.paper.specs.Limits.{headerSize, imageExtra, Size, DataSizeJudged}
 use Rattle.paper.specs.Promise.{written}
 use Rattle.paper.specs.Refusals.{otherBlock, forcedError}
 use Rattle.paper.specs.declared.Placed.{Placed}
@@ -59,11 +60,14 @@ use Rattle.image.specs.Code.{dataCode}
 use Rattle.image.specs.Image.{imageOf}
 use Rattle.image.specs.Judged.{HeadSays, ContentsJudged, HeaderJudged, ImageJudged, WriteJudged as ImageWriteJudged}
 use Rattle.image.specs.Promises as Image
+use Rattle.mode.specs.declared.Mode.{Mode}
+use Rattle.mode.specs.Modes.{ModeJudged}
+use Rattle.mode.specs.Promises.{Finds}
 use Rattle.reading.specs.declared.answers.Spot.{Spot}
 use Rattle.reading.specs.Judged.{BlockReadJudged}
 use Rattle.reading.specs.Promises as Reading
 use Rattle.demands.specs.Relations.{Keeps, PartBy, Handed, OneResult, OneFilled, OneFilledTwice, OneLent}
-use Rattle.demands.specs.Numbered.{PlacedBy, NamedBy, WrittenBy, LocatedBy, JobBy, PagedBy, FormattedBy, ShiftedBy, ReplacedBy, CountedBy, HeadBy, VerdictBy, SpotBy}
+use Rattle.demands.specs.Numbered.{PlacedBy, NamedBy, WrittenBy, LocatedBy, JobBy, PagedBy, FormattedBy, ShiftedBy, ReplacedBy, CountedBy, HeadBy, VerdictBy, ModeBy, SpotBy}
 
 -- the number of each call is the one that the paper's table gives, exactly then; refused, the call says that number and nothing else; and no refusal is numbered 0
 pub record EachByTheNumbers : Type 0 where
@@ -119,27 +123,29 @@ pub record EachByTheNumbers : Type 0 where
   -- the sector image
   pub image-write :
       (size block code : ℕ) (bytes : List ℕ) (forced : Bool) (room : List ℕ) (result : Written) (after : List ℕ) →
-      Image.WriteSized size block code bytes forced room result after → WrittenBy (ImageWriteJudged size block code bytes room) result
-  pub image-header : (size : ℕ) (image : List ℕ) (result : Head) → Image.HeaderSized size image result → HeadBy (HeaderJudged size image) result
+      Image.Write size block code bytes forced room result after → WrittenBy (DataSizeJudged size andThen ImageWriteJudged size block code bytes room) result
+  pub image-header : (size : ℕ) (image : List ℕ) (result : Head) → Image.Header size image result → HeadBy (DataSizeJudged size andThen HeaderJudged size image) result
   pub image-judge :
-      (size : ℕ) (image : List ℕ) (block code : ℕ) (result : Verdict) → Image.JudgeSized size image block code result →
-      VerdictBy (ImageJudged size image block code) result
+      (size : ℕ) (image : List ℕ) (block code : ℕ) (result : Verdict) → Image.Judge size image block code result →
+      VerdictBy (DataSizeJudged size andThen ImageJudged size image block code) result
   -- the part is empty exactly where the verdict refuses, and else as long as the data
   pub image-data :
-      (size : ℕ) (image : RefT (List ℕ)) (block code : ℕ) (part : RefT (List ℕ)) → Image.DataSized size image block code part →
-      PartBy (ImageJudged size (image .now) block code) size (part .now)
+      (size : ℕ) (image : RefT (List ℕ)) (block code : ℕ) (part : RefT (List ℕ)) → Image.Data size image block code part →
+      PartBy (DataSizeJudged size andThen ImageJudged size (image .now) block code) size (part .now)
+  -- the mode sector
+  pub mode-find : (images : List ℕ) (apart : ℕ) (result : Mode) → Finds images apart result → ModeBy (ModeJudged images apart) result
   -- a read of a revectored block
   pub reading-judge :
       (size : ℕ) (shape : Shape) (r : ℕ) (t scratch : List ℕ) (b : ℕ) (home spare : List ℕ) (result : Verdict) →
-      Reading.JudgeSized size shape r t scratch b home spare result → VerdictBy (BlockReadJudged size shape r t scratch b home spare) result
+      Reading.Judge size shape r t scratch b home spare result → VerdictBy (DataSizeJudged size andThen BlockReadJudged size shape r t scratch b home spare) result
   pub reading-spot :
       (size : ℕ) (shape : Shape) (r : ℕ) (t scratch : List ℕ) (b : ℕ) (home spare : List ℕ) (result : Spot) →
-      Reading.SpotSized size shape r t scratch b home spare result → SpotBy (BlockReadJudged size shape r t scratch b home spare) result
+      Reading.Spots size shape r t scratch b home spare result → SpotBy (DataSizeJudged size andThen BlockReadJudged size shape r t scratch b home spare) result
   -- the part, in the same way
   pub reading-data :
       (size : ℕ) (shape : Shape) (r : ℕ) (t scratch : List ℕ) (b : ℕ) (home spare part : RefT (List ℕ)) →
-      Reading.DataSized size shape r t scratch b home spare part →
-      PartBy (BlockReadJudged size shape r t scratch b (home .now) (spare .now)) size (part .now)
+      Reading.Data size shape r t scratch b home spare part →
+      PartBy (DataSizeJudged size andThen BlockReadJudged size shape r t scratch b (home .now) (spare .now)) size (part .now)
 
 -- what is lent to each of the six calls that write stays as it was where the call refuses; what is left of scratch is said in `Scratches`
 pub record EachKeeps : Type 0 where
@@ -162,7 +168,7 @@ pub record EachKeeps : Type 0 where
       Keeps (saidWritten result .0) room after
   pub image-write :
       (size block code : ℕ) (bytes : List ℕ) (forced : Bool) (room : List ℕ) (result : Written) (after : List ℕ) →
-      Image.WriteSized size block code bytes forced room result after → Keeps (saidWritten result .0) room after
+      Image.Write size block code bytes forced room result after → Keeps (saidWritten result .0) room after
 
 -- what each call that fills a room hands back; what a replacement does to its table is said by demand 2
 pub record EachHands : Type 0 where
@@ -187,7 +193,7 @@ pub record EachHands : Type 0 where
   -- the bytes of an image, 18 more than its data, whose header carries the word of the code and the block
   pub image-write :
       (size block code : ℕ) (bytes : List ℕ) (forced : Bool) (room : List ℕ) (long : ℕ) (after : List ℕ) →
-      Image.WriteSized size block code bytes forced room (Length long) after →
+      Image.Write size block code bytes forced room (Length long) after →
       (long ≡ size + imageExtra) × Handed (imageOf (wordOf code block) bytes forced) room long after
 
 -- the promise of each call allows one result, one content of each lent room, one part and one place of it
@@ -218,18 +224,25 @@ pub record EachDetermined : Type 0 where
   pub spares-census : (shape : Shape) (r : ℕ) (t scratch : List ℕ) → OneResult (Spares.CensusOf shape r t scratch)
   pub spares-first-table : (shape : Shape) (r : ℕ) (list room : List ℕ) → OneFilled (FirstTable shape r list room)
   -- the sector image, and a read of a revectored block
-  pub image-write : (size block code : ℕ) (bytes : List ℕ) (forced : Bool) (room : List ℕ) → OneFilled (Image.WriteSized size block code bytes forced room)
-  pub image-header : (size : ℕ) (image : List ℕ) → OneResult (Image.HeaderSized size image)
-  pub image-judge : (size : ℕ) (image : List ℕ) (block code : ℕ) → OneResult (Image.JudgeSized size image block code)
-  pub image-data : (size : ℕ) (image : RefT (List ℕ)) (block code : ℕ) → OneLent (Image.DataSized size image block code)
-  pub reading-judge : (size : ℕ) (shape : Shape) (r : ℕ) (t scratch : List ℕ) (b : ℕ) (home spare : List ℕ) → OneResult (Reading.JudgeSized size shape r t scratch b home spare)
-  pub reading-spot : (size : ℕ) (shape : Shape) (r : ℕ) (t scratch : List ℕ) (b : ℕ) (home spare : List ℕ) → OneResult (Reading.SpotSized size shape r t scratch b home spare)
-  pub reading-data : (size : ℕ) (shape : Shape) (r : ℕ) (t scratch : List ℕ) (b : ℕ) (home spare : RefT (List ℕ)) → OneLent (Reading.DataSized size shape r t scratch b home spare)
-  -- what the ten calls that are lent a table leave of their scratch
+  pub image-write : (size block code : ℕ) (bytes : List ℕ) (forced : Bool) (room : List ℕ) → OneFilled (Image.Write size block code bytes forced room)
+  pub image-header : (size : ℕ) (image : List ℕ) → OneResult (Image.Header size image)
+  pub image-judge : (size : ℕ) (image : List ℕ) (block code : ℕ) → OneResult (Image.Judge size image block code)
+  pub image-data : (size : ℕ) (image : RefT (List ℕ)) (block code : ℕ) → OneLent (Image.Data size image block code)
+  pub reading-judge : (size : ℕ) (shape : Shape) (r : ℕ) (t scratch : List ℕ) (b : ℕ) (home spare : List ℕ) → OneResult (Reading.Judge size shape r t scratch b home spare)
+  pub reading-spot : (size : ℕ) (shape : Shape) (r : ℕ) (t scratch : List ℕ) (b : ℕ) (home spare : List ℕ) → OneResult (Reading.Spots size shape r t scratch b home spare)
+  pub reading-data : (size : ℕ) (shape : Shape) (r : ℕ) (t scratch : List ℕ) (b : ℕ) (home spare : RefT (List ℕ)) → OneLent (Reading.Data size shape r t scratch b home spare)
+  -- the mode sector
+  pub mode-find : (images : List ℕ) (apart : ℕ) → OneResult (Finds images apart)
+  -- what the seven calls of `spares` that are lent a table leave of their scratch, and what the three reads leave
   pub scratch : (shape : Shape) (r : ℕ) (before : List ℕ) → OneResult (Scratched shape r before)
+  pub read-scratch : (size : ℕ) (shape : Shape) (r : ℕ) (before : List ℕ) → OneResult (Reading.ReadScratched size shape r before)
   -- what an image holds has one verdict
   pub one-verdict :
       (size : ℕ) (image : List ℕ) (block code j k : ℕ) → ContentsJudged size image block code j → ContentsJudged size image block code k → j ≡ k
+  -- so of a whole image of 256 words or of 288 one of good, forced and the others holds, the one that the call says
+  pub verdict-of-row :
+      (size : ℕ) → Size size → (image : List ℕ) (block code k : ℕ) → length image ≡ size + imageExtra → ContentsJudged size image block code k →
+      (result : Verdict) → Image.Judge size image block code result → Image.saidVerdict result ≡ k
 
 -- an image that an accepted write left at the front of some room; its data is bytes, as the call's types say
 pub record WrittenImage (size block code : ℕ) (bytes : List ℕ) (forced : Bool) (image : List ℕ) : Type 0 where
@@ -237,7 +250,7 @@ pub record WrittenImage (size block code : ℕ) (bytes : List ℕ) (forced : Boo
   pub room : List ℕ
   pub long : ℕ
   pub after : List ℕ
-  pub wrote : Image.WriteSized size block code bytes forced room (Length long) after
+  pub wrote : Image.Write size block code bytes forced room (Length long) after
   pub is : image ≡ take long after
 
 -- what one call wrote or answered, another reads again
@@ -259,47 +272,48 @@ pub record EachAgain : Type 0 where
       (page room after : List ℕ) (kind n entries : ℕ) → Bytes page → Page.Reads page room (PageRead kind n entries) after →
       (other filled : List ℕ) (result : Written) → length page ≤ length other → Page.Writes n kind (take entries after) other result filled →
       (result ≡ Length (length page)) × (filled ≡ written page other)
-  -- a header answers a code and a block exactly where the image has its length and a number that says them, with one of the three codes, stands in three of the four copies
+  -- a header answers a code and a block exactly where the size is one of the two, the image has its length and a number that says them, with one of the three codes, stands in three of the four copies
   pub header-stands :
-      (size : ℕ) (image : List ℕ) (code block : ℕ) → Image.HeaderSized size image (Of code block) → (length image ≡ size + imageExtra) × HeadSays image code block
+      (size : ℕ) (image : List ℕ) (code block : ℕ) → Image.Header size image (Of code block) →
+      Size size × ((length image ≡ size + imageExtra) × HeadSays image code block)
   pub standing-header :
-      (size : ℕ) (image : List ℕ) (code block : ℕ) → length image ≡ size + imageExtra → HeadSays image code block → Image.HeaderSized size image (Of code block)
+      (size : ℕ) (image : List ℕ) (code block : ℕ) → Size size → length image ≡ size + imageExtra → HeadSays image code block → Image.Header size image (Of code block)
   -- an image that was written says its code and its block
   pub written-names :
       (size block code : ℕ) (bytes : List ℕ) (forced : Bool) (image : List ℕ) → WrittenImage size block code bytes forced image →
-      (result : Head) → Image.HeaderSized size image result → result ≡ Of code block
+      (result : Head) → Image.Header size image result → result ≡ Of code block
   -- written good, it is judged good with that pair and gives its data back in place
   pub written-good-judges :
       (size block code : ℕ) (bytes image : List ℕ) → WrittenImage size block code bytes false image →
-      (result : Verdict) → Image.JudgeSized size image block code result → result ≡ Good
+      (result : Verdict) → Image.Judge size image block code result → result ≡ Good
   pub written-good-gives :
       (size block code : ℕ) (bytes : List ℕ) (image : RefT (List ℕ)) → WrittenImage size block code bytes false (image .now) →
-      (part : RefT (List ℕ)) → Image.DataSized size image block code part → Image.Lends image headerSize bytes part
+      (part : RefT (List ℕ)) → Image.Data size image block code part → Image.Lends image headerSize bytes part
   -- written forced, it is judged a forced error with that pair and gives none
   pub written-forced-judges :
       (size block code : ℕ) (bytes image : List ℕ) → WrittenImage size block code bytes true image →
-      (result : Verdict) → Image.JudgeSized size image block code result → result ≡ NotGood forcedError
+      (result : Verdict) → Image.Judge size image block code result → result ≡ NotGood forcedError
   pub written-forced-gives :
       (size block code : ℕ) (bytes : List ℕ) (image : RefT (List ℕ)) → WrittenImage size block code bytes true (image .now) →
-      (part : RefT (List ℕ)) → Image.DataSized size image block code part → part .now ≡ []
+      (part : RefT (List ℕ)) → Image.Data size image block code part → part .now ≡ []
   -- with any other pair it is refused 16 and gives none, however it was written
   pub written-other-judges :
       (size block code : ℕ) (bytes : List ℕ) (forced : Bool) (image : List ℕ) → WrittenImage size block code bytes forced image →
       (other-block other-code : ℕ) → ((other-block ≡ block) × (other-code ≡ code) → ⊥) →
-      (result : Verdict) → Image.JudgeSized size image other-block other-code result → result ≡ NotGood otherBlock
+      (result : Verdict) → Image.Judge size image other-block other-code result → result ≡ NotGood otherBlock
   pub written-other-gives :
       (size block code : ℕ) (bytes : List ℕ) (forced : Bool) (image : RefT (List ℕ)) → WrittenImage size block code bytes forced (image .now) →
       (other-block other-code : ℕ) → ((other-block ≡ block) × (other-code ≡ code) → ⊥) →
-      (part : RefT (List ℕ)) → Image.DataSized size image other-block other-code part → part .now ≡ []
+      (part : RefT (List ℕ)) → Image.Data size image other-block other-code part → part .now ≡ []
   -- one changed bit of data, of any number of words, changes its code
   pub changed-bit-changes-code :
       (words : ℕ) (bytes : List ℕ) → Bytes bytes → length bytes ≡ 2 * words → (k bit : ℕ) → bit < 8 → k < 2 * words →
       dataCode (set bytes k (bitXor (getD bytes k 0) (2 ^ bit))) ≡ dataCode bytes → ⊥
-  -- so a good image of a whole number of words of which a data byte is changed is good no more
+  -- so a good image, of 256 words or of 288, of which a data byte is changed is good no more
   pub changed-data-not-good :
-      (size words : ℕ) → size ≡ 2 * words → (image : List ℕ) (block code k byte : ℕ) → Bytes image → k < size → byte < 256 →
+      (size : ℕ) (image : List ℕ) (block code k byte : ℕ) → Bytes image → k < size → byte < 256 →
       (byte ≡ getD image (headerSize + k) 0 → ⊥) →
-      Image.JudgeSized size image block code Good → Image.JudgeSized size (set image (headerSize + k) byte) block code Good → ⊥
+      Image.Judge size image block code Good → Image.Judge size (set image (headerSize + k) byte) block code Good → ⊥
 
 -- the demand, a field for each sentence
 pub record Demand1 : Type 0 where

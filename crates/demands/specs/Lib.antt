@@ -9,6 +9,7 @@ pub mod Histories
 pub mod NoHoles
 pub mod Demand3
 pub mod Angles
+pub mod Sizes
 pub mod Relations
 pub mod Numbered
 pub mod Inputs

@@ -5,6 +5,7 @@ use Rattle.demands.specs.Demand2Skipped.{Demand2Skipped}
 use Rattle.demands.specs.Demand2Revectored.{Demand2Revectored}
 use Rattle.demands.specs.Headers.{Headers}
 use Rattle.demands.specs.NoHoles.{NoHoles}
+use Rattle.demands.specs.Sizes.{Sizes}
 use Rattle.demands.specs.Demand3.{Demand3}
 use Rattle.demands.specs.Angles.{Angles}
 
@@ -19,9 +20,11 @@ pub record Mission : Type 0 where
   pub nights : Demand3
   -- Q-4. A header tells a block at home (code 0) from one that is replaced at its primary (2) or elsewhere (3). Images with code 0 keep their bytes. Where a fourth code is expected, or stands in the header, the verdict is 16. A read expects the code that the table says: with it the block is judged as it was written, with any other it is refused 16.
   pub headers : Headers
-  -- Q-6. The scratch that a call is lent with a table is as it was where the shape or r is out of range or the scratch is too short; else its first T × r numbers are zeros after the call, accepted or refused, and the rest is as it was.
+  -- Q-6. The scratch that a call is lent with a table is as it was where the shape or r, or in a read the size (Q-10), is out of range, or the scratch is too short; else its first T × r numbers are zeros after the call, accepted or refused, and the rest is as it was.
   pub scratch : Scratches
   -- Q-7. A table passes only where no free place comes before an allocated block's place in that block's search order, and so the look-up stops at the first free place and answers what it answered; no first table and no replacement, accepted or refused, leaves such a place.
   pub unholed : NoHoles
   -- Q-9. An address has its angle, (sector + offset × group) mod S; a bad g, t or offset is refusal 1; and the groups change nothing else.
   pub angles : Angles
+  -- Q-10. A sector has 512 data bytes or 576. An image or a track of the one size is refused 14 at the other. The mode sector says the size of a drive: it is answered exactly where some copy of the format table says it and no earlier copy says any; 21 where none does, and 1 where copies lie no sector apart.
+  pub sizes : Sizes

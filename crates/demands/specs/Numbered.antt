@@ -34,6 +34,9 @@ use Rattle.image.specs.declared.Head.{Head}
 use Rattle.image.specs.declared.Head.the-variants.{Refused as NoHead}
 use Rattle.image.specs.declared.Verdict.{Verdict}
 use Rattle.image.specs.declared.Verdict.the-variants.{Refused as NotGood}
+use Rattle.mode.specs.Promises.{saidMode}
+use Rattle.mode.specs.declared.Mode.{Mode}
+use Rattle.mode.specs.declared.Mode.the-variants.{Refused as NoMode}
 use Rattle.reading.specs.Promises.{saidSpot}
 use Rattle.reading.specs.declared.answers.Spot.{Spot}
 use Rattle.reading.specs.declared.answers.Spot.the-variants.{Refused as NotSpotted}
@@ -91,6 +94,10 @@ HeadBy = ByTheNumbers saidHead (λ numbers. numbers .0) (λ k. (k, 0, 0)) (λ k 
 -- a verdict, which is its number alone
 abbrev pub VerdictBy : (ℕ → Type 0) → Verdict → Type 0
 VerdictBy = ByTheNumbers saidVerdict (λ number. number) (λ k. k) (λ k result. result ≡ NotGood k)
+
+-- a size
+abbrev pub ModeBy : (ℕ → Type 0) → Mode → Type 0
+ModeBy = ByTheNumbers saidMode (λ numbers. numbers .0) (λ k. (k, 0)) (λ k result. result ≡ NoMode k)
 
 -- an image and an offset
 abbrev pub SpotBy : (ℕ → Type 0) → Spot → Type 0

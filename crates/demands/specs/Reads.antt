@@ -1,5 +1,5 @@
--- Document 01, "Sector image": a read of any block, at home or on a spare, goes by the one sector image that the block lies on. All of it is said for any number of data bytes; the public calls are those at 512.
-use Prim.Native.Nat.{ℕ, _+_, _*_, _%_, _<_}
+-- Document 01, "Sector image": a read of any block, at home or on a spare, goes by the one sector image that the block lies on. All of it is said of whatever size is handed over; any but the two is refused.
+use Prim.Native.Nat.{ℕ, _+_, _*_, _%_}
 use mathlib.Core.Path.{_≡_}
 use mathlib.Core.List.{List, []}
 use lib.ListN.{length, take, drop}
@@ -14,7 +14,7 @@ use Rattle.image.specs.declared.Verdict.{Verdict}
 use Rattle.image.specs.declared.Verdict.the-variants.{Good}
 use Rattle.image.specs.Promises.{saidVerdict, Lends}
 use Rattle.reading.specs.declared.answers.Spot.{Spot}
-use Rattle.reading.specs.Promises.{JudgeSized, DataSized, SpotSized, AtSpot, saidSpot}
+use Rattle.reading.specs.Promises.{Judge, Data, Spots, AtSpot, saidSpot}
 use Rattle.demands.specs.Incident.{imageFrom}
 
 -- of two images the one that a block lies in: the second for a replaced block, else that of its home track
@@ -40,21 +40,21 @@ pub record ReadsInPlace : Type 0 where
   pub lends-in-place :
       (size : ℕ) (shape : Shape) (r : ℕ) (t asked judged read : List ℕ) (b s : ℕ) (home spare track part : RefT (List ℕ)) →
       SectorOf shape r t asked b (At s) → LiesIn t b home spare track →
-      JudgeSized size shape r t judged b (home .now) (spare .now) Good → Enough shape r read → DataSized size shape r t read b home spare part →
+      Judge size shape r t judged b (home .now) (spare .now) Good → Enough shape r read → Data size shape r t read b home spare part →
       Lends track (dataAt size shape s) (take size (drop (dataAt size shape s) (track .now))) part
   -- which is as many bytes as a sector has of data
   pub lends-whole :
       (size : ℕ) (shape : Shape) (r : ℕ) (t judged read : List ℕ) (b : ℕ) (home spare part : RefT (List ℕ)) →
-      JudgeSized size shape r t judged b (home .now) (spare .now) Good → Enough shape r read → DataSized size shape r t read b home spare part → length (part .now) ≡ size
+      Judge size shape r t judged b (home .now) (spare .now) Good → Enough shape r read → Data size shape r t read b home spare part → length (part .now) ≡ size
   -- the part is empty where the verdict refuses
   pub refused-empty :
       (size : ℕ) (shape : Shape) (r : ℕ) (t judged read : List ℕ) (b : ℕ) (home spare part : RefT (List ℕ)) (verdict : Verdict) →
-      Enough shape r judged → JudgeSized size shape r t judged b (home .now) (spare .now) verdict → DataSized size shape r t read b home spare part →
+      Enough shape r judged → Judge size shape r t judged b (home .now) (spare .now) verdict → Data size shape r t read b home spare part →
       (saidVerdict verdict ≡ 0 → ⊥) → part .now ≡ []
-  -- and nowhere else, where a sector has data at all
+  -- and nowhere else
   pub empty-refused :
-      (size : ℕ) → 0 < size → (shape : Shape) (r : ℕ) (t judged read : List ℕ) (b : ℕ) (home spare part : RefT (List ℕ)) (verdict : Verdict) →
-      JudgeSized size shape r t judged b (home .now) (spare .now) verdict → Enough shape r read → DataSized size shape r t read b home spare part →
+      (size : ℕ) (shape : Shape) (r : ℕ) (t judged read : List ℕ) (b : ℕ) (home spare part : RefT (List ℕ)) (verdict : Verdict) →
+      Judge size shape r t judged b (home .now) (spare .now) verdict → Enough shape r read → Data size shape r t read b home spare part →
       part .now ≡ [] → saidVerdict verdict ≡ 0 → ⊥
   -- the verdict looks at the image of the sector that the block lies on and at no other: images of the same lengths that agree on it have the same verdict
   pub same-verdict :
@@ -62,21 +62,21 @@ pub record ReadsInPlace : Type 0 where
       SectorOf shape r t asked b (At s) → LiesIn t b home spare track → LiesIn t b home′ spare′ track′ →
       AsLong home home′ → AsLong spare spare′ → imageFrom size (startAt size shape s) track ≡ imageFrom size (startAt size shape s) track′ →
       Enough shape r judged → Enough shape r judged′ →
-      JudgeSized size shape r t judged b home spare verdict → JudgeSized size shape r t judged′ b home′ spare′ again → verdict ≡ again
+      Judge size shape r t judged b home spare verdict → Judge size shape r t judged′ b home′ spare′ again → verdict ≡ again
   -- and their parts hold the same
   pub same-data :
       (size : ℕ) (shape : Shape) (r : ℕ) (t asked read read′ : List ℕ) (b s : ℕ) (home spare track home′ spare′ track′ part again : RefT (List ℕ)) →
       SectorOf shape r t asked b (At s) → LiesIn t b home spare track → LiesIn t b home′ spare′ track′ →
       AsLong (home .now) (home′ .now) → AsLong (spare .now) (spare′ .now) → imageFrom size (startAt size shape s) (track .now) ≡ imageFrom size (startAt size shape s) (track′ .now) →
       Enough shape r read → Enough shape r read′ →
-      DataSized size shape r t read b home spare part → DataSized size shape r t read′ b home′ spare′ again → part .now ≡ again .now
+      Data size shape r t read b home spare part → Data size shape r t read′ b home′ spare′ again → part .now ≡ again .now
   -- the spot of a block that is judged good says the image that the block lies in, 0 or 1, and where the data begins
   pub spot-in-place :
       (size : ℕ) (shape : Shape) (r : ℕ) (t asked judged spotted : List ℕ) (b s image : ℕ) (home spare : List ℕ) (spot : Spot) →
       SectorOf shape r t asked b (At s) → LiesIn t b 0 1 image →
-      JudgeSized size shape r t judged b home spare Good → Enough shape r spotted → SpotSized size shape r t spotted b home spare spot → saidSpot spot ≡ (0, image, dataAt size shape s)
+      Judge size shape r t judged b home spare Good → Enough shape r spotted → Spots size shape r t spotted b home spare spot → saidSpot spot ≡ (0, image, dataAt size shape s)
   -- and the data lies at the spot
   pub data-at-spot :
       (size : ℕ) (shape : Shape) (r : ℕ) (t spotted read : List ℕ) (b : ℕ) (home spare part : RefT (List ℕ)) (spot : Spot) →
       Enough shape r spotted → Enough shape r read →
-      SpotSized size shape r t spotted b (home .now) (spare .now) spot → DataSized size shape r t read b home spare part → AtSpot size home spare part spot
+      Spots size shape r t spotted b (home .now) (spare .now) spot → Data size shape r t read b home spare part → AtSpot size home spare part spot

@@ -1,12 +1,12 @@
--- Document 01, "Numbers to try": those that are marked P, and some of ours beside them; document 02, Q-9: angles, Q-3: spares that die, Q-6: scratch, Q-7: holes, and Q-4: headers; all as the rows of one table, and what it is for a row to hold.
-use Prim.Native.Nat.{ℕ, _+_, _<_, _≤_}
+-- Document 01, "Numbers to try": those that are marked P, and some of ours beside them; document 02, Q-9: angles, Q-3: spares that die, Q-6: scratch, Q-7: holes, Q-4: headers, and Q-10: sizes and the mode sector; all as the rows of one table, and what it is for a row to hold.
+use Prim.Native.Nat.{ℕ, zero, suc, _+_, _-_, _*_, _%_, _<_, _≤_}
 use mathlib.Core.Path.{_≡_}
 use mathlib.Core.Bool.{Bool, true, false}
 use mathlib.Core.List.{List, [], _∷_, _++_}
 use lib.IntN.{ℤ, pos, negsuc}
-use lib.ListN.{length, replicate, set}
+use lib.ListN.{length, take, replicate, set}
 use Rattle.paper.specs.Answers.{saidPlaced, saidNamed, saidWritten}
-use Rattle.paper.specs.Limits.{dataSize, headerSize, imageExtra}
+use Rattle.paper.specs.Limits.{headerSize, imageExtra}
 use Rattle.paper.specs.declared.Written.{Written}
 use Rattle.paper.specs.Promise.{written}
 use Rattle.shape.specs.declared.Shape.{Shape}
@@ -20,10 +20,11 @@ use Rattle.first_table.specs.Promises.{FirstTable}
 use Rattle.spares.specs.declared.Replaced.{Replaced}
 use Rattle.spares.specs.Promises as Spares
 use Rattle.words.specs.Coded.{codeUnit}
-use Rattle.words.specs.Words.{Bytes, bytesOf}
+use Rattle.words.specs.Words.{bytes16, Bytes, bytesOf}
 use Rattle.image.specs.Header.{Known}
-use Rattle.image.specs.Image.{copies, storedIn}
+use Rattle.image.specs.Image.{copies, storedIn, imageOf}
 use Rattle.image.specs.Promises.{Write, Header, Judge, saidHead, saidVerdict}
+use Rattle.mode.specs.Promises.{Finds, saidMode}
 use Rattle.reading.specs.Promises as Reading
 use Rattle.demands.specs.Relations.{AllowsOnly}
 use Rattle.demands.specs.Headers.{Holding}
@@ -58,17 +59,25 @@ pub data Row : Type 0 where
   -- spares::sector_of, of whatever block, with any scratch that is too short: refused 7
   spare-short : (shape : Shape) (r : ℕ) (table : List ℕ) → Row
   -- image::write, accepted, of good data or of data that was bad, with any block and code that a header may have: the code of the data that the image carries
-  image-write : (forced : Bool) (bytes : List ℕ) (code : ℕ) → Row
+  image-write : (size : ℕ) (forced : Bool) (bytes : List ℕ) (code : ℕ) → Row
   -- image::write, accepted, of whatever data: the four copies in the image's header
-  image-heads : (block code : ℕ) (heads : List ℕ) → Row
+  image-heads : (size block code : ℕ) (heads : List ℕ) → Row
   -- image::write, of so many bytes into a room of so many: refused, and the room as it was
-  image-unwritten : (block code data-length room-length refusal : ℕ) → Row
+  image-unwritten : (size block code data-length room-length refusal : ℕ) → Row
   -- image::header, of an image with these four copies, whatever follows them: refusal, code, block
-  image-header : (heads : List ℕ) (figures : ℕ × ℕ × ℕ) → Row
+  image-header : (size : ℕ) (heads : List ℕ) (figures : ℕ × ℕ × ℕ) → Row
   -- image::judge, of such an image: refusal
-  image-judge : (heads : List ℕ) (block code refusal : ℕ) → Row
+  image-judge : (size : ℕ) (heads : List ℕ) (block code refusal : ℕ) → Row
+  -- image::header, of whatever image of so many bytes: refused
+  image-unheaded : (size image-length refusal : ℕ) → Row
+  -- image::judge, of such an image, with whatever block and code: refused
+  image-unjudged : (size image-length refusal : ℕ) → Row
   -- reading::judge, of a block whose sector holds a good image with this number in its header: refusal
-  read-judge : (shape : Shape) (r : ℕ) (table : List ℕ) (block number refusal : ℕ) → Row
+  read-judge : (size : ℕ) (shape : Shape) (r : ℕ) (table : List ℕ) (block number refusal : ℕ) → Row
+  -- reading::judge, with whatever else: refused for the size
+  read-unsized : (size : ℕ) → Row
+  -- mode::find: refusal, size
+  mode-find : (images : List ℕ) (apart : ℕ) (figures : ℕ × ℕ) → Row
 
 -- a row holds where the promise of its call allows its figures alone, in any room and with any scratch that is long enough
 abbrev pub Holds : Row → Type 0
@@ -113,28 +122,36 @@ Holds (spare-census shape r table figures) =
 Holds (spare-short shape r table) =
     (scratch : List ℕ) → length scratch < driveOf shape r .spares → (block : ℕ) →
     AllowsOnly (Spares.SectorOf shape r table scratch block) (λ answer. saidPlaced answer ≡ (7, 0))
-Holds (image-write forced bytes code) =
-    (block header-code : ℕ) → block < codeUnit → Known header-code → (room : List ℕ) → dataSize + imageExtra ≤ length room →
+Holds (image-write size forced bytes code) =
+    (block header-code : ℕ) → block < codeUnit → Known header-code → (room : List ℕ) → size + imageExtra ≤ length room →
     AllowsOnly
-    (λ (answer : Written × List ℕ). Write block header-code bytes forced room (answer .0) (answer .1))
-    (λ answer. (saidWritten (answer .0) ≡ (0, dataSize + imageExtra)) × (storedIn dataSize (answer .1) ≡ code))
-Holds (image-heads block code heads) =
-    (bytes : List ℕ) (forced : Bool) (room : List ℕ) → length bytes ≡ dataSize → dataSize + imageExtra ≤ length room →
+    (λ (answer : Written × List ℕ). Write size block header-code bytes forced room (answer .0) (answer .1))
+    (λ answer. (saidWritten (answer .0) ≡ (0, size + imageExtra)) × (storedIn size (answer .1) ≡ code))
+Holds (image-heads size block code heads) =
+    (bytes : List ℕ) (forced : Bool) (room : List ℕ) → length bytes ≡ size → size + imageExtra ≤ length room →
     AllowsOnly
-    (λ (answer : Written × List ℕ). Write block code bytes forced room (answer .0) (answer .1))
-    (λ answer. (saidWritten (answer .0) ≡ (0, dataSize + imageExtra)) × (copies (answer .1) ≡ heads))
-Holds (image-unwritten block code data-length room-length refusal) =
+    (λ (answer : Written × List ℕ). Write size block code bytes forced room (answer .0) (answer .1))
+    (λ answer. (saidWritten (answer .0) ≡ (0, size + imageExtra)) × (copies (answer .1) ≡ heads))
+Holds (image-unwritten size block code data-length room-length refusal) =
     (bytes : List ℕ) (forced : Bool) (room : List ℕ) → length bytes ≡ data-length → length room ≡ room-length →
     AllowsOnly
-    (λ (answer : Written × List ℕ). Write block code bytes forced room (answer .0) (answer .1))
+    (λ (answer : Written × List ℕ). Write size block code bytes forced room (answer .0) (answer .1))
     (λ answer. (saidWritten (answer .0) ≡ (refusal, 0)) × (answer .1 ≡ room))
-Holds (image-header heads figures) =
-    (rest : List ℕ) → headerSize + length rest ≡ dataSize + imageExtra → AllowsOnly (Header (bytesOf heads ++ rest)) (λ answer. saidHead answer ≡ figures)
-Holds (image-judge heads block code refusal) =
-    (rest : List ℕ) → headerSize + length rest ≡ dataSize + imageExtra → AllowsOnly (Judge (bytesOf heads ++ rest) block code) (λ answer. saidVerdict answer ≡ refusal)
-Holds (read-judge shape r table block number refusal) =
-    (home spare bytes : List ℕ) → Bytes bytes → Holding dataSize shape r table block home spare number bytes false →
-    (scratch : List ℕ) → Enough shape r scratch → AllowsOnly (Reading.Judge shape r table scratch block home spare) (λ answer. saidVerdict answer ≡ refusal)
+Holds (image-header size heads figures) =
+    (rest : List ℕ) → headerSize + length rest ≡ size + imageExtra → AllowsOnly (Header size (bytesOf heads ++ rest)) (λ answer. saidHead answer ≡ figures)
+Holds (image-judge size heads block code refusal) =
+    (rest : List ℕ) → headerSize + length rest ≡ size + imageExtra → AllowsOnly (Judge size (bytesOf heads ++ rest) block code) (λ answer. saidVerdict answer ≡ refusal)
+Holds (image-unheaded size image-length refusal) =
+    (image : List ℕ) → length image ≡ image-length → AllowsOnly (Header size image) (λ answer. saidHead answer ≡ (refusal, 0, 0))
+Holds (image-unjudged size image-length refusal) =
+    (image : List ℕ) (block code : ℕ) → length image ≡ image-length → AllowsOnly (Judge size image block code) (λ answer. saidVerdict answer ≡ refusal)
+Holds (read-judge size shape r table block number refusal) =
+    (home spare bytes : List ℕ) → Bytes bytes → Holding size shape r table block home spare number bytes false →
+    (scratch : List ℕ) → Enough shape r scratch → AllowsOnly (Reading.Judge size shape r table scratch block home spare) (λ answer. saidVerdict answer ≡ refusal)
+Holds (read-unsized size) =
+    (shape : Shape) (r : ℕ) (table scratch : List ℕ) (block : ℕ) (home spare : List ℕ) →
+    AllowsOnly (Reading.Judge size shape r table scratch block home spare) (λ answer. saidVerdict answer ≡ 1)
+Holds (mode-find images apart figures) = AllowsOnly (Finds images apart) (λ answer. saidMode answer ≡ figures)
 
 -- every row of a table holds
 infixr 20 _also_
@@ -143,16 +160,33 @@ pub data AllHold : List Row → Type 0 where
   _also_ : {row : Row} {rest : List Row} → Holds row → AllHold rest → AllHold (row ∷ rest)
 
 -- a sector's data: all zero, the first word 1, the last word 1
-abbrev pub zeros : List ℕ
-zeros = replicate 512 0
+abbrev pub zeros : ℕ → List ℕ
+zeros size = replicate size 0
 
-abbrev pub firstOne : List ℕ
-firstOne = 0 ∷ 1 ∷ replicate 510 0
+abbrev pub firstOne : ℕ → List ℕ
+firstOne size = 0 ∷ 1 ∷ replicate (size - 2) 0
 
-abbrev pub lastOne : List ℕ
-lastOne = replicate 511 0 ++ (1 ∷ [])
+abbrev pub lastOne : ℕ → List ℕ
+lastOne size = replicate (size - 1) 0 ++ (1 ∷ [])
 
--- the table, in the paper's order, and then the rows of requests Q-9, Q-3, Q-6, Q-7 and Q-4; what the paper does not mark P is said to be ours
+-- so many words from word i on, each 1000 times its place, as far as 16 bits go
+unfoldable pub thousands : ℕ → ℕ → List ℕ
+thousands i zero = []
+thousands i (suc count) = bytes16 (1000 * i % 65536) ++ thousands (suc i) count
+
+-- the data of a mode sector: its first word, and zeros
+abbrev pub modeData : ℕ → List ℕ
+modeData word = bytes16 word ++ replicate 510 0
+
+-- the image of a mode sector with this number in its header, good or forced
+abbrev pub modeImage : ℕ → ℕ → Bool → List ℕ
+modeImage number word forced = imageOf number (modeData word) forced
+
+-- such an image with number 0, good but for the last byte of its code
+abbrev pub modeDamaged : ℕ → List ℕ
+modeDamaged word = set (modeImage 0 word false) 529 0
+
+-- the table, in the paper's order, and then the rows of requests Q-9, Q-3, Q-6, Q-7, Q-4 and Q-10; what the paper does not mark P is said to be ours
 abbrev pub paperRows : List Row
 paperRows =
     -- the chart's blocks 3, 57, 58 and 843
@@ -192,11 +226,11 @@ paperRows =
     -- ours: five spares are free, one holds a block whose primary it is, two hold other blocks, and 120 places are null
     ∷ spare-census small 2 afterSix (0, 5, 1, 2, 0, 120)
     -- the code of good data
-    ∷ image-write false zeros 0x5a3c
-    ∷ image-write false firstOne 0xda3c
-    ∷ image-write false lastOne 0x5a3d
+    ∷ image-write 512 false (zeros 512) 0x5a3c
+    ∷ image-write 512 false (firstOne 512) 0xda3c
+    ∷ image-write 512 false (lastOne 512) 0x5a3d
     -- and of data that was bad when it was written
-    ∷ image-write true zeros 0xa5c3
+    ∷ image-write 512 true (zeros 512) 0xa5c3
     -- Q-9, ours, as all that follow: two groups of two tracks, the second three sectors after the first
     ∷ shape-address twoGroups 0 (0, 0, 0, 0, 0)
     ∷ shape-address twoGroups 9 (0, 0, 1, 4, 4)
@@ -263,37 +297,90 @@ paperRows =
     ∷ spare-sector tall 1 (set (tallWith 5 0x30000190) 4 0) 400 (11, 0)
     ∷ spare-sector tall 1 (set (tallWith 5 0x30000190) 6 0) 400 (0, 17)
     -- Q-4: the header of block 7 at home and at its primary, and of the last block that a header can carry, elsewhere
-    ∷ image-heads 7 0 (replicate 4 0x00000007)
-    ∷ image-heads 7 2 (replicate 4 0x20000007)
-    ∷ image-heads 268435455 3 (replicate 4 0x3fffffff)
+    ∷ image-heads 512 7 0 (replicate 4 0x00000007)
+    ∷ image-heads 512 7 2 (replicate 4 0x20000007)
+    ∷ image-heads 512 268435455 3 (replicate 4 0x3fffffff)
     -- a block more, with code 1 too: first the length of the data is looked at, then the block
-    ∷ image-unwritten 268435456 1 511 530 14
-    ∷ image-unwritten 268435456 1 512 530 5
+    ∷ image-unwritten 512 268435456 1 511 530 14
+    ∷ image-unwritten 512 268435456 1 512 530 5
     -- then the code, and then the room
-    ∷ image-unwritten 7 1 512 530 22
-    ∷ image-unwritten 7 15 512 530 22
-    ∷ image-unwritten 7 2 512 529 7
+    ∷ image-unwritten 512 7 1 512 530 22
+    ∷ image-unwritten 512 7 15 512 530 22
+    ∷ image-unwritten 512 7 2 512 529 7
     -- three copies of four
-    ∷ image-header (0x30000007 ∷ 0x30000007 ∷ 0x30000007 ∷ 0x00000007 ∷ []) (0, 3, 7)
+    ∷ image-header 512 (0x30000007 ∷ 0x30000007 ∷ 0x30000007 ∷ 0x00000007 ∷ []) (0, 3, 7)
     -- fourth codes
-    ∷ image-header (replicate 4 0x10000007) (16, 0, 0)
-    ∷ image-header (replicate 4 0x80000000) (16, 0, 0)
-    ∷ image-header (replicate 4 0xffffffff) (16, 0, 0)
+    ∷ image-header 512 (replicate 4 0x10000007) (16, 0, 0)
+    ∷ image-header 512 (replicate 4 0x80000000) (16, 0, 0)
+    ∷ image-header 512 (replicate 4 0xffffffff) (16, 0, 0)
     -- two copies and two: whole numbers are compared
-    ∷ image-header (0x20000007 ∷ 0x20000007 ∷ 0x00000007 ∷ 0x00000007 ∷ []) (15, 0, 0)
+    ∷ image-header 512 (0x20000007 ∷ 0x20000007 ∷ 0x00000007 ∷ 0x00000007 ∷ []) (15, 0, 0)
     -- block 7 at its primary, where another code is expected, or a pair that makes the same word
-    ∷ image-judge (replicate 4 0x20000007) 7 0 16
-    ∷ image-judge (replicate 4 0x20000007) 7 1 16
-    ∷ image-judge (replicate 4 0x20000007) 7 3 16
-    ∷ image-judge (replicate 4 0x20000007) 268435463 1 16
+    ∷ image-judge 512 (replicate 4 0x20000007) 7 0 16
+    ∷ image-judge 512 (replicate 4 0x20000007) 7 1 16
+    ∷ image-judge 512 (replicate 4 0x20000007) 7 3 16
+    ∷ image-judge 512 (replicate 4 0x20000007) 268435463 1 16
     -- a fourth code that is expected too
-    ∷ image-judge (replicate 4 0x10000007) 7 1 16
+    ∷ image-judge 512 (replicate 4 0x10000007) 7 1 16
     -- reads of block 7 at its primary, of block 8 elsewhere, and of block 6 at home
-    ∷ read-judge small 2 afterEight 7 0x20000007 0
-    ∷ read-judge small 2 afterEight 7 0x30000007 16
-    ∷ read-judge small 2 afterEight 7 0x00000007 16
-    ∷ read-judge small 2 afterEight 8 0x30000008 0
-    ∷ read-judge small 2 afterEight 8 0x20000008 16
-    ∷ read-judge small 2 afterEight 6 0x00000006 0
-    ∷ read-judge small 2 afterEight 6 0x20000006 16
+    ∷ read-judge 512 small 2 afterEight 7 0x20000007 0
+    ∷ read-judge 512 small 2 afterEight 7 0x30000007 16
+    ∷ read-judge 512 small 2 afterEight 7 0x00000007 16
+    ∷ read-judge 512 small 2 afterEight 8 0x30000008 0
+    ∷ read-judge 512 small 2 afterEight 8 0x20000008 16
+    ∷ read-judge 512 small 2 afterEight 6 0x00000006 0
+    ∷ read-judge 512 small 2 afterEight 6 0x20000006 16
+    -- Q-10: the code of 576 bytes
+    ∷ image-write 576 false (zeros 576) 0x5a3c
+    ∷ image-write 576 true (zeros 576) 0xa5c3
+    ∷ image-write 576 false (firstOne 576) 0xda3c
+    ∷ image-write 576 false (lastOne 576) 0x5a3d
+    ∷ image-write 576 false (thousands 0 288) 0xa541
+    ∷ image-write 576 true (thousands 0 288) 0x5abe
+    -- and of a mode sector that says either size
+    ∷ image-write 512 false (modeData 0x200) 0x5b3c
+    ∷ image-write 512 false (modeData 0x240) 0x5b1c
+    -- a size that is neither, before every other fault
+    ∷ image-unwritten 0 268435456 1 511 0 1
+    ∷ image-unwritten 511 268435456 1 512 0 1
+    ∷ image-unwritten 513 268435456 1 512 0 1
+    ∷ image-unwritten 575 268435456 1 576 0 1
+    ∷ image-unwritten 577 268435456 1 576 0 1
+    ∷ image-unwritten 4294967295 268435456 1 512 0 1
+    ∷ image-unheaded 575 593 1
+    ∷ image-unjudged 577 595 1
+    ∷ read-unsized 513
+    -- the other size's data and image, and a room that is a byte too short
+    ∷ image-unwritten 576 7 0 512 594 14
+    ∷ image-unwritten 512 7 0 576 594 14
+    ∷ image-unwritten 576 7 0 576 593 7
+    ∷ image-unheaded 576 530 14
+    ∷ image-unheaded 512 594 14
+    ∷ image-unjudged 576 530 14
+    ∷ image-unjudged 512 594 14
+    -- a header and a read at 576
+    ∷ image-header 576 (replicate 4 0x30000007) (0, 3, 7)
+    ∷ read-judge 576 small 2 afterEight 7 0x20000007 0
+    ∷ read-judge 576 small 2 afterEight 7 0x00000007 16
+    -- the mode: XBN 0 says either size
+    ∷ mode-find (modeImage 0 0x240 false) 1 (0, 576)
+    ∷ mode-find (modeImage 0 0x200 false) 7 (0, 512)
+    ∷ mode-find (modeImage 0 0x200 false) 4294967295 (0, 512)
+    -- XBN 0 was bad when it was written, and XBN 2 says 576
+    ∷ mode-find (modeImage 0 0x200 true ++ (modeImage 1 0x200 false ++ modeImage 2 0x240 false)) 2 (0, 576)
+    -- a first word that is no size, and a header with another code, send you to the next
+    ∷ mode-find (modeImage 0 0x201 false ++ modeImage 1 0x200 false) 1 (0, 512)
+    ∷ mode-find (modeImage 0x20000000 0x200 false ++ modeImage 1 0x240 false) 1 (0, 576)
+    -- a sector that could not be read, and for which zeros are lent, sends you to the next too
+    ∷ mode-find (replicate 530 0 ++ modeImage 1 0x240 false) 1 (0, 576)
+    -- no sector apart
+    ∷ mode-find (modeImage 0 0x200 false) 0 (1, 0)
+    ∷ mode-find [] 0 (1, 0)
+    -- no images, and an image that is a byte too short
+    ∷ mode-find [] 1 (21, 0)
+    ∷ mode-find (take 529 (modeImage 0 0x200 false)) 1 (21, 0)
+    -- a wrong code at XBN 0, and XBN 1 headed 0; XBN 1 good, but no copy; XBN 1 good, but a byte too short
+    ∷ mode-find (modeDamaged 0x200 ++ modeImage 0 0x200 false) 1 (21, 0)
+    ∷ mode-find (modeDamaged 0x200 ++ modeImage 1 0x200 false) 2 (21, 0)
+    ∷ mode-find (modeDamaged 0x200 ++ take 529 (modeImage 1 0x200 false)) 1 (21, 0)
     ∷ []
