@@ -1,7 +1,8 @@
-// The day of a block on a small drive: the gauge log of a vacuum turntable is written, moved to a spare, read back and refused, moved to another spare, and at night a scan changes the map of a drive that skips.
+// The day of a block on a small drive: the drive comes online and says the size of its sectors, the gauge log of a vacuum turntable is written, moved to a spare, read back and refused, moved to another spare, and at night a scan changes the map of a drive that skips.
 ghost use Prim.Native.Nat.{_+_, _≤_};
 use format::Formatted;
 use image::AT_HOME;
+use mode::Mode;
 use paper::Placed;
 use reading::Spot;
 use shape::Shape;
@@ -10,6 +11,9 @@ use skip::Job;
 use spares::Counted;
 use spares::Replaced;
 use spares::Shifted;
+
+// Sectors from one copy of the format table to the next.
+const APART: u32 = 1;
 
 // The block of the gauge log.
 const GAUGE: u32 = 6;
@@ -46,6 +50,47 @@ fn refused(words: &[u8], fault: u32) {
     telling::end();
 }
 
+// The image of the first sector of a copy of the format table, whose first word is the size 576.
+fn copy_at(xbn: u32) -> [u8; 530] {
+    let mut data = [0u8; 512];
+    words::put16(&mut data, 0, 576);
+    let mut image = [0u8; 530];
+    image::write(
+        paper::DATA_SIZE as u32,
+        xbn,
+        AT_HOME,
+        &data,
+        false,
+        &mut image,
+    );
+    image
+}
+
+// The same with one bit of the first word turned over.
+fn bad_copy_at(xbn: u32) -> [u8; 530] {
+    let mut image = copy_at(xbn);
+    image[17] = image[17] ^ 1;
+    image
+}
+
+// Writes the verdict on a copy of the format table.
+fn tell_copy(words: &[u8], image: &[u8; 530], xbn: u32) {
+    telling::answers::judged(
+        words,
+        image::judge(paper::DATA_SIZE as u32, image, xbn, AT_HOME),
+    );
+}
+
+// The images of the sectors at XBN 0 and 1, a copy of the format table on each.
+fn copies(first: &[u8; 530], second: &[u8; 530]) -> [u8; 1_060] {
+    tell_copy(b"The first copy of its format table: ", first, 0);
+    tell_copy(b"The second copy: ", second, 1);
+    let mut images = [0u8; 1_060];
+    image::put_bytes(&mut images, 0, first);
+    image::put_bytes(&mut images, 530, second);
+    images
+}
+
 // Writes how the spares stand.
 fn tell_spares(table: &[u32]) {
     match spares::census(drive(), SPARES, table, &mut [0u32; NUMBERS]) {
@@ -74,26 +119,26 @@ fn tell_place(words: &[u8], table: &[u32]) {
 }
 
 // The image of a track, with a reading of the gauge in the sector that starts at a byte, and with the code that tells where the gauge log is.
-fn track_with(reading: &[u8; 13], start: usize, code: u32) -> [u8; 2_650]
-    requires { ⌜ start + 530 ≤ 2650 ⌝ }
+fn track_with(size: u32, reading: &[u8; 13], start: usize, code: u32) -> [u8; 2_970]
+    requires { ⌜ start + 594 ≤ 2970 ⌝ }
 {
-    let mut data = [0u8; 512];
+    let mut data = [0u8; 576];
     image::put_bytes(&mut data, 0, reading);
-    let mut image = [0u8; 530];
-    image::write(GAUGE, code, &data, false, &mut image);
-    let mut track = [0u8; 2_650];
+    let mut image = [0u8; 594];
+    image::write(size, GAUGE, code, &data, false, &mut image);
+    let mut track = [0u8; 2_970];
     image::put_bytes(&mut track, start, &image);
     telling::text(b"The gauge is written: ");
     telling::line(reading);
-    telling::answers::headed(b"The sector's header says: ", image::header(&image));
+    telling::answers::headed(b"The sector's header says: ", image::header(size, &image));
     track
 }
 
 // The image of the spare's track, with the sector from home in it as it is.
-fn track_with_old(home: &[u8; 2_650]) -> [u8; 2_650] {
+fn track_with_old(home: &[u8; 2_970]) -> [u8; 2_970] {
     let whole = &home[..];
-    let mut track = [0u8; 2_650];
-    image::put_bytes(&mut track, 2_120, &whole[0..530]);
+    let mut track = [0u8; 2_970];
+    image::put_bytes(&mut track, 2_376, &whole[0..594]);
     telling::line(b"The old sector is copied to the spare as it is.");
     track
 }
@@ -106,8 +151,9 @@ fn tell_part(words: &[u8], offset: u32, part: &[u8]) {
 }
 
 // Reads the gauge.
-fn tell_read<'a>(table: &[u32], home: &'a [u8], second: &'a [u8]) {
+fn tell_read<'a>(size: u32, table: &[u32], home: &'a [u8], second: &'a [u8]) {
     let part = reading::data(
+        size,
         drive(),
         SPARES,
         table,
@@ -117,6 +163,7 @@ fn tell_read<'a>(table: &[u32], home: &'a [u8], second: &'a [u8]) {
         second,
     );
     match reading::spot(
+        size,
         drive(),
         SPARES,
         table,
@@ -179,8 +226,10 @@ fn tell_replacement(block: u32, words: &[u8], table: &mut [u32]) -> u32 {
     }
 }
 
-// Writes the shape of the drive, and where its second head starts.
-fn tell_drive(shape: Shape) {
+// Writes the size of the drive's sectors and its shape, and where its second head starts.
+fn tell_drive(size: u32, shape: Shape) {
+    telling::number(b"The size of its sectors: ", size);
+    telling::line(b" bytes");
     telling::number(b"The drive: ", shape.cylinders);
     telling::number(b" cylinders, ", shape.heads);
     telling::number(b" heads, ", shape.sectors);
@@ -193,12 +242,12 @@ fn tell_drive(shape: Shape) {
 }
 
 // The gauge log at home.
-fn morning(table: &[u32]) -> [u8; 2_650] {
+fn morning(size: u32, table: &[u32]) -> [u8; 2_970] {
     telling::line(b"Morning: the pump runs");
     telling::number(b"The gauge log is block ", GAUGE);
     tell_place(b". It", table);
-    let home = track_with(b"vacuum 82 kPa", 0, AT_HOME);
-    tell_read(table, &home, &home);
+    let home = track_with(size, b"vacuum 82 kPa", 0, AT_HOME);
+    tell_read(size, table, &home, &home);
     telling::end();
     home
 }
@@ -218,21 +267,21 @@ fn noon(table: &mut [u32]) -> u32 {
 }
 
 // The gauge log on its spare, while its home still holds the morning's reading; then the spare goes bad, and the gauge log moves again.
-fn afternoon(table: &mut [u32], home: &[u8; 2_650], code: u32) {
+fn afternoon(size: u32, table: &mut [u32], home: &[u8; 2_970], code: u32) {
     telling::line(b"Afternoon: the pump slows down");
-    tell_read(table, home, &track_with_old(home));
-    let mut second = track_with(b"vacuum 79 kPa", 2_120, code);
-    tell_read(table, home, &second);
-    let old = image::data(comparing::first_bytes(home, 530), GAUGE, AT_HOME);
+    tell_read(size, table, home, &track_with_old(home));
+    let mut second = track_with(size, b"vacuum 79 kPa", 2_376, code);
+    tell_read(size, table, home, &second);
+    let old = image::data(size, comparing::first_bytes(home, 594), GAUGE, AT_HOME);
     telling::text(b"Its old sector is still good, and still says: ");
     telling::line(comparing::first_bytes(old, READING));
-    second[2_136] = second[2_136] ^ 1;
+    second[2_392] = second[2_392] ^ 1;
     telling::line(b"The spare goes bad: one bit turns over.");
-    tell_read(table, home, &second);
+    tell_read(size, table, home, &second);
     let again = tell_replacement(GAUGE, b", the gauge log,", table);
     tell_place(b"The gauge log now", table);
-    let third = track_with(b"vacuum 78 kPa", 1_590, again);
-    tell_read(table, home, &third);
+    let third = track_with(size, b"vacuum 78 kPa", 1_782, again);
+    tell_read(size, table, home, &third);
     telling::end();
 }
 
@@ -284,19 +333,28 @@ fn night() {
     }
 }
 
-fn main() {
+// The day, once the size of the drive's sectors is known.
+fn day(size: u32) {
     let mut table = [0u32; 128];
     spares::first_table(drive(), SPARES, &[], &mut table);
-    telling::line(b"A day of the gauge log");
-    telling::end();
-    tell_drive(drive());
+    tell_drive(size, drive());
     tell_spares(&table);
     telling::end();
-    let home = morning(&table);
+    let home = morning(size, &table);
     let code = noon(&mut table);
-    afternoon(&mut table, &home, code);
+    afternoon(size, &mut table, &home, code);
     telling::line(b"Evening: the spares are counted");
     tell_spares(&table);
     telling::end();
     night();
+}
+
+fn main() {
+    telling::line(b"A day of the gauge log");
+    telling::end();
+    telling::line(b"Dawn: the drive comes online");
+    match mode::find(&copies(&bad_copy_at(0), &copy_at(1)), APART) {
+        Mode::Of(size) => day(size),
+        Mode::Refused(fault) => refused(b"The drive stays offline, ", fault),
+    }
 }

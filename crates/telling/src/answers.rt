@@ -9,6 +9,7 @@ use format::Formatted;
 use image::AT_HOME;
 use image::Head;
 use image::Verdict;
+use mode::Mode;
 use page::Paged;
 use paper::Named;
 use paper::Placed;
@@ -48,6 +49,7 @@ pub fn meaning(fault: u32) {
         paper::OTHER_BLOCK => text(b"the header says another block or another code"),
         paper::FORCED_ERROR => text(b"the data was bad when it was written"),
         paper::BAD_CODE => text(b"the code does not fit the data"),
+        paper::NO_MODE => text(b"no copy of the format table says the size"),
         paper::UNKNOWN_CODE => text(b"there is no such code"),
         _ => text(b"no refusal"),
     }
@@ -231,6 +233,16 @@ pub fn judged(words: &[u8], answer: Verdict) {
     match answer {
         Verdict::Good => text(b"good"),
         Verdict::Refused(fault) => refused(fault),
+    }
+    end();
+}
+
+// Writes the size that the mode sector says. Only other crates call this.
+pub fn sized(words: &[u8], answer: Mode) {
+    text(words);
+    match answer {
+        Mode::Of(size) => number(b"size ", size),
+        Mode::Refused(fault) => refused(fault),
     }
     end();
 }

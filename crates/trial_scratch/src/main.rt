@@ -1,4 +1,4 @@
-// Bigger drives and their scratch: the customer's drive of 14,080 spares until none is left, two blocks with one mark in two windows, and scratch that is too short, full of ones, and longer than it must be.
+// Bigger drives and their scratch: the customer's drive of 14,080 spares until none is left, two blocks with one mark in two windows, and scratch that is too short, full of ones, and longer than it must be; and reads, also at a size that no sector has.
 use shape::Shape;
 
 // The customer's drive, with one spare to a track.
@@ -144,15 +144,24 @@ fn try_full() {
     telling::list(b"    ", &scratch);
 }
 
-// Track images without a byte.
-fn try_images() {
-    let mut scratch = [1u32; 8];
-    telling::line(b"images of the wrong length");
+// Reads from track images without a byte at a size.
+fn try_read(size: u32, scratch: &mut [u32]) {
+    telling::number(b"  size ", size);
+    telling::count(b", scratch of ", scratch.len());
     telling::answers::judged(
-        b"  block 0: ",
-        reading::judge(small(), 1, &table_of(&[0]), &mut scratch, 0, &[], &[]),
+        b", block 0: ",
+        reading::judge(size, small(), 1, &table_of(&[0]), scratch, 0, &[], &[]),
     );
-    telling::list(b"    ", &scratch);
+    telling::list(b"    ", scratch);
+}
+
+// The images are refused for their length, and the scratch is used for that; a size that no sector has is refused before, and the scratch is as it was.
+fn try_images() {
+    telling::line(b"images of the wrong length");
+    try_read(512, &mut [1u32; 8]);
+    try_read(576, &mut [1u32; 8]);
+    try_read(575, &mut [1u32; 8]);
+    try_read(575, &mut [1u32; 7]);
 }
 
 // More spares than a drive may have, and no scratch at all.
