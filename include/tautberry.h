@@ -45,7 +45,8 @@ extern "C" {
 
 enum tb_refusal {
     TB_ACCEPTED = 0,
-    TB_OUT_OF_RANGE = 1,      /* N, r, a number of the shape or that of all spares is out of its range, or heads is not groups x tracks */
+    TB_OUT_OF_RANGE = 1,      /* N, r, a number of the shape or that of all spares is out of its range, heads is not groups x tracks, the size of
+                                 a sector is neither of the two, or copies of the format table lie 0 sectors apart */
     TB_TOO_LONG = 2,          /* a list is, or a list to be made would be, longer than TB_LIST_MOST */
     TB_NOT_RISING = 3,        /* an entry of a list does not exceed the entry before it */
     TB_OUTSIDE = 4,           /* an entry of a list is not a unit of its space */
@@ -58,12 +59,13 @@ enum tb_refusal {
     TB_BAD_TABLE = 11,        /* the table is not one of this drive, a descriptor breaks a rule, or a free place comes before a block */
     /* 12 is no longer given, and it never names another refusal. */
     TB_NO_SPARE = 13,         /* no spare is left, or too few for all bad home sectors */
-    TB_WRONG_LENGTH = 14,     /* the data or an image is not as long as it must be */
+    TB_WRONG_LENGTH = 14,     /* the data or an image is not as long as it must be for the size of the sectors */
     TB_NO_ADDRESS = 15,       /* fewer than three copies in the header agree */
     TB_OTHER_BLOCK = 16,      /* the header says another block or another code than it must, or a code that no header may have */
     TB_FORCED_ERROR = 17,     /* the sector was written as bad: its data was lost before */
     TB_BAD_CODE = 18,         /* the data does not have the code that stands behind it */
-    /* 19, 20 and 21 are given by no call of this library. */
+    /* 19 and 20 are given by no call of this library. */
+    TB_NO_MODE = 21,          /* no copy of the format table says the size of the sectors */
     TB_UNKNOWN_CODE = 22      /* the code to write is none of TB_AT_HOME, TB_AT_PRIMARY and TB_ELSEWHERE */
 };
 
@@ -77,10 +79,10 @@ enum tb_refusal {
 #define TB_LIST_MOST 65536u       /* entries of a list */
 #define TB_SPARES_MOST 65536u     /* cylinders x heads x r */
 #define TB_TABLE_BLOCK 128u       /* descriptors of a table block */
-#define TB_DATA_SIZE 512u         /* data bytes of a sector */
+#define TB_DATA_SIZE 512u         /* data bytes of a sector: one of the two sizes, and that of every sector of the XBN area */
+#define TB_WIDE_SIZE 576u         /* the other size */
 #define TB_HEADER_SIZE 16u        /* bytes before the data of an image: where the data begins */
 #define TB_IMAGE_EXTRA 18u        /* bytes of an image that are no data: header and code */
-#define TB_IMAGE_SIZE (TB_DATA_SIZE + TB_IMAGE_EXTRA) /* 530: bytes of a sector image */
 #define TB_START_CODE 0x5A3Cu     /* the code of no data */
 #define TB_CODE_UNIT 268435456u   /* 2 to the power of 28: the low 28 bits of a word are a number, and the four bits above them a code */
 #define TB_PAGE_FRAME 14u         /* bytes of a page that are no entries */
@@ -91,9 +93,11 @@ enum tb_refusal {
 #define TB_SPACE_MOST 3u          /* spaces: 0 none, 1 P, 2 G, 3 P and G */
 #define TB_LISTING_MOST 16398u    /* bytes that the listing program takes; no call here has this limit */
 
-/* Bytes of a page with so many entries; bytes of the image of a track with so many sectors; descriptors of a table for so many spares. */
+/* Bytes of a page with so many entries; bytes of the image of a sector of this size, 530 or 594; bytes of the image of a track with so many
+ * sectors of this size; descriptors of a table for so many spares. */
 #define TB_PAGE_LENGTH(entries) (TB_PAGE_FRAME + TB_ENTRY_SIZE * (entries))
-#define TB_TRACK_LENGTH(sectors) (TB_IMAGE_SIZE * (sectors))
+#define TB_IMAGE_LENGTH(size) ((size) + TB_IMAGE_EXTRA)
+#define TB_TRACK_LENGTH(size, sectors) (TB_IMAGE_LENGTH(size) * (sectors))
 #define TB_TABLE_LENGTH(spares) (TB_TABLE_BLOCK * (((spares) + TB_TABLE_BLOCK - 1u) / TB_TABLE_BLOCK))
 
 /* A descriptor is a word, and so is the number that stands in a header: code x TB_CODE_UNIT + block. The code of a header tells where the block is.
@@ -207,10 +211,15 @@ typedef struct tb_judged {
     uint32_t refusal;
 } tb_judged;
 
+typedef struct tb_sized {
+    uint32_t refusal;
+    uint32_t size; /* TB_DATA_SIZE or TB_WIDE_SIZE: it goes into the calls on images and reads as it is */
+} tb_sized;
+
 typedef struct tb_spotted {
     uint32_t refusal;
     uint32_t image;  /* 0: the data lies in `home`, 1: in `spare` */
-    uint32_t offset; /* of its TB_DATA_SIZE bytes from the start of that image */
+    uint32_t offset; /* of its `size` bytes from the start of that image: sector of the track x TB_IMAGE_LENGTH(size) + TB_HEADER_SIZE */
 } tb_spotted;
 
 /* ---- A skipped drive of n sectors, with the list of its bad ones ---- */
@@ -346,48 +355,70 @@ tb_written tb_spare_first(tb_shape shape, uint32_t r, const uint32_t *list, size
 
 /* ---- Sector images ---- */
 
-/* An image begins with four copies of one number, which says a code and a block. Then come the data, and the 16-bit code of the data, which is
- * another thing. Three of the four copies must be alike as whole 32-bit numbers, else no number stands in the header: TB_NO_ADDRESS.
+/* size is how many data bytes the sectors of the drive have, TB_DATA_SIZE or TB_WIDE_SIZE. It is one of the drive's numbers, and tb_mode finds it.
+ * Any other size is refused TB_OUT_OF_RANGE, before all else. An image of the one size is refused TB_WRONG_LENGTH where the other is given.
+ *
+ * An image has TB_IMAGE_LENGTH(size) bytes. It begins with four copies of one number, which says a code and a block. Then come the `size` bytes of
+ * data, and the 16-bit code of the data, which is another thing. Three of the four copies must be alike as whole 32-bit numbers, else no number
+ * stands in the header: TB_NO_ADDRESS.
  *
  * The code to write for a block is TB_AT_HOME where the block lies at home. For a replaced block it is that of its descriptor. So after a
  * replacement it is TB_CODE_OF(table[place]), with the place that tb_spare_replace answers. An image with TB_AT_HOME has the plain block number in
  * its header. */
 
 /* Writes the image of a block's data: a good one, or, where forced is true, one that tells every reader that the data was bad already.
- * Checks: TB_WRONG_LENGTH (data), TB_NO_SUCH_BLOCK (block is TB_CODE_UNIT or more), TB_UNKNOWN_CODE (code), TB_NO_ROOM. Answers length,
- * TB_IMAGE_SIZE. Writes the image into the first bytes of room. */
+ * Checks: TB_OUT_OF_RANGE (size), TB_WRONG_LENGTH (data is not `size` bytes), TB_NO_SUCH_BLOCK (block is TB_CODE_UNIT or more), TB_UNKNOWN_CODE
+ * (code), TB_NO_ROOM (room is less than TB_IMAGE_LENGTH(size) bytes). Answers length, TB_IMAGE_LENGTH(size). Writes the image into the first bytes
+ * of room. */
 tb_written tb_image_write(
-    uint32_t block, uint32_t code, const uint8_t *data, size_t data_length, bool forced, uint8_t *room, size_t room_length);
+    uint32_t size, uint32_t block, uint32_t code, const uint8_t *data, size_t data_length, bool forced, uint8_t *room, size_t room_length);
 
 /* The code and the block that the header of an image says.
- * Checks: TB_WRONG_LENGTH (image), TB_NO_ADDRESS, TB_OTHER_BLOCK (a code that no header may have). Answers code and block. Writes nothing. */
-tb_headed tb_image_header(const uint8_t *image, size_t image_length);
+ * Checks: TB_OUT_OF_RANGE (size), TB_WRONG_LENGTH (image is not TB_IMAGE_LENGTH(size) bytes), TB_NO_ADDRESS, TB_OTHER_BLOCK (a code that no header
+ * may have). Answers code and block. Writes nothing. */
+tb_headed tb_image_header(uint32_t size, const uint8_t *image, size_t image_length);
 
-/* The verdict on the image of a block with a code. Where it accepts, the data is the TB_DATA_SIZE bytes from TB_HEADER_SIZE on. The header must say
+/* The verdict on the image of a block with a code. Where it accepts, the data is the `size` bytes from TB_HEADER_SIZE on. The header must say
  * this code and this block, each by itself. No header says a code that is none of the three, or a block of TB_CODE_UNIT or more: where one is
  * expected, every number that stands in the header is refused TB_OTHER_BLOCK.
- * Checks: TB_WRONG_LENGTH (image), TB_NO_ADDRESS, TB_OTHER_BLOCK, then TB_FORCED_ERROR or TB_BAD_CODE. Writes nothing. */
-tb_judged tb_image_judge(const uint8_t *image, size_t image_length, uint32_t block, uint32_t code);
+ * Checks: TB_OUT_OF_RANGE (size), TB_WRONG_LENGTH (image is not TB_IMAGE_LENGTH(size) bytes), TB_NO_ADDRESS, TB_OTHER_BLOCK, then TB_FORCED_ERROR
+ * or TB_BAD_CODE. Writes nothing. */
+tb_judged tb_image_judge(uint32_t size, const uint8_t *image, size_t image_length, uint32_t block, uint32_t code);
+
+/* ---- The mode sector: which size the sectors of a drive have ---- */
+
+/* The format table of a drive says it. The table stands in the XBN area in several copies, which begin at XBN 0, apart, 2 x apart and so on. The
+ * sectors of this area always have TB_DATA_SIZE bytes of data, whatever size the others have. images are their images one after another from XBN 0
+ * on, TB_IMAGE_LENGTH(TB_DATA_SIZE) bytes each, as many as were read.
+ *
+ * The first sector of a copy is the mode sector. Its first word, the high byte first, is the size. A copy says its size where this sector is good by
+ * tb_image_judge, with TB_DATA_SIZE, the XBN for the block and TB_AT_HOME, and where the word is TB_DATA_SIZE or TB_WIDE_SIZE. Any other copy is
+ * passed over: one that is damaged, forced, headed otherwise or cut short by the end of the images, and one with any other word. */
+
+/* The size that the first copy says which says one.
+ * Checks: TB_OUT_OF_RANGE (apart is 0), TB_NO_MODE (no copy says a size). Answers size. Writes nothing. */
+tb_sized tb_mode(const uint8_t *images, size_t images_length, uint32_t apart);
 
 /* ---- A read of a block of a revectored drive, from two track images ---- */
 
-/* home is the image of the block's home track, and spare the image of its spare's track. For a block at home, spare may be the image of
- * any track. Both are TB_TRACK_LENGTH(sectors) bytes long. A block lies in one of them, and no byte of the other is looked at.
+/* size is that of the drive's sectors, as for the calls on images. home is the image of the block's home track, and spare the image of its spare's
+ * track. For a block at home, spare may be the image of any track. Both are TB_TRACK_LENGTH(size, sectors) bytes long. A block lies in one of them,
+ * and no byte of the other is looked at.
  *
  * The header must say the block, and the code that the table says: that of the block's descriptor, or TB_AT_HOME where the block lies at home. So
  * the number that must stand in it is the descriptor itself, or the plain block number. */
 
 /* The verdict on a block.
- * Checks: TB_OUT_OF_RANGE (shape, r), TB_NO_ROOM (scratch), TB_BAD_TABLE, TB_NO_SUCH_BLOCK, TB_WRONG_LENGTH (either image), TB_NO_ADDRESS,
+ * Checks: TB_OUT_OF_RANGE (size, shape, r), TB_NO_ROOM (scratch), TB_BAD_TABLE, TB_NO_SUCH_BLOCK, TB_WRONG_LENGTH (either image), TB_NO_ADDRESS,
  * TB_OTHER_BLOCK, then TB_FORCED_ERROR or TB_BAD_CODE. Writes nothing but scratch. */
 tb_judged tb_read_judge(
-    tb_shape shape, uint32_t r, const uint32_t *table, size_t table_length, uint32_t *scratch, size_t scratch_length, uint32_t block,
+    uint32_t size, tb_shape shape, uint32_t r, const uint32_t *table, size_t table_length, uint32_t *scratch, size_t scratch_length, uint32_t block,
     const uint8_t *home, size_t home_length, const uint8_t *spare, size_t spare_length);
 
-/* Where the data of a good block lies: TB_DATA_SIZE bytes, from offset on, of home where image is 0 and of spare where it is 1.
+/* Where the data of a good block lies: `size` bytes, from offset on, of home where image is 0 and of spare where it is 1.
  * Checks: those of tb_read_judge, with the same number. Answers image and offset. Writes nothing but scratch. */
 tb_spotted tb_read_data(
-    tb_shape shape, uint32_t r, const uint32_t *table, size_t table_length, uint32_t *scratch, size_t scratch_length, uint32_t block,
+    uint32_t size, tb_shape shape, uint32_t r, const uint32_t *table, size_t table_length, uint32_t *scratch, size_t scratch_length, uint32_t block,
     const uint8_t *home, size_t home_length, const uint8_t *spare, size_t spare_length);
 
 #ifdef __cplusplus

@@ -1,7 +1,7 @@
 /* Holds include/tautberry.h to libboard.a by what the calls do: the size and the fields of each struct, the angle of a sector, each limit at its
  * last number and one beyond, large drives, bad groups in each call that takes a shape, scratch in each call that takes it, blocks replaced until
- * no spare is left, free places before a block and after it, the codes and blocks of headers, each refusal number, and NULL for each slice of
- * length 0. It is compiled as C and as C++. It returns 1 if anything differs. */
+ * no spare is left, free places before a block and after it, the codes and blocks of headers, sectors of both sizes and numbers that are no size,
+ * the mode sector, each refusal number, and NULL for each slice of length 0. It is compiled as C and as C++. It returns 1 if anything differs. */
 #include <inttypes.h>
 #include <stdio.h>
 #include <string.h>
@@ -27,10 +27,18 @@ static uint32_t places[TB_LIST_MOST + 1];
 static uint32_t words[TB_LIST_MOST + 1];
 static uint32_t more_words[TB_LIST_MOST + 1];
 static uint8_t page[TB_PAGE_MOST + TB_ENTRY_SIZE];
-static uint8_t home[TB_TRACK_LENGTH(5) + 1];
-static uint8_t spare[TB_TRACK_LENGTH(5) + 1];
-static uint8_t data[TB_DATA_SIZE + 1];
-static uint8_t image[TB_IMAGE_SIZE + 1];
+static uint8_t home[TB_TRACK_LENGTH(TB_WIDE_SIZE, 5) + 1];
+static uint8_t spare[TB_TRACK_LENGTH(TB_WIDE_SIZE, 5) + 1];
+static uint8_t data[TB_WIDE_SIZE + 1];
+static uint8_t image[TB_IMAGE_LENGTH(TB_WIDE_SIZE) + 1];
+
+/* The two sizes of a sector. */
+static const uint32_t both[2] = {TB_DATA_SIZE, TB_WIDE_SIZE};
+
+static uint32_t other_size(uint32_t size)
+{
+    return TB_DATA_SIZE + TB_WIDE_SIZE - size;
+}
 
 /* Scratch for any table that is tried, and three numbers more. */
 static uint32_t scratch[TB_SPARES_MOST + 3];
@@ -92,6 +100,7 @@ static void sizes(void)
     same("sizeof (tb_counted)", sizeof(tb_counted), 24);
     same("sizeof (tb_headed)", sizeof(tb_headed), 12);
     same("sizeof (tb_judged)", sizeof(tb_judged), 4);
+    same("sizeof (tb_sized)", sizeof(tb_sized), 8);
     same("sizeof (tb_spotted)", sizeof(tb_spotted), 12);
 
     same("offsetof (tb_shape, cylinders)", offsetof(tb_shape, cylinders), 0);
@@ -109,6 +118,8 @@ static void sizes(void)
     same("offsetof (tb_headed, refusal)", offsetof(tb_headed, refusal), 0);
     same("offsetof (tb_headed, code)", offsetof(tb_headed, code), 4);
     same("offsetof (tb_headed, block)", offsetof(tb_headed, block), 8);
+    same("offsetof (tb_sized, refusal)", offsetof(tb_sized, refusal), 0);
+    same("offsetof (tb_sized, size)", offsetof(tb_sized, size), 4);
 }
 
 /* Each field of each struct, by an answer in which no two numbers are alike. */
@@ -231,19 +242,32 @@ static void fields(void)
     same("tb_spare_block_at block", named.block, 6);
 
     data[0] = 1;
-    written = tb_image_write(6, TB_CODE_OF(words[3]), data, TB_DATA_SIZE, false, spare + 4 * TB_IMAGE_SIZE, TB_IMAGE_SIZE);
-    same("tb_image_write refusal", written.refusal, TB_ACCEPTED);
-    same("tb_image_write length", written.length, 530);
-    tb_headed headed = tb_image_header(spare + 4 * TB_IMAGE_SIZE, TB_IMAGE_SIZE);
-    same("tb_image_header refusal", headed.refusal, TB_ACCEPTED);
-    same("tb_image_header code", headed.code, TB_ELSEWHERE);
-    same("tb_image_header block", headed.block, 6);
-    same("tb_image_judge refusal", tb_image_judge(spare + 4 * TB_IMAGE_SIZE, TB_IMAGE_SIZE, 6, TB_ELSEWHERE).refusal, TB_ACCEPTED);
-    same("tb_read_judge refusal", tb_read_judge(shape, 2, words, 128, scratch, SPARES, 6, home, TB_TRACK_LENGTH(5), spare, TB_TRACK_LENGTH(5)).refusal, TB_ACCEPTED);
-    tb_spotted spotted = tb_read_data(shape, 2, words, 128, scratch, SPARES, 6, home, TB_TRACK_LENGTH(5), spare, TB_TRACK_LENGTH(5));
-    same("tb_read_data refusal", spotted.refusal, TB_ACCEPTED);
-    same("tb_read_data image", spotted.image, 1);
-    same("tb_read_data offset", spotted.offset, 4 * TB_IMAGE_SIZE + TB_HEADER_SIZE);
+    for (size_t i = 0; i < 2; i++) {
+        const uint32_t size = both[i];
+        const size_t length = size + 18;
+        uint8_t *const lying = spare + 4 * length;
+        written = tb_image_write(size, 6, TB_CODE_OF(words[3]), data, size, false, lying, length);
+        same("tb_image_write refusal", written.refusal, TB_ACCEPTED);
+        same("tb_image_write length", written.length, i == 0 ? 530 : 594);
+        tb_headed headed = tb_image_header(size, lying, length);
+        same("tb_image_header refusal", headed.refusal, TB_ACCEPTED);
+        same("tb_image_header code", headed.code, TB_ELSEWHERE);
+        same("tb_image_header block", headed.block, 6);
+        same("tb_image_judge refusal", tb_image_judge(size, lying, length, 6, TB_ELSEWHERE).refusal, TB_ACCEPTED);
+        tb_judged judged = tb_read_judge(size, shape, 2, words, 128, scratch, SPARES, 6, home, 5 * length, spare, 5 * length);
+        same("tb_read_judge refusal", judged.refusal, TB_ACCEPTED);
+        tb_spotted spotted = tb_read_data(size, shape, 2, words, 128, scratch, SPARES, 6, home, 5 * length, spare, 5 * length);
+        same("tb_read_data refusal", spotted.refusal, TB_ACCEPTED);
+        same("tb_read_data image", spotted.image, 1);
+        same("tb_read_data offset", spotted.offset, i == 0 ? 2136 : 2392);
+    }
+    /* The mode sector of a drive with sectors of 576. */
+    data[0] = 2, data[1] = 0x40;
+    same("a mode sector", tb_image_write(TB_DATA_SIZE, 0, TB_AT_HOME, data, TB_DATA_SIZE, false, image, sizeof image).length, 530);
+    tb_sized sized = tb_mode(image, 530, 1);
+    same("tb_mode refusal", sized.refusal, TB_ACCEPTED);
+    same("tb_mode size", sized.size, 576);
+    memset(data, 0, sizeof data);
 }
 
 /* A sector number has this address and this angle, and the address leads back to it. */
@@ -316,19 +340,6 @@ static void limits(void)
     same("TB_TABLE_LENGTH", tb_spare_first(shaped(300, 1, 2), 1, NULL, 0, words, TB_TABLE_LENGTH(300)).length, TB_TABLE_LENGTH(300));
     same("TB_TABLE_LENGTH - 1", tb_spare_first(shaped(300, 1, 2), 1, NULL, 0, words, TB_TABLE_LENGTH(300) - 1).refusal, TB_NO_ROOM);
 
-    memset(data, 0, sizeof data);
-    same("TB_DATA_SIZE", tb_image_write(7, TB_AT_HOME, data, TB_DATA_SIZE, false, image, TB_IMAGE_SIZE).refusal, TB_ACCEPTED);
-    same("TB_DATA_SIZE - 1", tb_image_write(7, TB_AT_HOME, data, TB_DATA_SIZE - 1, false, image, TB_IMAGE_SIZE).refusal, TB_WRONG_LENGTH);
-    same("TB_DATA_SIZE + 1", tb_image_write(7, TB_AT_HOME, data, TB_DATA_SIZE + 1, false, image, TB_IMAGE_SIZE).refusal, TB_WRONG_LENGTH);
-    same("TB_IMAGE_SIZE - 1 as room", tb_image_write(7, TB_AT_HOME, data, TB_DATA_SIZE, false, image, TB_IMAGE_SIZE - 1).refusal, TB_NO_ROOM);
-    same("TB_IMAGE_SIZE", tb_image_judge(image, TB_IMAGE_SIZE, 7, TB_AT_HOME).refusal, TB_ACCEPTED);
-    same("TB_IMAGE_SIZE - 1", tb_image_judge(image, TB_IMAGE_SIZE - 1, 7, TB_AT_HOME).refusal, TB_WRONG_LENGTH);
-    same("TB_IMAGE_SIZE + 1", tb_image_judge(image, TB_IMAGE_SIZE + 1, 7, TB_AT_HOME).refusal, TB_WRONG_LENGTH);
-    same("TB_START_CODE", (uint32_t)image[TB_IMAGE_SIZE - 2] * 256 + image[TB_IMAGE_SIZE - 1], TB_START_CODE);
-    same("the byte before TB_HEADER_SIZE", image[TB_HEADER_SIZE - 1], 7);
-    same("the byte at TB_HEADER_SIZE", image[TB_HEADER_SIZE], 0);
-    same("TB_IMAGE_EXTRA", TB_IMAGE_EXTRA, TB_HEADER_SIZE + 2);
-
     same("TB_PAGE_FRAME", tb_page_write(20, 0, NULL, 0, page, sizeof page).length, TB_PAGE_FRAME);
     same("TB_PAGE_FRAME read", tb_page_read(page, TB_PAGE_FRAME, NULL, 0).refusal, TB_ACCEPTED);
     same("TB_PAGE_FRAME - 1", tb_page_read(page, TB_PAGE_FRAME - 1, NULL, 0).refusal, TB_BAD_PAGE);
@@ -350,17 +361,61 @@ static void limits(void)
     same("TB_OPTION_MOST + 1", format(0, TB_OPTION_MOST + 1, 0), TB_BAD_OPTION);
     same("TB_SPACE_MOST", format(TB_SPACE_MOST, 0, 0), TB_ACCEPTED);
     same("TB_SPACE_MOST + 1", format(TB_SPACE_MOST + 1, 0, 0), TB_BAD_OPTION);
+}
 
+/* The lengths of what goes with a size, each as it must be, one less and one more. */
+static void lengths(uint32_t size)
+{
+    const size_t image_length = TB_IMAGE_LENGTH(size);
+    const size_t track_length = TB_TRACK_LENGTH(size, 5);
     const tb_shape shape = shaped(2, 2, 5);
+
+    memset(data, 0, sizeof data);
+    same("data of the size", tb_image_write(size, 7, TB_AT_HOME, data, size, false, image, image_length).refusal, TB_ACCEPTED);
+    same("a byte less", tb_image_write(size, 7, TB_AT_HOME, data, size - 1, false, image, image_length).refusal, TB_WRONG_LENGTH);
+    same("a byte more", tb_image_write(size, 7, TB_AT_HOME, data, size + 1, false, image, image_length).refusal, TB_WRONG_LENGTH);
+    same("TB_IMAGE_LENGTH - 1 as room", tb_image_write(size, 7, TB_AT_HOME, data, size, false, image, image_length - 1).refusal, TB_NO_ROOM);
+    same("TB_IMAGE_LENGTH", tb_image_judge(size, image, image_length, 7, TB_AT_HOME).refusal, TB_ACCEPTED);
+    same("TB_IMAGE_LENGTH - 1", tb_image_judge(size, image, image_length - 1, 7, TB_AT_HOME).refusal, TB_WRONG_LENGTH);
+    same("TB_IMAGE_LENGTH + 1", tb_image_judge(size, image, image_length + 1, 7, TB_AT_HOME).refusal, TB_WRONG_LENGTH);
+    same("TB_START_CODE", (uint32_t)image[image_length - 2] * 256 + image[image_length - 1], TB_START_CODE);
+    same("the byte before TB_HEADER_SIZE", image[TB_HEADER_SIZE - 1], 7);
+    same("the byte at TB_HEADER_SIZE", image[TB_HEADER_SIZE], 0);
     same("a table for block 0", tb_spare_first(shape, 2, NULL, 0, words, 128).refusal, TB_ACCEPTED);
-    same("an image of block 0", tb_image_write(0, TB_AT_HOME, data, TB_DATA_SIZE, false, home, TB_IMAGE_SIZE).refusal, TB_ACCEPTED);
+    same("an image of block 0", tb_image_write(size, 0, TB_AT_HOME, data, size, false, home, image_length).refusal, TB_ACCEPTED);
     for (uint32_t more = 0; more < 3; more++) {
         for (uint32_t other = 0; other < 3; other++) {
             same("TB_TRACK_LENGTH, one less and one more, of either image",
-                 tb_read_judge(shape, 2, words, 128, scratch, SPARES, 0, home, TB_TRACK_LENGTH(5) - 1 + more, spare, TB_TRACK_LENGTH(5) - 1 + other).refusal,
+                 tb_read_judge(size, shape, 2, words, 128, scratch, SPARES, 0, home, track_length - 1 + more, spare, track_length - 1 + other).refusal,
                  more == 1 && other == 1 ? TB_ACCEPTED : TB_WRONG_LENGTH);
         }
     }
+}
+
+/* The macros of lengths, with any arguments, and where a constant is asked for. */
+static void macros_of_lengths(void)
+{
+    static const uint32_t images[2] = {TB_IMAGE_LENGTH(TB_DATA_SIZE), TB_IMAGE_LENGTH(TB_WIDE_SIZE)};
+    static const uint32_t tracks[2] = {TB_TRACK_LENGTH(TB_DATA_SIZE, TB_SECTORS_MOST), TB_TRACK_LENGTH(TB_WIDE_SIZE, TB_SECTORS_MOST)};
+    const uint16_t narrow = 576;
+    const uint8_t sectors = 64;
+
+    same("TB_IMAGE_EXTRA", TB_IMAGE_EXTRA, TB_HEADER_SIZE + 2);
+    same("TB_DATA_SIZE", TB_DATA_SIZE, 512);
+    same("TB_WIDE_SIZE", TB_WIDE_SIZE, 576);
+    for (size_t i = 0; i < 2; i++) {
+        same("TB_IMAGE_LENGTH of a constant", images[i], i == 0 ? 530 : 594);
+        same("TB_TRACK_LENGTH of constants", tracks[i], i == 0 ? 33920 : 38016);
+        same("TB_IMAGE_LENGTH of a choice", TB_IMAGE_LENGTH(i == 0 ? TB_DATA_SIZE : TB_WIDE_SIZE), images[i]);
+        same("TB_TRACK_LENGTH of choices", TB_TRACK_LENGTH(i == 0 ? TB_DATA_SIZE : TB_WIDE_SIZE, i == 0 ? 2u : 3u), i == 0 ? 1060 : 1782);
+    }
+    same("TB_IMAGE_LENGTH of a signed number", TB_IMAGE_LENGTH(512), 530);
+    same("TB_IMAGE_LENGTH of a sum", TB_IMAGE_LENGTH(500u + 12u), 530);
+    same("TB_IMAGE_LENGTH, a part of a product", 2u * TB_IMAGE_LENGTH(512u), 1060);
+    same("TB_IMAGE_LENGTH, a part of a quotient", 1188u / TB_IMAGE_LENGTH(576u), 2);
+    same("TB_TRACK_LENGTH of sums", TB_TRACK_LENGTH(500u + 12u, 1u + 1u), 1060);
+    same("TB_TRACK_LENGTH, a part of a quotient", 2120u / TB_TRACK_LENGTH(512u, 2u), 2);
+    same("TB_TRACK_LENGTH of small types", TB_TRACK_LENGTH(narrow, sectors), 38016);
 }
 
 /* The refusal of a Format of the largest drive. */
@@ -537,8 +592,8 @@ static void in_each_call(tb_shape shape, bool bad)
     REFUSED(tb_replaced, tb_spare_replace(shape, 2, words, 1, scratch, 2 * SPARES, 24), no_table);
     REFUSED(tb_counted, tb_spare_census(shape, 2, words, 1, scratch, 2 * SPARES), no_table);
     REFUSED(tb_written, tb_spare_first(shape, 2, places, TB_LIST_MOST + 1, words, 1), no_list);
-    REFUSED(tb_judged, tb_read_judge(shape, 2, words, 1, scratch, 2 * SPARES, 24, home, 1, spare, 1), no_table);
-    REFUSED(tb_spotted, tb_read_data(shape, 2, words, 1, scratch, 2 * SPARES, 24, home, 1, spare, 1), no_table);
+    REFUSED(tb_judged, tb_read_judge(TB_WIDE_SIZE, shape, 2, words, 1, scratch, 2 * SPARES, 24, home, 1, spare, 1), no_table);
+    REFUSED(tb_spotted, tb_read_data(TB_WIDE_SIZE, shape, 2, words, 1, scratch, 2 * SPARES, 24, home, 1, spare, 1), no_table);
     same("the first place of a room, refused", words[0], 0xA5A5A5A5);
 }
 
@@ -693,6 +748,7 @@ static void replacements(void)
 
 /* What each call that takes scratch is asked: about a block, or about a sector. */
 typedef struct asked {
+    uint32_t size;
     tb_shape shape;
     uint32_t r;
     size_t scratch_length;
@@ -725,11 +781,12 @@ static given by_reads(uint32_t number)
 /* Asks each of them about a table with these descriptors. An accepted replacement writes two of them, and nothing else but scratch is written. */
 static void scratch_in_each_call(const uint32_t descriptors[8], asked what, given numbers)
 {
+    const uint32_t size = what.size;
     const tb_shape shape = what.shape;
     const uint32_t r = what.r;
     uint32_t *const lent = what.scratch_length == 0 ? NULL : scratch;
     const size_t length = what.scratch_length;
-    const size_t track = TB_TRACK_LENGTH(5);
+    const size_t track = TB_TRACK_LENGTH(size == TB_WIDE_SIZE ? TB_WIDE_SIZE : TB_DATA_SIZE, 5);
 
     lay(descriptors);
     memcpy(more_words, words, sizeof words);
@@ -739,16 +796,17 @@ static void scratch_in_each_call(const uint32_t descriptors[8], asked what, give
     SCRATCHED(tb_named, tb_spare_block(shape, r, words, 128, lent, length, what.sector), numbers.of_sector, SPARES);
     SCRATCHED(tb_named, tb_spare_block_at(shape, r, words, 128, lent, length, what.sector / 10, what.sector / 5 % 2, what.sector % 5), numbers.of_sector, SPARES);
     SCRATCHED(tb_counted, tb_spare_census(shape, r, words, 128, lent, length), numbers.of_census, SPARES);
-    SCRATCHED(tb_judged, tb_read_judge(shape, r, words, 128, lent, length, what.block, home, what.home_length, spare, track), numbers.of_read, SPARES);
-    SCRATCHED(tb_spotted, tb_read_data(shape, r, words, 128, lent, length, what.block, home, what.home_length, spare, track), numbers.of_read, SPARES);
+    SCRATCHED(tb_judged, tb_read_judge(size, shape, r, words, 128, lent, length, what.block, home, what.home_length, spare, track), numbers.of_read, SPARES);
+    SCRATCHED(tb_spotted, tb_read_data(size, shape, r, words, 128, lent, length, what.block, home, what.home_length, spare, track), numbers.of_read, SPARES);
     same("words that calls without a room changed", differing(), 0);
     SCRATCHED(tb_replaced, tb_spare_replace(shape, r, words, 128, lent, length, what.block), numbers.of_replacement, SPARES);
     same("words that a replacement changed", differing(), numbers.of_replacement == TB_ACCEPTED ? 2 : 0);
 }
 
-/* Scratch that is too short, just long enough, and longer, with good and bad tables, numbers and images. */
-static void scratches(void)
+/* Scratch that is too short, just long enough, and longer, with good and bad tables, numbers and images of a size. */
+static void scratches(uint32_t size)
 {
+    const size_t image_length = TB_IMAGE_LENGTH(size);
     const uint32_t good[8] = {0, 0, 0, 0, 0x20000007, 0, 0, 0};
     const uint32_t twice[8] = {0, 0, 0, 0x30000007, 0x20000007, 0x40000000, 0, 0};
     const uint32_t other_code[8] = {0, 0, 0, 0, 0x30000007, 0, 0, 0};
@@ -759,14 +817,14 @@ static void scratches(void)
 
     /* Block 7 lies on the spare of place 4, which is sector 13, the fourth of its track. Block 12 and sector 20 are the first that the drive
      * does not have. */
-    uint8_t *const lying = spare + 3 * TB_IMAGE_SIZE;
-    const asked well = {replacing(), 2, SPARES, 7, 13, TB_TRACK_LENGTH(5)};
+    uint8_t *const lying = spare + 3 * image_length;
+    const asked well = {size, replacing(), 2, SPARES, 7, 13, TB_TRACK_LENGTH(size, 5)};
     asked what = well;
 
     for (uint32_t more = 0; more <= 3; more += 3) {
         what = well;
         what.scratch_length = SPARES + more;
-        same("an image of block 7", tb_image_write(7, TB_AT_PRIMARY, data, TB_DATA_SIZE, false, lying, TB_IMAGE_SIZE).refusal, TB_ACCEPTED);
+        same("an image of block 7", tb_image_write(size, 7, TB_AT_PRIMARY, data, size, false, lying, image_length).refusal, TB_ACCEPTED);
         scratch_in_each_call(good, what, by_all(TB_ACCEPTED));
         scratch_in_each_call(twice, what, by_all(TB_BAD_TABLE));
         scratch_in_each_call(other_code, what, by_all(TB_BAD_TABLE));
@@ -775,18 +833,26 @@ static void scratches(void)
         scratch_in_each_call(good, what, beyond);
         what.block = 7, what.sector = 13, what.home_length--;
         scratch_in_each_call(good, what, by_reads(TB_WRONG_LENGTH));
-        what.home_length++;
+        what.home_length = TB_TRACK_LENGTH(other_size(size), 5);
+        scratch_in_each_call(good, what, by_reads(TB_WRONG_LENGTH));
+        what.home_length = TB_TRACK_LENGTH(size, 5);
         lying[0]++, lying[4]++;
         scratch_in_each_call(good, what, by_reads(TB_NO_ADDRESS));
         lying[8]++;
         scratch_in_each_call(good, what, by_reads(TB_OTHER_BLOCK));
-        same("an image of block 7 at home", tb_image_write(7, TB_AT_HOME, data, TB_DATA_SIZE, false, lying, TB_IMAGE_SIZE).refusal, TB_ACCEPTED);
+        same("an image of block 7 at home", tb_image_write(size, 7, TB_AT_HOME, data, size, false, lying, image_length).refusal, TB_ACCEPTED);
         scratch_in_each_call(good, what, by_reads(TB_OTHER_BLOCK));
-        same("a forced image of block 7", tb_image_write(7, TB_AT_PRIMARY, data, TB_DATA_SIZE, true, lying, TB_IMAGE_SIZE).refusal, TB_ACCEPTED);
+        same("a forced image of block 7", tb_image_write(size, 7, TB_AT_PRIMARY, data, size, true, lying, image_length).refusal, TB_ACCEPTED);
         scratch_in_each_call(good, what, by_reads(TB_FORCED_ERROR));
-        lying[TB_HEADER_SIZE]++;
+        lying[TB_HEADER_SIZE + size - 1]++;
         scratch_in_each_call(good, what, by_reads(TB_BAD_CODE));
     }
+
+    /* A size that is none: the other calls take no size, and the reads leave all of scratch as it was. */
+    same("a good image of block 7", tb_image_write(size, 7, TB_AT_PRIMARY, data, size, false, lying, image_length).refusal, TB_ACCEPTED);
+    what = well;
+    what.size = size - 1;
+    scratch_in_each_call(good, what, by_reads(TB_OUT_OF_RANGE));
 
     /* One number too few. */
     what = well;
@@ -840,10 +906,13 @@ static void judged_tables(void)
         const uint32_t block = tables[i].block;
         const uint32_t sector = tables[i].sector;
         const bool good = tables[i].number == TB_ACCEPTED;
-        const asked what = {replacing(), 2, SPARES, block, sector, TB_TRACK_LENGTH(5)};
+        const uint32_t size = both[i % 2];
+        const size_t image_length = TB_IMAGE_LENGTH(size);
+        const asked what = {size, replacing(), 2, SPARES, block, sector, TB_TRACK_LENGTH(size, 5)};
         const uint32_t descriptor = tables[i].descriptors[sector / 5 * 2 + sector % 5 - 3];
         same("an image of a block on its spare",
-             tb_image_write(TB_NUMBER_OF(descriptor), TB_CODE_OF(descriptor), data, TB_DATA_SIZE, false, spare + sector % 5 * TB_IMAGE_SIZE, TB_IMAGE_SIZE)
+             tb_image_write(
+                 size, TB_NUMBER_OF(descriptor), TB_CODE_OF(descriptor), data, size, false, spare + sector % 5 * image_length, image_length)
                  .refusal,
              TB_ACCEPTED);
         scratch_in_each_call(tables[i].descriptors, what, by_all(tables[i].number));
@@ -853,7 +922,7 @@ static void judged_tables(void)
     }
 
     /* A free place before a block, with faults that are refused before it and behind it. */
-    asked what = {replacing(), 2, SPARES + 3, 12, 20, TB_TRACK_LENGTH(5) - 1};
+    asked what = {TB_DATA_SIZE, replacing(), 2, SPARES + 3, 12, 20, TB_TRACK_LENGTH(TB_DATA_SIZE, 5) - 1};
     scratch_in_each_call(tables[0].descriptors, what, by_all(TB_BAD_TABLE));
     what.scratch_length = SPARES - 1;
     scratch_in_each_call(tables[0].descriptors, what, by_all(TB_NO_ROOM));
@@ -1052,34 +1121,43 @@ static void words_of_codes(void)
     same("TB_NUMBER_OF a part of a quotient", 14u / TB_NUMBER_OF(0x20000007u), 2);
 }
 
-/* Lays an image of zeros with four numbers in its header. */
-static void lay_image(uint8_t *to, uint32_t first, uint32_t second, uint32_t third, uint32_t fourth)
+/* Lays an image of zeros of a size, with four numbers in its header. */
+static void lay_image(uint32_t size, uint8_t *to, uint32_t first, uint32_t second, uint32_t third, uint32_t fourth)
 {
     const uint32_t copies[4] = {first, second, third, fourth};
-    memset(to, 0, TB_IMAGE_SIZE);
+    memset(to, 0, TB_IMAGE_LENGTH(size));
     for (size_t i = 0; i < TB_HEADER_SIZE; i++) {
         to[i] = (uint8_t)(copies[i / 4] >> (24 - 8 * (i % 4)));
     }
-    to[TB_IMAGE_SIZE - 2] = TB_START_CODE / 256;
-    to[TB_IMAGE_SIZE - 1] = TB_START_CODE % 256;
+    to[TB_HEADER_SIZE + size] = TB_START_CODE / 256;
+    to[TB_HEADER_SIZE + size + 1] = TB_START_CODE % 256;
 }
 
-/* A header with these copies says this code and this block. */
+/* A header with these copies says this code and this block, at either size. */
 static void headed_so(uint32_t first, uint32_t second, uint32_t third, uint32_t fourth, uint32_t code, uint32_t block)
 {
-    lay_image(image, first, second, third, fourth);
-    const tb_headed headed = tb_image_header(image, TB_IMAGE_SIZE);
-    same("refusal of a header", headed.refusal, TB_ACCEPTED);
-    same("code of a header", headed.code, code);
-    same("block of a header", headed.block, block);
-    same("verdict by what a header says", tb_image_judge(image, TB_IMAGE_SIZE, block, code).refusal, TB_ACCEPTED);
+    for (size_t i = 0; i < 2; i++) {
+        const uint32_t size = both[i];
+        lay_image(size, image, first, second, third, fourth);
+        const tb_headed headed = tb_image_header(size, image, TB_IMAGE_LENGTH(size));
+        same("refusal of a header", headed.refusal, TB_ACCEPTED);
+        same("code of a header", headed.code, code);
+        same("block of a header", headed.block, block);
+        same("verdict by what a header says", tb_image_judge(size, image, TB_IMAGE_LENGTH(size), block, code).refusal, TB_ACCEPTED);
+        REFUSED(tb_headed, tb_image_header(other_size(size), image, TB_IMAGE_LENGTH(size)), TB_WRONG_LENGTH);
+    }
 }
 
-/* A header with these copies is refused. */
+/* A header with these copies is refused, at either size. */
 static void not_headed(uint32_t first, uint32_t second, uint32_t third, uint32_t fourth, uint32_t refusal)
 {
-    lay_image(image, first, second, third, fourth);
-    REFUSED(tb_headed, tb_image_header(image, TB_IMAGE_SIZE), refusal);
+    for (size_t i = 0; i < 2; i++) {
+        const uint32_t size = both[i];
+        lay_image(size, image, first, second, third, fourth);
+        REFUSED(tb_headed, tb_image_header(size, image, TB_IMAGE_LENGTH(size)), refusal);
+        REFUSED(tb_headed, tb_image_header(size, image, TB_IMAGE_LENGTH(size) - 1), TB_WRONG_LENGTH);
+        REFUSED(tb_headed, tb_image_header(size, image, TB_IMAGE_LENGTH(size) + 1), TB_WRONG_LENGTH);
+    }
 }
 
 /* Headers of each code, of copies that differ, and with each code that no header may have. */
@@ -1106,62 +1184,105 @@ static void headers(void)
             not_headed(word, word, word, word, TB_OTHER_BLOCK);
         }
     }
-    REFUSED(tb_headed, tb_image_header(image, TB_IMAGE_SIZE - 1), TB_WRONG_LENGTH);
-    REFUSED(tb_headed, tb_image_header(image, TB_IMAGE_SIZE + 1), TB_WRONG_LENGTH);
 }
 
-/* The image of zeros has this word in its header, byte for byte. */
-static void written_so(uint32_t block, uint32_t code, uint32_t word)
+/* The image of zeros of a size has this word in its header, byte for byte. */
+static void written_so(uint32_t size, uint32_t block, uint32_t code, uint32_t word)
 {
-    uint8_t expected[TB_IMAGE_SIZE];
+    const size_t length = TB_IMAGE_LENGTH(size);
+    uint8_t expected[TB_IMAGE_LENGTH(TB_WIDE_SIZE)];
     memset(data, 0, sizeof data);
     memset(image, 0xA5, sizeof image);
-    const tb_written written = tb_image_write(block, code, data, TB_DATA_SIZE, false, image, sizeof image);
+    const tb_written written = tb_image_write(size, block, code, data, size, false, image, sizeof image);
     same("refusal of a written image", written.refusal, TB_ACCEPTED);
-    same("length of a written image", written.length, TB_IMAGE_SIZE);
-    lay_image(expected, word, word, word, word);
-    same("bytes of a written image", memcmp(image, expected, TB_IMAGE_SIZE) == 0, 1);
-    same("the byte behind a written image", image[TB_IMAGE_SIZE], 0xA5);
-    same("good as written", tb_image_judge(image, TB_IMAGE_SIZE, block, code).refusal, TB_ACCEPTED);
-    same("refusal of a forced image", tb_image_write(block, code, data, TB_DATA_SIZE, true, image, TB_IMAGE_SIZE).refusal, TB_ACCEPTED);
+    same("length of a written image", written.length, length);
+    lay_image(size, expected, word, word, word, word);
+    same("bytes of a written image", memcmp(image, expected, length) == 0, 1);
+    same("the byte behind a written image", image[length], 0xA5);
+    same("good as written", tb_image_judge(size, image, length, block, code).refusal, TB_ACCEPTED);
+    same("refusal of a forced image", tb_image_write(size, block, code, data, size, true, image, length).refusal, TB_ACCEPTED);
     same("its first byte", image[0], word >> 24);
-    same("its last two bytes", image[TB_IMAGE_SIZE - 2] * 256u + image[TB_IMAGE_SIZE - 1], 0xFFFF - TB_START_CODE);
-    same("forced as written", tb_image_judge(image, TB_IMAGE_SIZE, block, code).refusal, TB_FORCED_ERROR);
+    same("its last two bytes", image[length - 2] * 256u + image[length - 1], 0xFFFF - TB_START_CODE);
+    same("forced as written", tb_image_judge(size, image, length, block, code).refusal, TB_FORCED_ERROR);
 }
 
 /* A write is refused, and no byte of the room changes. */
-static void not_written(uint32_t block, uint32_t code, size_t data_length, size_t room_length, uint32_t refusal)
+static void not_written(uint32_t size, uint32_t block, uint32_t code, size_t data_length, size_t room_length, uint32_t refusal)
 {
     uint32_t kept = 0;
     memset(image, 0xA5, sizeof image);
-    REFUSED(tb_written, tb_image_write(block, code, data, data_length, false, image, room_length), refusal);
+    REFUSED(tb_written, tb_image_write(size, block, code, data, data_length, false, image, room_length), refusal);
     for (size_t i = 0; i < sizeof image; i++) {
         kept += image[i] == 0xA5;
     }
     same("bytes of a room that a refused write kept", kept, sizeof image);
 }
 
-/* Images with each code, at the last block and beyond it, and with several faults at once. */
-static void images_written(void)
+/* Images of a size with each code, at the last block and beyond it, and with several faults at once. */
+static void images_written(uint32_t size)
 {
-    written_so(7, TB_AT_HOME, 0x00000007);
-    written_so(7, TB_AT_PRIMARY, 0x20000007);
-    written_so(7, TB_ELSEWHERE, 0x30000007);
-    written_so(268435455, TB_ELSEWHERE, 0x3FFFFFFF);
-    written_so(268435455, TB_AT_HOME, 0x0FFFFFFF);
-    not_written(268435456, 1, TB_DATA_SIZE - 1, TB_IMAGE_SIZE - 1, TB_WRONG_LENGTH);
-    not_written(268435456, 1, TB_DATA_SIZE, TB_IMAGE_SIZE - 1, TB_NO_SUCH_BLOCK);
-    not_written(268435456, TB_AT_HOME, TB_DATA_SIZE, TB_IMAGE_SIZE, TB_NO_SUCH_BLOCK);
-    not_written(0xFFFFFFFF, TB_ELSEWHERE, TB_DATA_SIZE, TB_IMAGE_SIZE, TB_NO_SUCH_BLOCK);
-    not_written(7, TB_AT_PRIMARY, TB_DATA_SIZE, TB_IMAGE_SIZE - 1, TB_NO_ROOM);
+    const size_t room = TB_IMAGE_LENGTH(size);
+
+    written_so(size, 7, TB_AT_HOME, 0x00000007);
+    written_so(size, 7, TB_AT_PRIMARY, 0x20000007);
+    written_so(size, 7, TB_ELSEWHERE, 0x30000007);
+    written_so(size, 268435455, TB_ELSEWHERE, 0x3FFFFFFF);
+    written_so(size, 268435455, TB_AT_HOME, 0x0FFFFFFF);
+    not_written(size, 268435456, 1, size - 1, room - 1, TB_WRONG_LENGTH);
+    not_written(size, 7, TB_AT_HOME, other_size(size), sizeof image, TB_WRONG_LENGTH);
+    not_written(size, 268435456, 1, size, room - 1, TB_NO_SUCH_BLOCK);
+    not_written(size, 268435456, TB_AT_HOME, size, room, TB_NO_SUCH_BLOCK);
+    not_written(size, 0xFFFFFFFF, TB_ELSEWHERE, size, room, TB_NO_SUCH_BLOCK);
+    not_written(size, 7, TB_AT_PRIMARY, size, room - 1, TB_NO_ROOM);
     for (uint32_t code = 0; code < 20; code++) {
         if (code != TB_AT_HOME && code != TB_AT_PRIMARY && code != TB_ELSEWHERE) {
-            not_written(7, code, TB_DATA_SIZE, TB_IMAGE_SIZE, TB_UNKNOWN_CODE);
-            not_written(7, code, TB_DATA_SIZE, TB_IMAGE_SIZE - 1, TB_UNKNOWN_CODE);
-            not_written(268435456, code, TB_DATA_SIZE, TB_IMAGE_SIZE, TB_NO_SUCH_BLOCK);
+            not_written(size, 7, code, size, room, TB_UNKNOWN_CODE);
+            not_written(size, 7, code, size, room - 1, TB_UNKNOWN_CODE);
+            not_written(size, 268435456, code, size, room, TB_NO_SUCH_BLOCK);
         }
     }
-    not_written(7, 0xFFFFFFFF, TB_DATA_SIZE, TB_IMAGE_SIZE, TB_UNKNOWN_CODE);
+    not_written(size, 7, 0xFFFFFFFF, size, room, TB_UNKNOWN_CODE);
+}
+
+/* What is written of data has this code, and the other way round where it is forced. */
+static void coded_so(uint32_t size, uint32_t code)
+{
+    const size_t length = TB_IMAGE_LENGTH(size);
+    for (uint32_t forced = 0; forced < 2; forced++) {
+        same("refusal of data", tb_image_write(size, 7, TB_AT_HOME, data, size, forced == 1, image, length).refusal, TB_ACCEPTED);
+        same("code of data", image[length - 2] * 256u + image[length - 1], forced == 1 ? 0xFFFF - code : code);
+        same("verdict on data", tb_image_judge(size, image, length, 7, TB_AT_HOME).refusal, forced == 1 ? TB_FORCED_ERROR : TB_ACCEPTED);
+    }
+}
+
+/* The codes of data of both sizes. Each word counts, also those of the last 64 bytes of the larger one. */
+static void codes_of_data(void)
+{
+    for (size_t i = 0; i < 2; i++) {
+        const uint32_t size = both[i];
+        memset(data, 0, sizeof data);
+        coded_so(size, 0x5A3C);
+        data[1] = 1;
+        coded_so(size, 0xDA3C);
+        data[1] = 0, data[size - 1] = 1;
+        coded_so(size, 0x5A3D);
+        data[size - 1] = 0;
+    }
+    data[0] = 0x02;
+    coded_so(TB_DATA_SIZE, 0x5B3C);
+    data[1] = 0x40;
+    coded_so(TB_DATA_SIZE, 0x5B1C);
+    for (uint32_t word = 0; word < TB_WIDE_SIZE / 2; word++) {
+        data[2 * word] = (uint8_t)(1000 * word / 256), data[2 * word + 1] = (uint8_t)(1000 * word);
+    }
+    coded_so(TB_WIDE_SIZE, 0xA541);
+    same("its length", tb_image_write(TB_WIDE_SIZE, 7, TB_AT_HOME, data, TB_WIDE_SIZE, false, image, TB_IMAGE_LENGTH(TB_WIDE_SIZE)).length, 594);
+    for (size_t at = TB_HEADER_SIZE; at < TB_IMAGE_LENGTH(TB_WIDE_SIZE); at++) {
+        image[at] ^= 0x08;
+        same("verdict with one bit changed", tb_image_judge(TB_WIDE_SIZE, image, TB_IMAGE_LENGTH(TB_WIDE_SIZE), 7, TB_AT_HOME).refusal, TB_BAD_CODE);
+        image[at] ^= 0x08;
+    }
+    memset(data, 0, sizeof data);
 }
 
 /* A number that stands in a header, what is expected of it, and the verdict. */
@@ -1174,8 +1295,9 @@ typedef struct judged_header {
 
 /* Verdicts on the pair of block and code that a header says, and on pairs that it does not say. Block 268435463 with code 1, block 536870919
  * with code 0, and block 7 with code 18 make the word 20000007 in 32 bits, and no header says them. */
-static void images_judged(void)
+static void images_judged(uint32_t size)
 {
+    const size_t length = TB_IMAGE_LENGTH(size);
     const judged_header judged[] = {
         {0x20000007, 7, TB_AT_PRIMARY, TB_ACCEPTED},
         {0x20000007, 7, TB_AT_HOME, TB_OTHER_BLOCK},
@@ -1200,52 +1322,189 @@ static void images_judged(void)
         const uint32_t block = judged[i].block;
         const uint32_t code = judged[i].code;
         const bool good = judged[i].number == TB_ACCEPTED;
-        lay_image(image, word, word, word, word);
-        same("verdict on a pair", tb_image_judge(image, TB_IMAGE_SIZE, block, code).refusal, judged[i].number);
-        same("verdict on a pair, wrong length", tb_image_judge(image, TB_IMAGE_SIZE - 1, block, code).refusal, TB_WRONG_LENGTH);
+        lay_image(size, image, word, word, word, word);
+        same("verdict on a pair", tb_image_judge(size, image, length, block, code).refusal, judged[i].number);
+        same("verdict on a pair, wrong length", tb_image_judge(size, image, length - 1, block, code).refusal, TB_WRONG_LENGTH);
+        same("verdict on a pair, the other size", tb_image_judge(other_size(size), image, length, block, code).refusal, TB_WRONG_LENGTH);
+        same("verdict on a pair, no size", tb_image_judge(size + 1, image, length, block, code).refusal, TB_OUT_OF_RANGE);
         image[0] ^= 0x10;
-        same("verdict on a pair, one copy damaged", tb_image_judge(image, TB_IMAGE_SIZE, block, code).refusal, judged[i].number);
-        image[TB_IMAGE_SIZE - 1] ^= 1;
-        same("verdict on a pair, code of the data damaged", tb_image_judge(image, TB_IMAGE_SIZE, block, code).refusal, good ? TB_BAD_CODE : TB_OTHER_BLOCK);
-        image[TB_IMAGE_SIZE - 1] ^= 0xFE, image[TB_IMAGE_SIZE - 2] ^= 0xFF;
-        same("verdict on a pair, forced", tb_image_judge(image, TB_IMAGE_SIZE, block, code).refusal, good ? TB_FORCED_ERROR : TB_OTHER_BLOCK);
+        same("verdict on a pair, one copy damaged", tb_image_judge(size, image, length, block, code).refusal, judged[i].number);
+        image[length - 1] ^= 1;
+        same("verdict on a pair, code of the data damaged", tb_image_judge(size, image, length, block, code).refusal, good ? TB_BAD_CODE : TB_OTHER_BLOCK);
+        image[length - 1] ^= 0xFE, image[length - 2] ^= 0xFF;
+        same("verdict on a pair, forced", tb_image_judge(size, image, length, block, code).refusal, good ? TB_FORCED_ERROR : TB_OTHER_BLOCK);
         image[4] ^= 0x10;
-        same("verdict on a pair, two copies damaged", tb_image_judge(image, TB_IMAGE_SIZE, block, code).refusal, TB_NO_ADDRESS);
+        same("verdict on a pair, two copies damaged", tb_image_judge(size, image, length, block, code).refusal, TB_NO_ADDRESS);
     }
 }
 
-/* Reads a block of the drive of the replacements from two images, of which the one that it lies in, on this sector of the track, has this word in
- * the header there. */
-static void read_so(uint32_t block, uint32_t image_number, uint32_t sector, uint32_t word, uint32_t number)
+/* Reads a block of the drive of the replacements from two images of tracks with sectors of this size. */
+static void reads_give(uint32_t size, uint32_t block, size_t home_length, size_t spare_length, uint32_t number)
 {
-    const size_t track = TB_TRACK_LENGTH(5);
+    SCRATCHED(tb_judged, tb_read_judge(size, replacing(), 2, words, 128, scratch, SPARES, block, home, home_length, spare, spare_length), number, SPARES);
+    SCRATCHED(tb_spotted, tb_read_data(size, replacing(), 2, words, 128, scratch, SPARES, block, home, home_length, spare, spare_length), number, SPARES);
+}
+
+/* Reads a block of that drive, where in the image that it lies in, on this sector of the track, this word stands in the header. */
+static void read_so(uint32_t size, uint32_t block, uint32_t image_number, uint32_t sector, uint32_t word, uint32_t number)
+{
+    const size_t track = TB_TRACK_LENGTH(size, 5);
     uint8_t *const track_image = image_number == 0 ? home : spare;
     memset(home, 0xA5, sizeof home);
     memset(spare, 0xA5, sizeof spare);
-    lay_image(track_image + sector * TB_IMAGE_SIZE, word, word, word, word);
-    SCRATCHED(tb_judged, tb_read_judge(replacing(), 2, words, 128, scratch, SPARES, block, home, track, spare, track), number, SPARES);
-    SCRATCHED(tb_spotted, tb_read_data(replacing(), 2, words, 128, scratch, SPARES, block, home, track, spare, track), number, SPARES);
-    const tb_spotted spotted = tb_read_data(replacing(), 2, words, 128, scratch, SPARES, block, home, track, spare, track);
+    lay_image(size, track_image + sector * TB_IMAGE_LENGTH(size), word, word, word, word);
+    reads_give(size, block, track, track, number);
+    const tb_spotted spotted = tb_read_data(size, replacing(), 2, words, 128, scratch, SPARES, block, home, track, spare, track);
     same("image of a read", spotted.image, number == TB_ACCEPTED ? image_number : 0);
-    same("offset of a read", spotted.offset, number == TB_ACCEPTED ? sector * TB_IMAGE_SIZE + TB_HEADER_SIZE : 0);
+    same("offset of a read", spotted.offset, number == TB_ACCEPTED ? sector * TB_IMAGE_LENGTH(size) + TB_HEADER_SIZE : 0);
 }
 
 /* Reads of a block at its primary spare, of one elsewhere and of one at home, with each code of four bits in the header. Only the one that the
  * table says is accepted. */
-static void reads(void)
+static void reads(uint32_t size)
 {
     const uint32_t descriptors[8] = {0, 0, 0, 0, 0x20000007, 0x30000008, 0, 0};
+    const size_t track = TB_TRACK_LENGTH(size, 5);
+    const size_t other = TB_TRACK_LENGTH(other_size(size), 5);
 
     lay(descriptors);
     for (uint32_t code = 0; code < 16; code++) {
         const uint32_t word = code * TB_CODE_UNIT;
-        read_so(7, 1, 3, word + 7, word + 7 == words[4] ? TB_ACCEPTED : TB_OTHER_BLOCK);
-        read_so(8, 1, 4, word + 8, word + 8 == words[5] ? TB_ACCEPTED : TB_OTHER_BLOCK);
-        read_so(6, 0, 0, word + 6, code == TB_AT_HOME ? TB_ACCEPTED : TB_OTHER_BLOCK);
+        read_so(size, 7, 1, 3, word + 7, word + 7 == words[4] ? TB_ACCEPTED : TB_OTHER_BLOCK);
+        read_so(size, 8, 1, 4, word + 8, word + 8 == words[5] ? TB_ACCEPTED : TB_OTHER_BLOCK);
+        read_so(size, 6, 0, 0, word + 6, code == TB_AT_HOME ? TB_ACCEPTED : TB_OTHER_BLOCK);
     }
-    read_so(7, 1, 3, 0x20000008, TB_OTHER_BLOCK);
-    read_so(8, 1, 4, 0x30000007, TB_OTHER_BLOCK);
-    read_so(6, 0, 0, 0x00000007, TB_OTHER_BLOCK);
+    read_so(size, 7, 1, 3, 0x20000008, TB_OTHER_BLOCK);
+    read_so(size, 8, 1, 4, 0x30000007, TB_OTHER_BLOCK);
+    read_so(size, 6, 0, 0, 0x00000007, TB_OTHER_BLOCK);
+
+    /* One image or both are those of tracks with sectors of the other size. */
+    read_so(size, 7, 1, 3, 0x20000007, TB_ACCEPTED);
+    reads_give(size, 7, other, track, TB_WRONG_LENGTH);
+    reads_give(size, 7, track, other, TB_WRONG_LENGTH);
+    reads_give(size, 7, other, other, TB_WRONG_LENGTH);
+    reads_give(other_size(size), 7, track, track, TB_WRONG_LENGTH);
+}
+
+/* A number that is no size, with all else well, and with every other fault beside it. It is refused before all else, and nothing is written. */
+static void no_size(uint32_t none)
+{
+    const uint32_t descriptors[8] = {0, 0, 0, 0, 0x20000007, 0, 0, 0};
+
+    for (size_t i = 0; i < 2; i++) {
+        const uint32_t made = both[i];
+        const size_t length = TB_IMAGE_LENGTH(made);
+        not_written(none, 7, TB_AT_HOME, made, length, TB_OUT_OF_RANGE);
+        not_written(none, 268435456, 1, made - 1, 0, TB_OUT_OF_RANGE);
+        lay_image(made, image, 7, 7, 7, 7);
+        REFUSED(tb_headed, tb_image_header(none, image, length), TB_OUT_OF_RANGE);
+        REFUSED(tb_judged, tb_image_judge(none, image, length, 7, TB_AT_HOME), TB_OUT_OF_RANGE);
+        lay_image(made, image, 0x10000007, 0x20000007, 0x10000007, 0x20000007);
+        REFUSED(tb_headed, tb_image_header(none, image, length - 1), TB_OUT_OF_RANGE);
+        REFUSED(tb_judged, tb_image_judge(none, image, length - 1, 268435456, 1), TB_OUT_OF_RANGE);
+        lay(descriptors);
+        read_so(made, 7, 1, 3, 0x20000007, TB_ACCEPTED);
+        reads_give(none, 7, 5 * length, 5 * length, TB_OUT_OF_RANGE);
+        SCRATCHED(tb_judged, tb_read_judge(none, shaped(2, 2, 1), 5, words, 127, scratch, SPARES - 1, 12, home, 1, spare, 1), TB_OUT_OF_RANGE, SPARES);
+        SCRATCHED(tb_spotted, tb_read_data(none, shaped(2, 2, 1), 5, words, 127, scratch, SPARES - 1, 12, home, 1, spare, 1), TB_OUT_OF_RANGE, SPARES);
+    }
+}
+
+static void no_sizes(void)
+{
+    const uint32_t none[] = {0, 1, 511, 513, 544, 575, 577, 1024, 65536 + 512, 65536 + 576, 0xFFFFFFFF};
+
+    for (size_t i = 0; i < sizeof none / sizeof none[0]; i++) {
+        no_size(none[i]);
+    }
+}
+
+/* The XBN area: its sector images one after another, of which some are laid. */
+static uint8_t area[5][530];
+static uint32_t laid;
+
+/* Lays the next sector of the area: headed by a code and a block, with this first word, good or forced. */
+static void lay_sector(uint32_t code, uint32_t block, uint32_t word, bool forced)
+{
+    memset(data, 0, sizeof data);
+    data[0] = (uint8_t)(word / 256), data[1] = (uint8_t)word;
+    same("a sector of the XBN area", tb_image_write(TB_DATA_SIZE, block, code, data, TB_DATA_SIZE, forced, area[laid], 530).length, 530);
+    laid++;
+}
+
+/* The next one as it must be: headed by its XBN with code 0, and good. */
+static void lay_mode(uint32_t word)
+{
+    lay_sector(TB_AT_HOME, laid, word, false);
+}
+
+/* The next one so, with one bit changed. */
+static void lay_damaged(uint32_t word)
+{
+    lay_mode(word);
+    area[laid - 1][300] ^= 1;
+}
+
+/* The sectors that were laid, less so many bytes, say this size, or 0 where they are refused by the number. The next area begins then. */
+static void mode_is(uint32_t missing, uint32_t apart, uint32_t number, uint32_t size)
+{
+    const size_t length = 530 * laid - missing;
+    const tb_sized sized = tb_mode(length == 0 ? NULL : area[0], length, apart);
+    same("refusal of a mode", sized.refusal, number);
+    same("size of a mode", sized.size, size);
+    laid = 0;
+    memset(area, 0xA5, sizeof area);
+}
+
+/* The mode sector: the first copy that says a size counts, and any other is passed over. */
+static void modes(void)
+{
+    const uint32_t words_of_no_size[] = {0, 2, 0x01FF, 0x0201, 0x023F, 0x0241, 0x0400, 0x4002, 0xFFFF};
+
+    lay_mode(0x0240), mode_is(0, 1, TB_ACCEPTED, TB_WIDE_SIZE);
+    lay_mode(0x0200), mode_is(0, 7, TB_ACCEPTED, TB_DATA_SIZE);
+    lay_mode(0x0240), mode_is(0, 0xFFFFFFFF, TB_ACCEPTED, TB_WIDE_SIZE);
+    lay_mode(0x0200), lay_mode(0x0240), mode_is(0, 1, TB_ACCEPTED, TB_DATA_SIZE);
+    lay_mode(0x0240), lay_mode(0x0200), mode_is(529, 1, TB_ACCEPTED, TB_WIDE_SIZE);
+
+    /* A copy that is forced, damaged, or headed otherwise. Between the copies stands a sector that says the other size. */
+    lay_sector(TB_AT_HOME, 0, 0x0200, true), lay_mode(0x0200), lay_mode(0x0240), mode_is(0, 2, TB_ACCEPTED, TB_WIDE_SIZE);
+    lay_damaged(0x0200), lay_mode(0x0200), lay_mode(0x0240), mode_is(0, 2, TB_ACCEPTED, TB_WIDE_SIZE);
+    lay_damaged(0x0200), lay_mode(0x0240), lay_mode(0x0200), mode_is(0, 2, TB_ACCEPTED, TB_DATA_SIZE);
+    lay_sector(TB_AT_PRIMARY, 0, 0x0200, false), lay_mode(0x0240), mode_is(0, 1, TB_ACCEPTED, TB_WIDE_SIZE);
+    lay_sector(TB_ELSEWHERE, 0, 0x0200, false), lay_mode(0x0240), mode_is(0, 1, TB_ACCEPTED, TB_WIDE_SIZE);
+    lay_damaged(0x0200), lay_mode(0x0200), lay_sector(TB_AT_HOME, 1, 0x0200, false), lay_mode(0x0200), lay_mode(0x0240);
+    mode_is(0, 2, TB_ACCEPTED, TB_WIDE_SIZE);
+    lay_damaged(0x0200), lay_sector(TB_AT_HOME, 0, 0x0200, false), lay_mode(0x0240), mode_is(0, 1, TB_ACCEPTED, TB_WIDE_SIZE);
+
+    /* A first word that is no size. */
+    for (size_t i = 0; i < sizeof words_of_no_size / sizeof words_of_no_size[0]; i++) {
+        lay_mode(words_of_no_size[i]), lay_mode(0x0200), mode_is(0, 1, TB_ACCEPTED, TB_DATA_SIZE);
+        lay_mode(words_of_no_size[i]), mode_is(0, 1, TB_NO_MODE, 0);
+    }
+
+    /* No copy says a size. */
+    mode_is(0, 1, TB_NO_MODE, 0);
+    mode_is(0, 0xFFFFFFFF, TB_NO_MODE, 0);
+    lay_mode(0x0240), mode_is(1, 1, TB_NO_MODE, 0);
+    lay_mode(0x0240), mode_is(529, 1, TB_NO_MODE, 0);
+    lay_sector(TB_AT_PRIMARY, 0, 0x0240, false), lay_sector(TB_AT_HOME, 0, 0x0240, false), mode_is(0, 1, TB_NO_MODE, 0);
+    lay_damaged(0x0240), lay_mode(0x0240), mode_is(0, 2, TB_NO_MODE, 0);
+    lay_damaged(0x0240), lay_mode(0x0240), mode_is(1, 1, TB_NO_MODE, 0);
+    lay_damaged(0x0240), lay_mode(0x0240), mode_is(0, 1, TB_ACCEPTED, TB_WIDE_SIZE);
+    lay_sector(TB_AT_HOME, 0, 0x0240, true), lay_sector(TB_AT_HOME, 1, 0x0240, true), mode_is(0, 1, TB_NO_MODE, 0);
+
+    /* Copies that lie no sector apart. */
+    mode_is(0, 0, TB_OUT_OF_RANGE, 0);
+    lay_mode(0x0240), mode_is(0, 0, TB_OUT_OF_RANGE, 0);
+    lay_damaged(0x0240), mode_is(1, 0, TB_OUT_OF_RANGE, 0);
+
+    /* A sector of 576 is none of this area. */
+    memset(data, 0, sizeof data);
+    data[0] = 0x02, data[1] = 0x40;
+    same("a wide sector", tb_image_write(TB_WIDE_SIZE, 0, TB_AT_HOME, data, TB_WIDE_SIZE, false, image, 594).length, 594);
+    REFUSED(tb_sized, tb_mode(image, 594, 1), TB_NO_MODE);
+    memset(data, 0, sizeof data);
 }
 
 /* Each refusal number once, by its name and by its number. */
@@ -1282,24 +1541,26 @@ static void refusals(void)
     number++; /* 12 is no longer given, so that no name has it. */
     same("TB_NO_SPARE", tb_spare_replace(shape, 1, words, 128, scratch, 1, 1).refusal, TB_NO_SPARE);
     same("its number", TB_NO_SPARE, number++);
-    same("TB_WRONG_LENGTH", tb_image_header(image, 1).refusal, TB_WRONG_LENGTH);
+    same("TB_WRONG_LENGTH", tb_image_header(TB_DATA_SIZE, image, 1).refusal, TB_WRONG_LENGTH);
     same("its number", TB_WRONG_LENGTH, number++);
     memset(image, 0, sizeof image);
     image[0] = 1;
     image[4] = 1;
-    same("TB_NO_ADDRESS", tb_image_header(image, TB_IMAGE_SIZE).refusal, TB_NO_ADDRESS);
+    same("TB_NO_ADDRESS", tb_image_header(TB_DATA_SIZE, image, 530).refusal, TB_NO_ADDRESS);
     same("its number", TB_NO_ADDRESS, number++);
     image[8] = 1;
-    same("TB_OTHER_BLOCK", tb_image_judge(image, TB_IMAGE_SIZE, 1, TB_AT_HOME).refusal, TB_OTHER_BLOCK);
+    same("TB_OTHER_BLOCK", tb_image_judge(TB_DATA_SIZE, image, 530, 1, TB_AT_HOME).refusal, TB_OTHER_BLOCK);
     same("its number", TB_OTHER_BLOCK, number++);
-    same("a forced image", tb_image_write(1, TB_AT_HOME, data, TB_DATA_SIZE, true, image, TB_IMAGE_SIZE).refusal, TB_ACCEPTED);
-    same("TB_FORCED_ERROR", tb_image_judge(image, TB_IMAGE_SIZE, 1, TB_AT_HOME).refusal, TB_FORCED_ERROR);
+    same("a forced image", tb_image_write(TB_DATA_SIZE, 1, TB_AT_HOME, data, TB_DATA_SIZE, true, image, 530).refusal, TB_ACCEPTED);
+    same("TB_FORCED_ERROR", tb_image_judge(TB_DATA_SIZE, image, 530, 1, TB_AT_HOME).refusal, TB_FORCED_ERROR);
     same("its number", TB_FORCED_ERROR, number++);
     image[TB_HEADER_SIZE] ^= 1;
-    same("TB_BAD_CODE", tb_image_judge(image, TB_IMAGE_SIZE, 1, TB_AT_HOME).refusal, TB_BAD_CODE);
+    same("TB_BAD_CODE", tb_image_judge(TB_DATA_SIZE, image, 530, 1, TB_AT_HOME).refusal, TB_BAD_CODE);
     same("its number", TB_BAD_CODE, number++);
-    number += 3; /* 19, 20 and 21 are given by no call, so that no name has them. */
-    same("TB_UNKNOWN_CODE", tb_image_write(1, 1, data, TB_DATA_SIZE, false, image, TB_IMAGE_SIZE).refusal, TB_UNKNOWN_CODE);
+    number += 2; /* 19 and 20 are given by no call, so that no name has them. */
+    same("TB_NO_MODE", tb_mode(image, 530, 1).refusal, TB_NO_MODE);
+    same("its number", TB_NO_MODE, number++);
+    same("TB_UNKNOWN_CODE", tb_image_write(TB_DATA_SIZE, 1, 1, data, TB_DATA_SIZE, false, image, 530).refusal, TB_UNKNOWN_CODE);
     same("its number", TB_UNKNOWN_CODE, number++);
     same("the refusals", number, 23);
 }
@@ -1339,18 +1600,24 @@ static void nothing_lent(void)
     same("tb_spare_census scratch", tb_spare_census(shape, 2, words, 128, NULL, 0).refusal, TB_NO_ROOM);
     same("tb_spare_first list", tb_spare_first(shape, 2, NULL, 0, words, 128).length, 128);
     same("tb_spare_first room", tb_spare_first(shape, 2, NULL, 0, NULL, 0).refusal, TB_NO_ROOM);
-    same("tb_image_write data", tb_image_write(0, TB_AT_HOME, NULL, 0, false, image, TB_IMAGE_SIZE).refusal, TB_WRONG_LENGTH);
-    same("tb_image_write room", tb_image_write(0, TB_AT_HOME, data, TB_DATA_SIZE, false, NULL, 0).refusal, TB_NO_ROOM);
-    same("tb_image_header image", tb_image_header(NULL, 0).refusal, TB_WRONG_LENGTH);
-    same("tb_image_judge image", tb_image_judge(NULL, 0, 0, TB_AT_HOME).refusal, TB_WRONG_LENGTH);
-    same("tb_read_judge table", tb_read_judge(shape, 2, NULL, 0, scratch, SPARES, 0, home, TB_TRACK_LENGTH(5), spare, TB_TRACK_LENGTH(5)).refusal, TB_BAD_TABLE);
-    same("tb_read_judge scratch", tb_read_judge(shape, 2, words, 128, NULL, 0, 0, home, TB_TRACK_LENGTH(5), spare, TB_TRACK_LENGTH(5)).refusal, TB_NO_ROOM);
-    same("tb_read_judge home", tb_read_judge(shape, 2, words, 128, scratch, SPARES, 0, NULL, 0, spare, TB_TRACK_LENGTH(5)).refusal, TB_WRONG_LENGTH);
-    same("tb_read_judge spare", tb_read_judge(shape, 2, words, 128, scratch, SPARES, 0, home, TB_TRACK_LENGTH(5), NULL, 0).refusal, TB_WRONG_LENGTH);
-    same("tb_read_data table", tb_read_data(shape, 2, NULL, 0, scratch, SPARES, 0, home, TB_TRACK_LENGTH(5), spare, TB_TRACK_LENGTH(5)).refusal, TB_BAD_TABLE);
-    same("tb_read_data scratch", tb_read_data(shape, 2, words, 128, NULL, 0, 0, home, TB_TRACK_LENGTH(5), spare, TB_TRACK_LENGTH(5)).refusal, TB_NO_ROOM);
-    same("tb_read_data home", tb_read_data(shape, 2, words, 128, scratch, SPARES, 0, NULL, 0, spare, TB_TRACK_LENGTH(5)).refusal, TB_WRONG_LENGTH);
-    same("tb_read_data spare", tb_read_data(shape, 2, words, 128, scratch, SPARES, 0, home, TB_TRACK_LENGTH(5), NULL, 0).refusal, TB_WRONG_LENGTH);
+    for (size_t i = 0; i < 2; i++) {
+        const uint32_t size = both[i];
+        const size_t track = TB_TRACK_LENGTH(size, 5);
+        same("tb_image_write data", tb_image_write(size, 0, TB_AT_HOME, NULL, 0, false, image, sizeof image).refusal, TB_WRONG_LENGTH);
+        same("tb_image_write room", tb_image_write(size, 0, TB_AT_HOME, data, size, false, NULL, 0).refusal, TB_NO_ROOM);
+        same("tb_image_header image", tb_image_header(size, NULL, 0).refusal, TB_WRONG_LENGTH);
+        same("tb_image_judge image", tb_image_judge(size, NULL, 0, 0, TB_AT_HOME).refusal, TB_WRONG_LENGTH);
+        same("tb_read_judge table", tb_read_judge(size, shape, 2, NULL, 0, scratch, SPARES, 0, home, track, spare, track).refusal, TB_BAD_TABLE);
+        same("tb_read_judge scratch", tb_read_judge(size, shape, 2, words, 128, NULL, 0, 0, home, track, spare, track).refusal, TB_NO_ROOM);
+        same("tb_read_judge home", tb_read_judge(size, shape, 2, words, 128, scratch, SPARES, 0, NULL, 0, spare, track).refusal, TB_WRONG_LENGTH);
+        same("tb_read_judge spare", tb_read_judge(size, shape, 2, words, 128, scratch, SPARES, 0, home, track, NULL, 0).refusal, TB_WRONG_LENGTH);
+        same("tb_read_data table", tb_read_data(size, shape, 2, NULL, 0, scratch, SPARES, 0, home, track, spare, track).refusal, TB_BAD_TABLE);
+        same("tb_read_data scratch", tb_read_data(size, shape, 2, words, 128, NULL, 0, 0, home, track, spare, track).refusal, TB_NO_ROOM);
+        same("tb_read_data home", tb_read_data(size, shape, 2, words, 128, scratch, SPARES, 0, NULL, 0, spare, track).refusal, TB_WRONG_LENGTH);
+        same("tb_read_data spare", tb_read_data(size, shape, 2, words, 128, scratch, SPARES, 0, home, track, NULL, 0).refusal, TB_WRONG_LENGTH);
+    }
+    same("tb_mode images", tb_mode(NULL, 0, 1).refusal, TB_NO_MODE);
+    same("tb_mode images, no sector apart", tb_mode(NULL, 0, 0).refusal, TB_OUT_OF_RANGE);
 }
 
 int main(void)
@@ -1362,20 +1629,27 @@ int main(void)
     fields();
     angles();
     limits();
+    macros_of_lengths();
     lists();
     customers_drive();
     largest_drive();
     groups();
     replacements();
-    scratches();
     judged_tables();
     free_places();
     far_free_places();
     words_of_codes();
     headers();
-    images_written();
-    images_judged();
-    reads();
+    for (size_t i = 0; i < 2; i++) {
+        lengths(both[i]);
+        scratches(both[i]);
+        images_written(both[i]);
+        images_judged(both[i]);
+        reads(both[i]);
+    }
+    codes_of_data();
+    no_sizes();
+    modes();
     refusals();
     nothing_lent();
 #ifdef __cplusplus

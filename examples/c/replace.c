@@ -1,6 +1,6 @@
-/* The day of a bad block on a small revectored drive: a first table, three replacements, the old image moved to the spare and refused, the
- * block written there with its code and read back from two track images, and the block replaced again when its spare goes bad too. It prints
- * what it sees, and returns 1 if anything is not as it must be. */
+/* The day of a bad block on a small revectored drive: the size of its sectors found in its mode sector, a first table, three replacements, the old
+ * image moved to the spare and refused, the block written there with its code and read back from two track images, and the block replaced again
+ * when its spare goes bad too. It prints what it sees, and returns 1 if anything is not as it must be. */
 #include <inttypes.h>
 #include <stdio.h>
 #include <string.h>
@@ -24,8 +24,15 @@ static const size_t table_length = sizeof table / sizeof table[0];
 static uint32_t scratch[SPARES];
 static const size_t scratch_length = sizeof scratch / sizeof scratch[0];
 
-static uint8_t tracks[TRACKS][TB_TRACK_LENGTH(SECTORS)];
-static const size_t track_length = sizeof tracks[0];
+/* How many data bytes a sector has is known once the mode sector is read, and from then on it goes into every call on images and reads. There is
+ * room for sectors of either size. */
+static uint32_t size;
+static size_t image_length, track_length;
+static uint8_t tracks[TRACKS][TB_TRACK_LENGTH(TB_WIDE_SIZE, SECTORS)];
+
+/* The XBN area: three copies of the format table, two sectors each. Its sectors always have TB_DATA_SIZE bytes of data. */
+enum { COPIES = 3, APART = 2 };
+static uint8_t area[COPIES * APART][TB_IMAGE_LENGTH(TB_DATA_SIZE)];
 
 static int off = 0;
 
@@ -39,22 +46,52 @@ static void must(int holds, const char *what)
 }
 
 /* One sector's data: a line of text, and zeros after it. */
-static void fill(uint8_t data[TB_DATA_SIZE], const char *text)
+static void fill(uint8_t data[TB_WIDE_SIZE], const char *text)
 {
-    memset(data, 0, TB_DATA_SIZE);
+    memset(data, 0, TB_WIDE_SIZE);
     memcpy(data, text, strlen(text));
+}
+
+/* The image of a sector of a track. */
+static uint8_t *image_at(uint32_t track, uint32_t sector)
+{
+    return &tracks[track][sector * image_length];
+}
+
+/* Lays the XBN area of a drive with sectors of TB_WIDE_SIZE. Of its first copy the mode sector is forced. */
+static void lay_area(void)
+{
+    uint8_t data[TB_DATA_SIZE] = {TB_WIDE_SIZE / 256, TB_WIDE_SIZE % 256};
+    for (uint32_t xbn = 0; xbn < COPIES * APART; xbn++) {
+        tb_written written = tb_image_write(TB_DATA_SIZE, xbn, TB_AT_HOME, data, sizeof data, xbn == 0, area[xbn], sizeof area[xbn]);
+        must(written.refusal == TB_ACCEPTED, "every sector of the XBN area can be written");
+    }
+}
+
+/* Finds the size of the drive's sectors as it comes online. */
+static void come_online(void)
+{
+    tb_sized none = tb_mode(area[0], sizeof area[0], APART);
+    printf("  with its first copy alone it is refused %" PRIu32 "\n", none.refusal);
+    must(none.refusal == TB_NO_MODE && none.size == 0, "a forced copy says no size");
+    tb_sized sized = tb_mode(area[0], sizeof area, APART);
+    printf("  its sectors have %" PRIu32 " bytes of data\n", sized.size);
+    must(sized.refusal == TB_ACCEPTED && sized.size == TB_WIDE_SIZE, "the second copy says the size");
+    size = sized.size;
+    image_length = TB_IMAGE_LENGTH(size);
+    track_length = TB_TRACK_LENGTH(size, SECTORS);
 }
 
 /* Writes every sector of the drive as the block that lies on it, and a sector on which none lies as a forced error. No block is replaced yet, so
  * every header says that its block is at home. */
 static void write_drive(const char *text)
 {
-    uint8_t data[TB_DATA_SIZE];
+    uint8_t data[TB_WIDE_SIZE];
     fill(data, text);
     for (uint32_t sector = 0; sector < TRACKS * SECTORS; sector++) {
         tb_named lying = tb_spare_block(shape, r, table, table_length, scratch, scratch_length, sector);
-        uint8_t *image = &tracks[sector / SECTORS][sector % SECTORS * TB_IMAGE_SIZE];
-        tb_written written = tb_image_write(lying.block, TB_AT_HOME, data, sizeof data, lying.found == 0, image, TB_IMAGE_SIZE);
+        uint8_t *image = image_at(sector / SECTORS, sector % SECTORS);
+        tb_written written = tb_image_write(size, lying.block, TB_AT_HOME, data, size, lying.found == 0, image, image_length);
         must(lying.refusal == TB_ACCEPTED && written.refusal == TB_ACCEPTED, "every sector of the drive can be written");
     }
 }
@@ -92,7 +129,7 @@ static void locate(uint32_t block, uint32_t sector, uint32_t angle)
 /* Says what the header of an image says. */
 static void show_header(const uint8_t *image, uint32_t code, uint32_t block)
 {
-    tb_headed headed = tb_image_header(image, TB_IMAGE_SIZE);
+    tb_headed headed = tb_image_header(size, image, image_length);
     printf("  its header says code %" PRIu32 " and block %" PRIu32 "\n", headed.code, headed.block);
     must(headed.refusal == TB_ACCEPTED && headed.code == code && headed.block == block, "the code and the block of a header");
 }
@@ -103,8 +140,8 @@ static uint32_t read_block(uint32_t block, const char *text)
     tb_located now = tb_spare_address(shape, r, table, table_length, scratch, scratch_length, block);
     const uint8_t *home = tracks[block / HOMES_OF_TRACK];
     const uint8_t *spare = tracks[now.address.cylinder * HEADS + now.address.head];
-    tb_judged judged = tb_read_judge(shape, r, table, table_length, scratch, scratch_length, block, home, track_length, spare, track_length);
-    tb_spotted spotted = tb_read_data(shape, r, table, table_length, scratch, scratch_length, block, home, track_length, spare, track_length);
+    tb_judged judged = tb_read_judge(size, shape, r, table, table_length, scratch, scratch_length, block, home, track_length, spare, track_length);
+    tb_spotted spotted = tb_read_data(size, shape, r, table, table_length, scratch, scratch_length, block, home, track_length, spare, track_length);
     must(judged.refusal == spotted.refusal, "verdict and data refuse alike");
     if (spotted.refusal != TB_ACCEPTED) {
         printf("  block %" PRIu32 " is refused %" PRIu32 "\n", block, spotted.refusal);
@@ -113,9 +150,9 @@ static uint32_t read_block(uint32_t block, const char *text)
     }
     const uint8_t *data = (spotted.image == 0 ? home : spare) + spotted.offset;
     printf("  block %" PRIu32 " reads \"%s\", %" PRIu32 " bytes into the image of its %s track\n", block, (const char *)data, spotted.offset, spotted.image == 0 ? "home" : "spare's");
-    uint8_t expected[TB_DATA_SIZE];
+    uint8_t expected[TB_WIDE_SIZE];
     fill(expected, text);
-    must(memcmp(data, expected, TB_DATA_SIZE) == 0, "the data is what was written");
+    must(memcmp(data, expected, size) == 0, "the data is what was written");
     return TB_ACCEPTED;
 }
 
@@ -124,6 +161,10 @@ int main(void)
     printf("A drive of %d cylinders, %d heads and %d sectors a track, the last %d of them spares: %d blocks.\n", CYLINDERS, HEADS, SECTORS, SPARES_OF_TRACK, TRACKS * HOMES_OF_TRACK);
     printf("Its heads are %d groups with %d track each, and each group starts %d sectors after the one before it.\n", GROUPS, TRACKS_OF_GROUP, OFFSET);
     printf("It has %d spares: its table has %d descriptors, and the scratch of a call %d numbers.\n", SPARES, (int)table_length, (int)scratch_length);
+
+    puts("Its mode sector, of which the first copy is lost:");
+    lay_area();
+    come_online();
 
     puts("Its first table, with no bad sector known:");
     tb_written first = tb_spare_first(shape, r, NULL, 0, table, table_length);
@@ -147,25 +188,25 @@ int main(void)
     must(read_block(6, "") == TB_OTHER_BLOCK, "a spare that was not written is refused");
 
     puts("Its old image is moved there as it is, and says that the block is at home:");
-    uint8_t *image = &tracks[1][4 * TB_IMAGE_SIZE];
-    memcpy(image, &tracks[2][0], TB_IMAGE_SIZE);
+    uint8_t *image = image_at(1, 4);
+    memcpy(image, image_at(2, 0), image_length);
     show_header(image, TB_AT_HOME, 6);
     must(read_block(6, "") == TB_OTHER_BLOCK, "an image that says another code is refused");
 
     puts("It is written there with the code of its descriptor:");
-    uint8_t data[TB_DATA_SIZE];
+    uint8_t data[TB_WIDE_SIZE];
     fill(data, "Tuesday's log");
-    tb_written written = tb_image_write(6, TB_CODE_OF(table[3]), data, sizeof data, false, image, TB_IMAGE_SIZE);
-    must(written.refusal == TB_ACCEPTED && written.length == TB_IMAGE_SIZE, "the image of block 6");
+    tb_written written = tb_image_write(size, 6, TB_CODE_OF(table[3]), data, size, false, image, image_length);
+    must(written.refusal == TB_ACCEPTED && written.length == image_length, "the image of block 6");
     show_header(image, TB_ELSEWHERE, 6);
     must(read_block(6, "Tuesday's log") == TB_ACCEPTED, "block 6 reads well from its spare");
 
-    puts("One bit of its data turns over:");
-    image[TB_HEADER_SIZE + 100] ^= 0x10;
+    puts("One bit of its data turns over, in the last byte:");
+    image[TB_HEADER_SIZE + size - 1] ^= 0x10;
     must(read_block(6, "") == TB_BAD_CODE, "one bit is seen");
 
     puts("It is written as lost, so that nobody takes it for good:");
-    written = tb_image_write(6, TB_CODE_OF(table[3]), data, sizeof data, true, image, TB_IMAGE_SIZE);
+    written = tb_image_write(size, 6, TB_CODE_OF(table[3]), data, size, true, image, image_length);
     must(written.refusal == TB_ACCEPTED && read_block(6, "") == TB_FORCED_ERROR, "a forced error is told");
 
     puts("Its spare is bad too, and the block is replaced again:");
@@ -182,7 +223,7 @@ int main(void)
 
     puts("It is written on its new spare:");
     fill(data, "Wednesday's log");
-    written = tb_image_write(6, TB_CODE_OF(table[6]), data, sizeof data, false, &tracks[3][3 * TB_IMAGE_SIZE], TB_IMAGE_SIZE);
+    written = tb_image_write(size, 6, TB_CODE_OF(table[6]), data, size, false, image_at(3, 3), image_length);
     must(written.refusal == TB_ACCEPTED && read_block(6, "Wednesday's log") == TB_ACCEPTED, "block 6 reads well from its new spare");
 
     puts(off ? "Something is off." : "All as it must be.");

@@ -30,16 +30,21 @@ enum { LAST_PLACE = TRACKS - TB_TABLE_BLOCK - 1 };
 /* What is lent. */
 static uint32_t list[TB_LIST_MOST + 1], bad[TB_LIST_MOST + 1], p[TB_LIST_MOST + 1], g[TB_LIST_MOST + 1], d[TB_LIST_MOST + 1];
 static uint32_t table[TRACKS];
-static uint8_t page[TB_PAGE_MOST], data[TB_DATA_SIZE], home[TB_TRACK_LENGTH(SECTORS)], spare[TB_TRACK_LENGTH(SECTORS)];
+static uint8_t page[TB_PAGE_MOST], data[TB_WIDE_SIZE], home[TB_TRACK_LENGTH(TB_WIDE_SIZE, SECTORS)], spare[TB_TRACK_LENGTH(TB_WIDE_SIZE, SECTORS)];
 static size_t list_length, bad_length, p_length, g_length, d_length, table_length, page_length, data_length, home_length, spare_length;
 
 /* The image of the block on the last spare, in its track. */
-static uint8_t *const image = spare + HOMES * TB_IMAGE_SIZE;
+static uint8_t *image;
 static size_t image_length;
+
+/* The XBN area, with copies of the format table that lie some sectors apart. */
+enum { COPIES = 5, APART = 3, AREA = (COPIES - 1) * APART + 1 };
+static uint8_t area[AREA * TB_IMAGE_LENGTH(TB_DATA_SIZE)];
+static size_t area_length;
 
 /* The rooms. */
 static uint32_t entries[TB_LIST_MOST], grown[TB_LIST_MOST], merged[TB_LIST_MOST], first[TRACKS];
-static uint8_t page_written[TB_PAGE_MOST], image_written[TB_IMAGE_SIZE];
+static uint8_t page_written[TB_PAGE_MOST], image_written[TB_IMAGE_LENGTH(TB_WIDE_SIZE)];
 static size_t entries_room, grown_room, merged_room, first_room, page_room, image_room;
 
 /* The scratch, which is lent like the rest and so takes none of the stack. */
@@ -47,10 +52,38 @@ static uint32_t scratch[TRACKS];
 static size_t scratch_length;
 
 /* The numbers that go with it. `unit` and `unit_block` are asked for on a drive of n sectors. */
-static uint32_t n, unit, unit_block, skipped_block, r, block, code, replaced, cylinder, head, in_track, sector, kind, space, option;
+static uint32_t n, unit, unit_block, skipped_block, r, block, code, replaced, cylinder, head, in_track, sector, kind, space, option, size, apart;
 static tb_shape shape;
 static tb_cursor cursor;
 static bool forced;
+
+/* Writes the image of a block's data, good or forced, where the block on the last spare lies. */
+static void lay_image(uint32_t its_block, uint32_t its_code, bool is_forced)
+{
+    tb_image_write(size, its_block, its_code, data, size, is_forced, image, TB_IMAGE_LENGTH(size));
+}
+
+/* Lays what depends on the size of a sector: a block at home and the one on the last spare, and how long all is that is lent with them. */
+static void lay_size(uint32_t its_size)
+{
+    size = its_size;
+    data_length = size, image_length = image_room = TB_IMAGE_LENGTH(size), home_length = spare_length = TB_TRACK_LENGTH(size, SECTORS);
+    image = spare + HOMES * TB_IMAGE_LENGTH(size);
+    tb_image_write(size, AT_HOME, TB_AT_HOME, data, size, false, home, TB_IMAGE_LENGTH(size));
+    lay_image(ON_SPARE, TB_AT_PRIMARY, false);
+}
+
+/* Lays the XBN area: of its copies of the format table so many are damaged in their last byte, and the rest are good. */
+static void lay_area(uint32_t damaged)
+{
+    uint8_t mode[TB_DATA_SIZE] = {TB_WIDE_SIZE / 256, TB_WIDE_SIZE % 256};
+    apart = APART, area_length = sizeof area;
+    for (uint32_t copy = 0; copy < COPIES; copy++) {
+        uint8_t *const first = area + copy * APART * TB_IMAGE_LENGTH(TB_DATA_SIZE);
+        tb_image_write(TB_DATA_SIZE, copy * APART, TB_AT_HOME, mode, sizeof mode, false, first, TB_IMAGE_LENGTH(TB_DATA_SIZE));
+        first[TB_IMAGE_LENGTH(TB_DATA_SIZE) - 1] ^= copy < damaged;
+    }
+}
 
 /* Lays the situation with a number, and says whether there is one. */
 static bool lay(unsigned situation)
@@ -70,12 +103,11 @@ static bool lay(unsigned situation)
     for (uint32_t place = 0; place < TRACKS; place++) {
         table[place] = place == FREE_PLACE ? 0 : 0x20000000u + HOMES * place + 1;
     }
-    table_length = scratch_length = TRACKS, page_length = sizeof page, data_length = sizeof data;
-    image_length = TB_IMAGE_SIZE, home_length = sizeof home, spare_length = sizeof spare;
-    entries_room = grown_room = merged_room = TB_LIST_MOST, first_room = TRACKS, page_room = sizeof page_written, image_room = TB_IMAGE_SIZE;
+    table_length = scratch_length = TRACKS, page_length = sizeof page;
+    entries_room = grown_room = merged_room = TB_LIST_MOST, first_room = TRACKS, page_room = sizeof page_written;
     tb_page_write(n, kind, list, list_length, page, sizeof page);
-    tb_image_write(AT_HOME, TB_AT_HOME, data, sizeof data, false, home, TB_IMAGE_SIZE);
-    tb_image_write(ON_SPARE, code, data, sizeof data, false, image, TB_IMAGE_SIZE);
+    lay_size(TB_DATA_SIZE);
+    lay_area(0);
     uint8_t *const last_entry = page + TB_PAGE_MOST - 2 * TB_ENTRY_SIZE;
     switch (situation) {
     case 0: return true; /* all is well */
@@ -119,9 +151,9 @@ static bool lay(unsigned situation)
     case 36: data_length--, image_length--, home_length--; return true;
     case 37: spare_length--; return true;
     case 38: image[TB_HEADER_SIZE - 1]++, image[TB_HEADER_SIZE - 5]++; return true; /* two copies against two */
-    case 39: tb_image_write(AT_HOME, code, data, sizeof data, false, image, TB_IMAGE_SIZE); return true;
-    case 40: tb_image_write(ON_SPARE, code, data, sizeof data, true, image, TB_IMAGE_SIZE); return true;
-    case 41: image[TB_IMAGE_SIZE - 1]++; return true;
+    case 39: lay_image(AT_HOME, code, false); return true;
+    case 40: lay_image(ON_SPARE, code, true); return true;
+    case 41: image[image_length - 1]++; return true;
     case 42: shape.groups = 0; return true;
     case 43: shape.tracks = TB_HEADS_MOST + 1; return true;
     case 44: shape.groups++; return true; /* more tracks than heads */
@@ -131,14 +163,27 @@ static bool lay(unsigned situation)
     case 48: table[LAST_PLACE] = 0x30000000u + ON_SPARE + 1; return true; /* a free place before a block */
     case 49: /* a block that lies at the last place of its search order */
         table[FREE_PLACE] = 0x30000000u + AT_HOME, block = AT_HOME, code = TB_ELSEWHERE;
-        tb_image_write(AT_HOME, code, data, sizeof data, false, image, TB_IMAGE_SIZE); return true;
+        lay_image(AT_HOME, code, false); return true;
     case 50: /* the home of that block */
         table[FREE_PLACE] = 0x30000000u + AT_HOME, sector = SECTORS * TB_TABLE_BLOCK;
         cylinder = TB_TABLE_BLOCK / HEADS, head = TB_TABLE_BLOCK % HEADS; return true;
     case 51: code = TB_ELSEWHERE + 1; return true; /* a code that no header may have, to write and to expect */
     case 52: block = TB_CODE_UNIT; return true;    /* a block that no header can say */
-    case 53: tb_image_write(ON_SPARE, TB_AT_HOME, data, sizeof data, false, image, TB_IMAGE_SIZE); return true; /* another code */
+    case 53: lay_image(ON_SPARE, TB_AT_HOME, false); return true; /* another code */
     case 54: image[0] ^= 0x40, image[4] ^= 0x40, image[8] ^= 0x40, image[12] ^= 0x40; return true; /* a code in the header that it may not have */
+    case 55: size = 0; return true;
+    case 56: size = TB_WIDE_SIZE; return true; /* all that is lent has the other size */
+    case 57: lay_size(TB_WIDE_SIZE); return true;
+    case 58: lay_size(TB_WIDE_SIZE), block = AT_HOME, code = TB_AT_HOME, forced = true; return true;
+    case 59: lay_size(TB_WIDE_SIZE), lay_image(ON_SPARE, code, true); return true;
+    case 60: lay_size(TB_WIDE_SIZE), image[image_length - 1]++; return true;
+    case 61: lay_size(TB_WIDE_SIZE), image_room--, spare_length--; return true;
+    case 62: apart = 0; return true;
+    case 63: lay_area(COPIES - 1); return true; /* only the last copy says a size */
+    case 64: lay_area(COPIES); return true;
+    case 65: lay_area(COPIES - 1), area_length--; return true; /* and it is cut short */
+    case 66: area[TB_HEADER_SIZE] ^= 1, apart = UINT32_MAX; return true; /* the only copy is damaged */
+    case 67: apart = UINT32_MAX; return true;
     default: return false;
     }
 }
@@ -166,17 +211,18 @@ static void spare_block_at(void) { refusal = tb_spare_block_at(shape, r, table, 
 static void spare_replace(void) { refusal = tb_spare_replace(shape, r, table, table_length, scratch, scratch_length, replaced).refusal; }
 static void spare_census(void) { refusal = tb_spare_census(shape, r, table, table_length, scratch, scratch_length).refusal; }
 static void spare_first(void) { refusal = tb_spare_first(shape, r, bad, bad_length, first, first_room).refusal; }
-static void image_write(void) { refusal = tb_image_write(block, code, data, data_length, forced, image_written, image_room).refusal; }
-static void image_header(void) { refusal = tb_image_header(image, image_length).refusal; }
-static void image_judge(void) { refusal = tb_image_judge(image, image_length, block, code).refusal; }
-static void read_judge(void) { refusal = tb_read_judge(shape, r, table, table_length, scratch, scratch_length, block, home, home_length, spare, spare_length).refusal; }
-static void read_data(void) { refusal = tb_read_data(shape, r, table, table_length, scratch, scratch_length, block, home, home_length, spare, spare_length).refusal; }
+static void image_write(void) { refusal = tb_image_write(size, block, code, data, data_length, forced, image_written, image_room).refusal; }
+static void image_header(void) { refusal = tb_image_header(size, image, image_length).refusal; }
+static void image_judge(void) { refusal = tb_image_judge(size, image, image_length, block, code).refusal; }
+static void mode(void) { refusal = tb_mode(area, area_length, apart).refusal; }
+static void read_judge(void) { refusal = tb_read_judge(size, shape, r, table, table_length, scratch, scratch_length, block, home, home_length, spare, spare_length).refusal; }
+static void read_data(void) { refusal = tb_read_data(size, shape, r, table, table_length, scratch, scratch_length, block, home, home_length, spare, spare_length).refusal; }
 
 /* Each call, and the refusals that the header names for it. */
 #define NO(name) (1u << TB_##name)
 #define NO_LIST (NO(TOO_LONG) | NO(NOT_RISING) | NO(OUTSIDE))
 #define NO_TABLE (NO(OUT_OF_RANGE) | NO(NO_ROOM) | NO(BAD_TABLE))
-#define NO_HEADER (NO(WRONG_LENGTH) | NO(NO_ADDRESS) | NO(OTHER_BLOCK))
+#define NO_HEADER (NO(OUT_OF_RANGE) | NO(WRONG_LENGTH) | NO(NO_ADDRESS) | NO(OTHER_BLOCK))
 #define NO_DATA (NO_HEADER | NO(FORCED_ERROR) | NO(BAD_CODE))
 
 static const struct {
@@ -204,9 +250,10 @@ static const struct {
     {"tb_spare_replace", spare_replace, NO_TABLE | NO(NO_SUCH_BLOCK) | NO(NO_SPARE)},
     {"tb_spare_census", spare_census, NO_TABLE},
     {"tb_spare_first", spare_first, NO(OUT_OF_RANGE) | NO_LIST | NO(NO_ROOM) | NO(NO_SPARE)},
-    {"tb_image_write", image_write, NO(WRONG_LENGTH) | NO(NO_SUCH_BLOCK) | NO(UNKNOWN_CODE) | NO(NO_ROOM)},
+    {"tb_image_write", image_write, NO(OUT_OF_RANGE) | NO(WRONG_LENGTH) | NO(NO_SUCH_BLOCK) | NO(UNKNOWN_CODE) | NO(NO_ROOM)},
     {"tb_image_header", image_header, NO_HEADER},
     {"tb_image_judge", image_judge, NO_DATA},
+    {"tb_mode", mode, NO(OUT_OF_RANGE) | NO(NO_MODE)},
     {"tb_read_judge", read_judge, NO_TABLE | NO(NO_SUCH_BLOCK) | NO_DATA},
     {"tb_read_data", read_data, NO_TABLE | NO(NO_SUCH_BLOCK) | NO_DATA},
 };

@@ -12,8 +12,8 @@ use std::process::exit;
 use std::time::{Duration, Instant};
 
 use tautberry::{
-    format, image, page, page_length, spares, table_length, Cursor, Refusal, Shape, AT_HOME,
-    AT_PRIMARY, ELSEWHERE, UNITS_MOST,
+    format, image, image_length, mode, page, page_length, spares, table_length, Cursor, Refusal,
+    Shape, AT_HOME, AT_PRIMARY, DATA_SIZE, ELSEWHERE, UNITS_MOST, WIDE_SIZE,
 };
 
 #[path = "../plain/mod.rs"]
@@ -39,7 +39,9 @@ fn main() {
     look_ups();
     long_look_ups();
     checks();
-    verdicts();
+    verdicts(DATA_SIZE);
+    verdicts(WIDE_SIZE);
+    modes();
     pages_read();
     pages_written();
     night();
@@ -194,13 +196,13 @@ fn compare_on_table(
     compare(job, unit, asked.len() as u64, library, plain);
 }
 
-/// The sum of the sectors that were answered; every call must have given this number, 0 for accepted.
+/// The sum of what was answered; every call must have given this number, 0 for accepted.
 fn sum(answers: impl Iterator<Item = Result<u32, u32>>, number: u32) -> u64 {
-    let sectors = answers.map(|answer| {
+    let answered = answers.map(|answer| {
         assert_eq!(answer.err().unwrap_or(0), number);
         u64::from(answer.unwrap_or(0))
     });
-    sectors.sum()
+    answered.sum()
 }
 
 /// Look-ups of blocks at home and on spares all over the drive.
@@ -244,32 +246,62 @@ fn checks() {
     }
 }
 
-/// Verdicts on 64 MiB of data, in 131,072 images one after the other, with each code in turn.
-fn verdicts() {
-    let count = 64 * 1_024 * 1_024 / 512;
+/// Verdicts on as many whole sectors of this size as 64 MiB of data fill, one image after the other and with each
+/// code in turn.
+fn verdicts(size: u32) {
+    let length = image_length(size);
+    let count = 64 * 1_024 * 1_024 / size as usize;
     let code = |block: usize| [AT_HOME, AT_PRIMARY, ELSEWHERE][block % 3];
-    let mut images = vec![0; count * 530];
-    let mut data = [0; 512];
-    for (block, image) in images.chunks_exact_mut(530).enumerate() {
+    let mut images = vec![0; count * length];
+    let mut data = vec![0; size as usize];
+    for (block, image) in images.chunks_exact_mut(length).enumerate() {
         for (at, byte) in data.iter_mut().enumerate() {
             *byte = (at * 31 + block * 7) as u8;
         }
-        let written = image::write(block as u32, code(block), &data, block % 16 == 0, image);
-        written.expect("512 bytes, a block and a code");
+        let written = image::write(size, block as u32, code(block), &data, block % 16 == 0, image);
+        written.expect("data of the size, a block and a code");
     }
     let library = || {
-        let images = black_box(&images).chunks_exact(530).enumerate();
-        images
-            .filter(|(block, image)| image::judge(image, *block as u32, code(*block)).is_ok())
-            .count()
+        let (size, images) = (black_box(size), black_box(&images).chunks_exact(length));
+        let good = |(block, image): &(usize, &[u8])| {
+            image::judge(size, image, *block as u32, code(*block)).is_ok()
+        };
+        images.enumerate().filter(good).count()
     };
     let plain = || {
-        let images = black_box(&images).chunks_exact(530).enumerate();
-        images
-            .filter(|(block, image)| plain::judge(image, *block as u32, code(*block)).is_ok())
-            .count()
+        let (size, images) = (black_box(size), black_box(&images).chunks_exact(length));
+        let good = |(block, image): &(usize, &[u8])| {
+            plain::judge(size, image, *block as u32, code(*block)).is_ok()
+        };
+        images.enumerate().filter(good).count()
     };
-    compare("verdicts on 64 MiB of sectors", "sector", count as u64, library, plain);
+    let job = format!("verdicts on 64 MiB in sectors of {size}");
+    compare(&job, "sector", count as u64, library, plain);
+}
+
+/// The mode from the last of 64 copies that lie 8 sectors apart. The data of the others is damaged, so that each
+/// is judged to its end.
+fn modes() {
+    let (copies, apart) = (64, 8);
+    let mut images = vec![0; ((copies - 1) * apart + 1) * image_length(DATA_SIZE)];
+    let mut data = vec![0; DATA_SIZE as usize];
+    data[..2].copy_from_slice(&(WIDE_SIZE as u16).to_be_bytes());
+    for (xbn, image) in images.chunks_exact_mut(image_length(DATA_SIZE)).enumerate() {
+        let written = image::write(DATA_SIZE, xbn as u32, AT_HOME, &data, false, image);
+        written.expect("512 bytes and an XBN");
+        image[100] ^= u8::from(xbn < (copies - 1) * apart);
+    }
+    let finds = 1_000;
+    let apart = apart as u32;
+    let library = || {
+        let find = |_| mode::find(black_box(&images), black_box(apart)).map_err(Refusal::number);
+        sum((0..finds).map(find), 0)
+    };
+    let plain = || {
+        let find = |_| plain::find_mode(black_box(&images), black_box(apart));
+        sum((0..finds).map(find), 0)
+    };
+    compare("mode from the last of 64 copies", "find", finds, library, plain);
 }
 
 const PAGES: u64 = 1_000;

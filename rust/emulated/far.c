@@ -113,11 +113,12 @@ static void make(uint32_t call, const uint32_t *n, const struct slice *s)
         CASE(SPARE_REPLACE, tb_replaced, tb_spare_replace(shape, m[0], WORDS(0), WORDS(1), m[1]))
         CASE(SPARE_CENSUS, tb_counted, tb_spare_census(shape, m[0], WORDS(0), WORDS(1)))
         CASE(SPARE_FIRST, tb_written, tb_spare_first(shape, m[0], WORDS(0), WORDS(1)))
-        CASE(IMAGE_WRITE, tb_written, tb_image_write(n[0], n[1], BYTES(0), n[2] != 0, BYTES(1)))
-        CASE(IMAGE_HEADER, tb_headed, tb_image_header(BYTES(0)))
-        CASE(IMAGE_JUDGE, tb_judged, tb_image_judge(BYTES(0), n[0], n[1]))
-        CASE(READ_JUDGE, tb_judged, tb_read_judge(shape, m[0], WORDS(0), WORDS(1), m[1], BYTES(2), BYTES(3)))
-        CASE(READ_DATA, tb_spotted, tb_read_data(shape, m[0], WORDS(0), WORDS(1), m[1], BYTES(2), BYTES(3)))
+        CASE(IMAGE_WRITE, tb_written, tb_image_write(n[0], n[1], n[2], BYTES(0), n[3] != 0, BYTES(1)))
+        CASE(IMAGE_HEADER, tb_headed, tb_image_header(n[0], BYTES(0)))
+        CASE(IMAGE_JUDGE, tb_judged, tb_image_judge(n[0], BYTES(0), n[1], n[2]))
+        CASE(MODE, tb_sized, tb_mode(BYTES(0), n[0]))
+        CASE(READ_JUDGE, tb_judged, tb_read_judge(m[2], shape, m[0], WORDS(0), WORDS(1), m[1], BYTES(2), BYTES(3)))
+        CASE(READ_DATA, tb_spotted, tb_read_data(m[2], shape, m[0], WORDS(0), WORDS(1), m[1], BYTES(2), BYTES(3)))
     default: fail("far side: no such call\n");
     }
 }

@@ -266,42 +266,50 @@ tb_written tb_spare_first(tb_shape shape, uint32_t r, const uint32_t *list, size
     RETURN(tb_written, SPARE_FIRST);
 }
 
-tb_written tb_image_write(uint32_t block, uint32_t code, const uint8_t *data, size_t data_length, bool forced,
-                          uint8_t *room, size_t room_length)
+tb_written tb_image_write(uint32_t size, uint32_t block, uint32_t code, const uint8_t *data, size_t data_length,
+                          bool forced, uint8_t *room, size_t room_length)
 {
-    uint32_t numbers[] = {block, code, forced};
+    uint32_t numbers[] = {size, block, code, forced};
     struct slice slices[] = {READ(data, data_length), ROOM(room, room_length)};
     RETURN(tb_written, IMAGE_WRITE);
 }
 
-tb_headed tb_image_header(const uint8_t *image, size_t image_length)
+tb_headed tb_image_header(uint32_t size, const uint8_t *image, size_t image_length)
 {
-    uint32_t numbers[] = {0};
+    uint32_t numbers[] = {size};
     struct slice slices[] = {READ(image, image_length)};
     RETURN(tb_headed, IMAGE_HEADER);
 }
 
-tb_judged tb_image_judge(const uint8_t *image, size_t image_length, uint32_t block, uint32_t code)
+tb_judged tb_image_judge(uint32_t size, const uint8_t *image, size_t image_length, uint32_t block, uint32_t code)
 {
-    uint32_t numbers[] = {block, code};
+    uint32_t numbers[] = {size, block, code};
     struct slice slices[] = {READ(image, image_length)};
     RETURN(tb_judged, IMAGE_JUDGE);
 }
 
-tb_judged tb_read_judge(tb_shape shape, uint32_t r, const uint32_t *table, size_t table_length,
+tb_sized tb_mode(const uint8_t *images, size_t images_length, uint32_t apart)
+{
+    uint32_t numbers[] = {apart};
+    struct slice slices[] = {READ(images, images_length)};
+    RETURN(tb_sized, MODE);
+}
+
+/* The size goes last, since the far side takes the shape from the first numbers. */
+tb_judged tb_read_judge(uint32_t size, tb_shape shape, uint32_t r, const uint32_t *table, size_t table_length,
                         uint32_t *scratch, size_t scratch_length, uint32_t block, const uint8_t *home,
                         size_t home_length, const uint8_t *spare, size_t spare_length)
 {
-    uint32_t numbers[] = {SHAPE, r, block};
+    uint32_t numbers[] = {SHAPE, r, block, size};
     struct slice slices[] = {READ(table, table_length), ROOM(scratch, scratch_length), READ(home, home_length), READ(spare, spare_length)};
     RETURN(tb_judged, READ_JUDGE);
 }
 
-tb_spotted tb_read_data(tb_shape shape, uint32_t r, const uint32_t *table, size_t table_length,
+tb_spotted tb_read_data(uint32_t size, tb_shape shape, uint32_t r, const uint32_t *table, size_t table_length,
                         uint32_t *scratch, size_t scratch_length, uint32_t block, const uint8_t *home,
                         size_t home_length, const uint8_t *spare, size_t spare_length)
 {
-    uint32_t numbers[] = {SHAPE, r, block};
+    uint32_t numbers[] = {SHAPE, r, block, size};
     struct slice slices[] = {READ(table, table_length), ROOM(scratch, scratch_length), READ(home, home_length), READ(spare, spare_length)};
     RETURN(tb_spotted, READ_DATA);
 }

@@ -29,6 +29,7 @@ enum call {
     IMAGE_WRITE,
     IMAGE_HEADER,
     IMAGE_JUDGE,
+    MODE,
     READ_JUDGE,
     READ_DATA
 };

@@ -12,6 +12,7 @@
 
 pub mod format;
 pub mod image;
+pub mod mode;
 pub mod numbers;
 pub mod page;
 pub mod shape;

@@ -21,6 +21,11 @@ pub fn check_size(n: u32) -> Answer<()> {
     refuse(n < 1 || n > UNITS_MOST, 1)
 }
 
+/// A sector has 512 or 576 bytes of data.
+pub fn check_data_size(size: u32) -> Answer<()> {
+    refuse(![512, 576].contains(&size), 1)
+}
+
 /// A list over a space of `size`: its length, then the lowest place at fault, 3 before 4.
 pub fn check_list(size: u32, list: &[u32]) -> Answer<()> {
     refuse(list.len() > LIST_MOST, 2)?;

@@ -5,8 +5,11 @@ const UNITS_MOST: u32 = 16_777_216;
 const LIST_MOST: usize = 65_536;
 const SPARES_MOST: u32 = 65_536;
 const TABLE_BLOCK: usize = 128;
-const DATA: usize = 512;
-const IMAGE: usize = 530;
+/// Bytes of an image before its data, and all that are no data.
+const HEADER: usize = 16;
+const EXTRA: usize = 18;
+/// Bytes of a sector image of the XBN area.
+const XBN_IMAGE: usize = 512 + EXTRA;
 
 /// What a call gives: its values, or the number of its refusal.
 pub type Answer<T> = Result<T, u32>;
@@ -295,16 +298,32 @@ fn header(image: &[u8]) -> Answer<u32> {
 }
 
 /// The verdict on a sector image of a block with a code.
-pub fn judge(image: &[u8], block: u32, code: u32) -> Answer<()> {
-    refuse(image.len() != IMAGE, 14)?;
+pub fn judge(size: u32, image: &[u8], block: u32, code: u32) -> Answer<()> {
+    refuse(size != 512 && size != 576, 1)?;
+    let end = HEADER + size as usize;
+    refuse(image.len() != size as usize + EXTRA, 14)?;
     let word = header(image)?;
     refuse(word >> 28 != code || word & NUMBER != block || !matches!(code, 0 | 2 | 3), 16)?;
-    let found = data_code(&image[16..16 + DATA]);
-    match u16::from_be_bytes([image[528], image[529]]) {
+    let found = data_code(&image[HEADER..end]);
+    match u16::from_be_bytes([image[end], image[end + 1]]) {
         stored if stored == found => Ok(()),
         stored if stored == !found => Err(17),
         _ => Err(18),
     }
+}
+
+/// The size that the first copy of the format table says which says one.
+pub fn find_mode(images: &[u8], apart: u32) -> Answer<u32> {
+    refuse(apart == 0, 1)?;
+    for (xbn, image) in images.chunks_exact(XBN_IMAGE).enumerate().step_by(apart as usize) {
+        if judge(512, image, xbn as u32, 0).is_ok() {
+            let word = u32::from(u16::from_be_bytes([image[HEADER], image[HEADER + 1]]));
+            if word == 512 || word == 576 {
+                return Ok(word);
+            }
+        }
+    }
+    Err(21)
 }
 
 const PAGE_FRAME: usize = 14;

@@ -89,6 +89,13 @@ pub struct Judged {
     pub refusal: u32,
 }
 
+// It is named after its C name, as the others are. No trait is meant in this module.
+#[repr(C)]
+pub struct Sized {
+    pub refusal: u32,
+    pub size: u32,
+}
+
 #[repr(C)]
 pub struct Spotted {
     pub refusal: u32,
@@ -227,6 +234,7 @@ extern "C" {
     ) -> Written;
 
     pub fn tb_image_write(
+        size: u32,
         block: u32,
         code: u32,
         data: *const u8,
@@ -235,10 +243,19 @@ extern "C" {
         room: *mut u8,
         room_length: usize,
     ) -> Written;
-    pub fn tb_image_header(image: *const u8, image_length: usize) -> Headed;
-    pub fn tb_image_judge(image: *const u8, image_length: usize, block: u32, code: u32) -> Judged;
+    pub fn tb_image_header(size: u32, image: *const u8, image_length: usize) -> Headed;
+    pub fn tb_image_judge(
+        size: u32,
+        image: *const u8,
+        image_length: usize,
+        block: u32,
+        code: u32,
+    ) -> Judged;
+
+    pub fn tb_mode(images: *const u8, images_length: usize, apart: u32) -> Sized;
 
     pub fn tb_read_judge(
+        size: u32,
         shape: Shape,
         r: u32,
         table: *const u32,
@@ -252,6 +269,7 @@ extern "C" {
         spare_length: usize,
     ) -> Judged;
     pub fn tb_read_data(
+        size: u32,
         shape: Shape,
         r: u32,
         table: *const u32,

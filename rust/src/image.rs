@@ -1,5 +1,10 @@
-//! A sector's image of 530 bytes: four copies of a number that says a code and a block, the data, the code
-//! of the data.
+//! A sector's image: four copies of a number that says a code and a block, the data, the code of the data.
+//!
+//! `size` is how many bytes of data the sectors of the drive have, [`DATA_SIZE`](crate::DATA_SIZE) or
+//! [`WIDE_SIZE`](crate::WIDE_SIZE), and [`mode::find`](crate::mode::find) finds it. Any other is
+//! [`OutOfRange`](Refusal::OutOfRange), before all else. An image has
+//! [`image_length`](crate::image_length)`(size)` bytes, 530 or 594, and what has the length of the other size
+//! is [`WrongLength`](Refusal::WrongLength).
 //!
 //! The code of a header tells where the block is: [`AT_HOME`](crate::AT_HOME),
 //! [`AT_PRIMARY`](crate::AT_PRIMARY) or [`ELSEWHERE`](crate::ELSEWHERE). The one to write for a replaced
@@ -8,7 +13,7 @@
 
 use crate::ffi;
 use crate::refusal::{answered, Refusal};
-use crate::{DATA_SIZE, HEADER_SIZE};
+use crate::HEADER_SIZE;
 
 /// What a header says: one of the three codes, and a block.
 #[derive(Clone, Copy, Debug, PartialEq, Eq, Hash)]
@@ -20,10 +25,12 @@ pub struct Head {
 /// Writes the image of `block` with `code` to the first bytes of `room` and answers its length; a forced
 /// image says that the data was bad when it was written.
 ///
-/// Checks: [`WrongLength`](Refusal::WrongLength) where `data` is not 512 bytes;
-/// [`NoSuchBlock`](Refusal::NoSuchBlock) where `block` is [`CODE_UNIT`](crate::CODE_UNIT) or more;
-/// [`UnknownCode`](Refusal::UnknownCode); [`NoRoom`](Refusal::NoRoom).
+/// Checks: [`OutOfRange`](Refusal::OutOfRange) for `size`; [`WrongLength`](Refusal::WrongLength) where `data`
+/// is not `size` bytes; [`NoSuchBlock`](Refusal::NoSuchBlock) where `block` is
+/// [`CODE_UNIT`](crate::CODE_UNIT) or more; [`UnknownCode`](Refusal::UnknownCode);
+/// [`NoRoom`](Refusal::NoRoom) where the image does not fit.
 pub fn write(
+    size: u32,
     block: u32,
     code: u32,
     data: &[u8],
@@ -33,6 +40,7 @@ pub fn write(
     // SAFETY: pointers and lengths are those of live slices, and the room overlaps nothing.
     let answer = unsafe {
         ffi::tb_image_write(
+            size,
             block,
             code,
             data.as_ptr(),
@@ -47,11 +55,12 @@ pub fn write(
 
 /// The code and the block that the header says.
 ///
-/// Checks: [`WrongLength`](Refusal::WrongLength) where `image` is not 530 bytes;
-/// [`NoAddress`](Refusal::NoAddress); [`OtherBlock`](Refusal::OtherBlock) where the code is unknown.
-pub fn header(image: &[u8]) -> Result<Head, Refusal> {
+/// Checks: [`OutOfRange`](Refusal::OutOfRange) for `size`; [`WrongLength`](Refusal::WrongLength) where
+/// `image` has not the length of an image; [`NoAddress`](Refusal::NoAddress);
+/// [`OtherBlock`](Refusal::OtherBlock) where the code is unknown.
+pub fn header(size: u32, image: &[u8]) -> Result<Head, Refusal> {
     // SAFETY: the pointer and length are those of a live slice.
-    let answer = unsafe { ffi::tb_image_header(image.as_ptr(), image.len()) };
+    let answer = unsafe { ffi::tb_image_header(size, image.as_ptr(), image.len()) };
     answered(answer.refusal, Head { code: answer.code, block: answer.block })
 }
 
@@ -59,19 +68,20 @@ pub fn header(image: &[u8]) -> Result<Head, Refusal> {
 /// [`CODE_UNIT`](crate::CODE_UNIT) or more: where one is expected, every number that stands in the header
 /// is refused [`OtherBlock`](Refusal::OtherBlock).
 ///
-/// Checks: [`WrongLength`](Refusal::WrongLength) where `image` is not 530 bytes;
-/// [`NoAddress`](Refusal::NoAddress); [`OtherBlock`](Refusal::OtherBlock), also for another code;
-/// [`ForcedError`](Refusal::ForcedError) or [`BadCode`](Refusal::BadCode).
-pub fn judge(image: &[u8], block: u32, code: u32) -> Result<(), Refusal> {
+/// Checks: [`OutOfRange`](Refusal::OutOfRange) for `size`; [`WrongLength`](Refusal::WrongLength) where
+/// `image` has not the length of an image; [`NoAddress`](Refusal::NoAddress);
+/// [`OtherBlock`](Refusal::OtherBlock), also for another code; [`ForcedError`](Refusal::ForcedError) or
+/// [`BadCode`](Refusal::BadCode).
+pub fn judge(size: u32, image: &[u8], block: u32, code: u32) -> Result<(), Refusal> {
     // SAFETY: the pointer and length are those of a live slice.
-    let answer = unsafe { ffi::tb_image_judge(image.as_ptr(), image.len(), block, code) };
+    let answer = unsafe { ffi::tb_image_judge(size, image.as_ptr(), image.len(), block, code) };
     answered(answer.refusal, ())
 }
 
-/// The 512 bytes of data of a good image of `block` with `code`, where they lie in `image`.
+/// The `size` bytes of data of a good image of `block` with `code`, where they lie in `image`.
 ///
 /// Checks: those of [`judge`].
-pub fn data(image: &[u8], block: u32, code: u32) -> Result<&[u8], Refusal> {
-    judge(image, block, code)?;
-    Ok(&image[HEADER_SIZE..HEADER_SIZE + DATA_SIZE])
+pub fn data(size: u32, image: &[u8], block: u32, code: u32) -> Result<&[u8], Refusal> {
+    judge(size, image, block, code)?;
+    Ok(&image[HEADER_SIZE..HEADER_SIZE + size as usize])
 }

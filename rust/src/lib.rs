@@ -3,7 +3,8 @@
 //! A skipped drive passes over its bad sectors ([`skip`], [`skipped`]), a revectored drive sends a
 //! bad block to a spare ([`spares`], [`reading`]). Defect lists travel as pages ([`page`]), a scan's
 //! findings become the next night's lists ([`format`](mod@format)), and a sector is kept as an image
-//! with its code ([`image`]).
+//! with its code ([`image`]). Which of two sizes the sectors of a drive have, its mode sector says
+//! ([`mode`]).
 //!
 //! Every call takes any input and either answers or refuses with a [`Refusal`]. A refused call leaves
 //! what it was lent as it was, but for the scratch that goes with a table ([`spares`] says what is left
@@ -26,6 +27,7 @@ mod ffi;
 
 pub mod format;
 pub mod image;
+pub mod mode;
 pub mod page;
 pub mod reading;
 mod refusal;
@@ -54,14 +56,14 @@ pub const LIST_MOST: usize = 65_536;
 pub const SPARES_MOST: u32 = 65_536;
 /// The descriptors of one table block.
 pub const TABLE_BLOCK: usize = 128;
-/// The bytes of a sector's data.
-pub const DATA_SIZE: usize = 512;
+/// The bytes of a sector's data: one of the two sizes, and that of every sector of the XBN area.
+pub const DATA_SIZE: u32 = 512;
+/// The bytes of a sector's data: the other size.
+pub const WIDE_SIZE: u32 = 576;
 /// The bytes of a sector image before its data: four copies of the number that says a code and a block.
 pub const HEADER_SIZE: usize = 16;
 /// The bytes of a sector image beside its data.
 pub const IMAGE_EXTRA: usize = 18;
-/// The bytes of a sector image.
-pub const IMAGE_SIZE: usize = DATA_SIZE + IMAGE_EXTRA;
 /// The code of no data.
 pub const START_CODE: u16 = 0x5A3C;
 /// A word, a descriptor or the number of a header, is its code times this and its number, which is below it.
@@ -100,9 +102,14 @@ pub const fn page_length(entries: usize) -> usize {
     PAGE_FRAME + ENTRY_SIZE * entries
 }
 
-/// The bytes of the image of a track with so many sectors.
-pub const fn track_length(sectors: usize) -> usize {
-    IMAGE_SIZE * sectors
+/// The bytes of the image of a sector of this size.
+pub const fn image_length(size: u32) -> usize {
+    size as usize + IMAGE_EXTRA
+}
+
+/// The bytes of the image of a track with so many sectors of this size.
+pub const fn track_length(size: u32, sectors: usize) -> usize {
+    image_length(size) * sectors
 }
 
 /// The descriptors of a table for so many spares.

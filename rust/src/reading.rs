@@ -1,14 +1,19 @@
 //! A read of a revectored block from the image of its home track and that of its spare's track.
 //!
-//! No byte of the other image is looked at. For a block at home the second image may be
-//! any of the right length. The header must say the block, and the code that the table says: that of the
-//! block's descriptor, or [`AT_HOME`](crate::AT_HOME) for a block at home. Each call checks the table whole, and takes `scratch` for that and leaves
-//! it as the calls of [`spares`](crate::spares) do.
+//! `size` is that of the drive's sectors, as in [`image`](crate::image). Any other than the two is
+//! [`OutOfRange`](Refusal::OutOfRange), before all else, and leaves all of `scratch` as it was.
+//!
+//! A block lies in one image, and no byte of the other is looked at. For a block at home the second image may
+//! be any of the right length. The header must say the block, and the code that the table says: that of the
+//! block's descriptor, or [`AT_HOME`](crate::AT_HOME) for a block at home. Each call checks the table whole,
+//! and takes `scratch` for that and leaves it as the calls of [`spares`](crate::spares) do.
+
+// The parameters are those of the C face, one by one.
+#![allow(clippy::too_many_arguments)]
 
 use crate::ffi;
 use crate::refusal::{answered, Refusal};
 use crate::shape::Shape;
-use crate::DATA_SIZE;
 
 /// One of the two track images that a read is lent.
 #[derive(Clone, Copy, Debug, PartialEq, Eq, Hash)]
@@ -17,7 +22,7 @@ pub enum Track {
     Spare,
 }
 
-/// Where a block's data lie: the image, and the offset of the 512 bytes in it.
+/// Where a block's data lie: the image, and the offset of the `size` bytes in it.
 #[derive(Clone, Copy, Debug, PartialEq, Eq, Hash)]
 pub struct Spot {
     pub track: Track,
@@ -26,12 +31,14 @@ pub struct Spot {
 
 /// Accepts where the image of `block` is good.
 ///
-/// Checks: [`OutOfRange`](Refusal::OutOfRange) for shape, `r` and the number of spares;
+/// Checks: [`OutOfRange`](Refusal::OutOfRange) for `size`, shape, `r` and the number of spares;
 /// [`NoRoom`](Refusal::NoRoom) for `scratch`; [`BadTable`](Refusal::BadTable);
-/// [`NoSuchBlock`](Refusal::NoSuchBlock); [`WrongLength`](Refusal::WrongLength) where either image is
-/// not 530 bytes a sector; [`NoAddress`](Refusal::NoAddress); [`OtherBlock`](Refusal::OtherBlock), also
-/// for another code; [`ForcedError`](Refusal::ForcedError) or [`BadCode`](Refusal::BadCode).
+/// [`NoSuchBlock`](Refusal::NoSuchBlock); [`WrongLength`](Refusal::WrongLength) where either image has not
+/// [`track_length`](crate::track_length)`(size, sectors)` bytes; [`NoAddress`](Refusal::NoAddress);
+/// [`OtherBlock`](Refusal::OtherBlock), also for another code; [`ForcedError`](Refusal::ForcedError) or
+/// [`BadCode`](Refusal::BadCode).
 pub fn judge(
+    size: u32,
     shape: Shape,
     r: u32,
     table: &[u32],
@@ -43,6 +50,7 @@ pub fn judge(
     // SAFETY: pointers and lengths are those of live slices, and scratch overlaps nothing.
     let answer = unsafe {
         ffi::tb_read_judge(
+            size,
             shape,
             r,
             table.as_ptr(),
@@ -63,6 +71,7 @@ pub fn judge(
 ///
 /// Checks: those of [`judge`].
 pub fn spot(
+    size: u32,
     shape: Shape,
     r: u32,
     table: &[u32],
@@ -74,6 +83,7 @@ pub fn spot(
     // SAFETY: pointers and lengths are those of live slices, and scratch overlaps nothing.
     let answer = unsafe {
         ffi::tb_read_data(
+            size,
             shape,
             r,
             table.as_ptr(),
@@ -94,7 +104,7 @@ pub fn spot(
     answered(answer.refusal, Spot { track, offset: answer.offset })
 }
 
-/// The 512 bytes of data of a good image of `block`, where they lie in `home` or in `spare`. They
+/// The `size` bytes of data of a good image of `block`, where they lie in `home` or in `spare`. They
 /// belong to the images, and neither to the table nor to the scratch.
 ///
 /// Checks: those of [`judge`].
@@ -109,11 +119,12 @@ pub fn spot(
 /// let part = {
 ///     let home = [0; 2 * 530];
 ///     let spare = [0; 2 * 530];
-///     reading::data(shape, 1, &table, &mut scratch, 0, &home, &spare)
+///     reading::data(512, shape, 1, &table, &mut scratch, 0, &home, &spare)
 /// };
 /// assert!(part.is_err());
 /// ```
 pub fn data<'a>(
+    size: u32,
     shape: Shape,
     r: u32,
     table: &[u32],
@@ -122,11 +133,11 @@ pub fn data<'a>(
     home: &'a [u8],
     spare: &'a [u8],
 ) -> Result<&'a [u8], Refusal> {
-    let spot = spot(shape, r, table, scratch, block, home, spare)?;
+    let spot = spot(size, shape, r, table, scratch, block, home, spare)?;
     let image = match spot.track {
         Track::Home => home,
         Track::Spare => spare,
     };
     let start = spot.offset as usize;
-    Ok(&image[start..start + DATA_SIZE])
+    Ok(&image[start..start + size as usize])
 }

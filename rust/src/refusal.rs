@@ -7,8 +7,9 @@ use std::fmt;
 #[derive(Clone, Copy, Debug, PartialEq, Eq, Hash, PartialOrd, Ord)]
 #[repr(u32)]
 pub enum Refusal {
-    /// A number of the drive is out of its range: of the shape, of its sectors or of its spares; or
-    /// the heads of a shape are not its groups × tracks.
+    /// A number of the drive is out of its range: of the shape, of its sectors or of its spares; the heads
+    /// of a shape are not its groups × tracks; the size of a sector's data is neither of the two; or copies of
+    /// the format table lie 0 sectors apart.
     OutOfRange = 1,
     /// A list is longer than [`LIST_MOST`](crate::LIST_MOST) entries, or a list to be made would be.
     TooLong = 2,
@@ -35,7 +36,7 @@ pub enum Refusal {
     // 12 is no longer given, and no other refusal takes it.
     /// No spare is free, or a first table would need more good spares than there are.
     NoSpare = 13,
-    /// Data or an image is not as long as it must be.
+    /// Data or an image is not as long as it must be for the size of the sectors.
     WrongLength = 14,
     /// Fewer than three copies in the header agree.
     NoAddress = 15,
@@ -45,14 +46,16 @@ pub enum Refusal {
     ForcedError = 17,
     /// The stored code is neither the data's nor its complement.
     BadCode = 18,
-    // 19, 20 and 21 are given by no call of this library.
+    // 19 and 20 are given by no call of this library.
+    /// No copy of the format table says the size of the sectors.
+    NoMode = 21,
     /// The code to write is none of the three that a header may have.
     UnknownCode = 22,
 }
 
 impl Refusal {
     /// Every refusal, by rising number.
-    pub const ALL: [Refusal; 18] = [
+    pub const ALL: [Refusal; 19] = [
         Refusal::OutOfRange,
         Refusal::TooLong,
         Refusal::NotRising,
@@ -70,10 +73,11 @@ impl Refusal {
         Refusal::OtherBlock,
         Refusal::ForcedError,
         Refusal::BadCode,
+        Refusal::NoMode,
         Refusal::UnknownCode,
     ];
 
-    /// The refusal's number: 1 to 18 without 12, or 22.
+    /// The refusal's number: 1 to 18 without 12, 21 or 22.
     pub const fn number(self) -> u32 {
         self as u32
     }
@@ -103,6 +107,7 @@ impl Refusal {
             Refusal::OtherBlock => "other block",
             Refusal::ForcedError => "forced error",
             Refusal::BadCode => "bad code",
+            Refusal::NoMode => "no mode",
             Refusal::UnknownCode => "unknown code",
         }
     }

@@ -26,8 +26,17 @@ fn header() -> String {
 fn defined() -> BTreeMap<String, String> {
     let header = header();
     let lines = header.lines().filter_map(|line| line.strip_prefix("#define TB_"));
-    let pairs = lines.filter_map(|line| line.split_once(' '));
+    let pairs = lines.map(|line| line.split_at(name_end(line)));
     pairs.map(|(name, text)| (name.to_string(), text.trim().to_string())).collect()
+}
+
+/// Where the name of a definition ends, and its parameters, where it has some.
+fn name_end(line: &str) -> usize {
+    let end = line.find([' ', '(']).expect("a text behind the name");
+    match line[end..].find(')') {
+        Some(parameters) if line[end..].starts_with('(') => end + parameters + 1,
+        _ => end,
+    }
 }
 
 /// A number as C writes it.
@@ -56,21 +65,22 @@ fn refusals_are_those_of_the_header() {
     }
     assert_eq!(theirs, ours);
 
-    // 18 names beside the first; 12 has none, and neither have 19 to 21.
+    // 19 names beside the first; 12 has none, and neither have 19 and 20.
     let numbers: Vec<u32> = theirs.into_iter().map(|(_, number)| number).collect();
-    let expected: Vec<u32> = (0..12).chain(13..=18).chain([22]).collect();
+    let expected: Vec<u32> = (0..12).chain(13..=18).chain([21, 22]).collect();
     assert_eq!(numbers, expected);
 }
 
 #[test]
 fn numbers_turn_into_refusals_and_back() {
-    for number in (1..12).chain(13..=18).chain([22]) {
+    for number in (1..12).chain(13..=18).chain([21, 22]) {
         assert_eq!(Refusal::of_number(number).map(Refusal::number), Some(number));
     }
-    for number in [0, 12, 19, 20, 21, 23, u32::MAX] {
+    for number in [0, 12, 19, 20, 23, u32::MAX] {
         assert_eq!(Refusal::of_number(number), None);
     }
     assert_eq!(Refusal::NoSpare.to_string(), "refused 13: no spare");
+    assert_eq!(Refusal::NoMode.to_string(), "refused 21: no mode");
     assert_eq!(Refusal::UnknownCode.to_string(), "refused 22: unknown code");
 }
 
@@ -93,6 +103,7 @@ fn limits_are_those_of_the_header() {
         SPARES_MOST,
         TABLE_BLOCK,
         DATA_SIZE,
+        WIDE_SIZE,
         HEADER_SIZE,
         IMAGE_EXTRA,
         START_CODE,
@@ -121,7 +132,7 @@ fn limits_are_those_of_the_header() {
     // What the header makes of these, the crate makes in the same way.
     let expected = [
         ("CODE_OF(word)", "((word) / TB_CODE_UNIT)"),
-        ("IMAGE_SIZE", "(TB_DATA_SIZE + TB_IMAGE_EXTRA)"),
+        ("IMAGE_LENGTH(size)", "((size) + TB_IMAGE_EXTRA)"),
         ("NUMBER_OF(word)", "((word) % TB_CODE_UNIT)"),
         ("PAGE_LENGTH(entries)", "(TB_PAGE_FRAME + TB_ENTRY_SIZE * (entries))"),
         ("PAGE_MOST", "TB_PAGE_LENGTH(TB_LIST_MOST)"),
@@ -129,16 +140,18 @@ fn limits_are_those_of_the_header() {
             "TABLE_LENGTH(spares)",
             "(TB_TABLE_BLOCK * (((spares) + TB_TABLE_BLOCK - 1u) / TB_TABLE_BLOCK))",
         ),
-        ("TRACK_LENGTH(sectors)", "(TB_IMAGE_SIZE * (sectors))"),
+        ("TRACK_LENGTH(size, sectors)", "(TB_IMAGE_LENGTH(size) * (sectors))"),
     ];
     let expected = expected.map(|(name, text)| (name.to_string(), text.to_string()));
     assert_eq!(made, BTreeMap::from(expected));
-    assert_eq!((IMAGE_SIZE, PAGE_MOST), (530, 262_158));
+    assert_eq!(PAGE_MOST, 262_158);
     let words = [0, 7, 0x0FFF_FFFF, 0x1000_0000, 0x2000_0007, 0x3FFF_FFFF, 0x8000_0000, u32::MAX];
     assert_eq!(words.map(code_of), [0, 0, 0, 1, 2, 3, 8, 15]);
     let numbers = [0, 7, 0x0FFF_FFFF, 0, 7, 0x0FFF_FFFF, 0, 0x0FFF_FFFF];
     assert_eq!(words.map(number_of), numbers);
-    assert_eq!((page_length(2), track_length(5)), (22, 2_650));
+    assert_eq!([DATA_SIZE, WIDE_SIZE].map(image_length), [530, 594]);
+    assert_eq!([DATA_SIZE, WIDE_SIZE].map(|size| track_length(size, 5)), [2_650, 2_970]);
+    assert_eq!(page_length(2), 22);
     assert_eq!([0, 1, 128, 129, 65_536].map(table_length), [0, 128, 128, 256, 65_536]);
 }
 
@@ -225,7 +238,20 @@ fn functions_are_those_of_the_header() {
         count += 1;
     }
     assert_eq!(rust.matches("pub fn tb_").count(), count);
-    assert_eq!(count, 25);
+    assert_eq!(count, 26);
+}
+
+/// The size of a sector stands first, in every call on an image or a read and in no other.
+#[test]
+fn size_comes_first() {
+    let header = one_line(&header()).replace("( ", "(");
+    assert_eq!(header.matches("(uint32_t size, ").count(), 5);
+    let others = header.matches("uint32_t size").count() - 5;
+    // The field of the answer that goes into them.
+    assert_eq!(
+        (others, header.matches("{ uint32_t refusal; uint32_t size; } tb_sized;").count()),
+        (1, 1)
+    );
 }
 
 /// Scratch stands right after the table's length, in every call that is lent a table and in no other.

@@ -1,19 +1,25 @@
 //! Where the parts lie that the data calls hand back, and what they belong to.
 
 use tautberry::image::{self, Head};
-use tautberry::{reading, spares, Shape, AT_HOME, AT_PRIMARY};
+use tautberry::{image_length, mode, reading, spares, track_length, Shape};
+use tautberry::{AT_HOME, AT_PRIMARY, DATA_SIZE, WIDE_SIZE};
 
 const SHAPE: Shape = Shape::ungrouped(2, 2, 5);
 const SPARES: u32 = 2;
-const TRACK: usize = 5 * 530;
+const SIZES: [u32; 2] = [DATA_SIZE, WIDE_SIZE];
 
 /// A track image with the image of `block` with `code` on one sector and nothing else.
-fn track(block: u32, code: u32, sector: usize) -> Vec<u8> {
-    let mut track = vec![0; TRACK];
-    let data: Vec<u8> = (0..512).map(|at| (at * 3 + sector) as u8).collect();
-    let room = &mut track[sector * 530..];
-    image::write(block, code, &data, false, room).expect("512 bytes and room");
+fn track(size: u32, block: u32, code: u32, sector: usize) -> Vec<u8> {
+    let mut track = vec![0; track_length(size, 5)];
+    let data: Vec<u8> = (0..size as usize).map(|at| (at * 3 + sector) as u8).collect();
+    let room = &mut track[sector * image_length(size)..];
+    image::write(size, block, code, &data, false, room).expect("data of the size and room");
     track
+}
+
+/// The image of a track that no read looks at.
+fn noise(size: u32) -> Vec<u8> {
+    vec![0xFF; track_length(size, 5)]
 }
 
 /// The table of the drive with block 7 on place 4, which is sector 3 of its track, and scratch for it.
@@ -25,68 +31,85 @@ fn table_and_scratch() -> (Vec<u32>, [u32; 8]) {
 }
 
 /// The data of a block of the drive, from images that hold a good one.
-fn data<'a>(block: u32, home: &'a [u8], spare: &'a [u8]) -> &'a [u8] {
+fn data<'a>(size: u32, block: u32, home: &'a [u8], spare: &'a [u8]) -> &'a [u8] {
     let (table, mut scratch) = table_and_scratch();
-    let part = reading::data(SHAPE, SPARES, &table, &mut scratch, block, home, spare);
+    let part = reading::data(size, SHAPE, SPARES, &table, &mut scratch, block, home, spare);
     part.expect("a good image")
 }
 
-/// The same bytes at the same place.
-fn lies_at(part: &[u8], whole: &[u8], offset: usize) -> bool {
-    std::ptr::eq(part, &whole[offset..offset + 512])
+/// The same bytes at the same place: the data of a sector of a track of this size.
+fn lies_at(part: &[u8], whole: &[u8], size: u32, sector: usize) -> bool {
+    let offset = sector * image_length(size) + 16;
+    std::ptr::eq(part, &whole[offset..offset + size as usize])
 }
 
 #[test]
 fn data_of_a_block_at_home_lie_in_the_home_image() {
-    // Block 8 is sector 2 of its track.
-    let (home, any) = (track(8, AT_HOME, 2), vec![0xFF; TRACK]);
-    assert!(lies_at(data(8, &home, &any), &home, 2 * 530 + 16));
+    for size in SIZES {
+        // Block 8 is sector 2 of its track.
+        let (home, any) = (track(size, 8, AT_HOME, 2), noise(size));
+        assert!(lies_at(data(size, 8, &home, &any), &home, size, 2));
+    }
 }
 
 #[test]
 fn data_of_a_replaced_block_lie_in_the_spare_image() {
-    let (any, spare) = (vec![0xFF; TRACK], track(7, AT_PRIMARY, 3));
-    assert!(lies_at(data(7, &any, &spare), &spare, 3 * 530 + 16));
+    for size in SIZES {
+        let (any, spare) = (noise(size), track(size, 7, AT_PRIMARY, 3));
+        assert!(lies_at(data(size, 7, &any, &spare), &spare, size, 3));
+    }
 }
 
 /// Home and spare may be one image, lent twice.
 #[test]
 fn one_image_serves_as_both() {
-    let both = track(7, AT_PRIMARY, 3);
-    assert!(lies_at(data(7, &both, &both), &both, 3 * 530 + 16));
+    for size in SIZES {
+        let both = track(size, 7, AT_PRIMARY, 3);
+        assert!(lies_at(data(size, 7, &both, &both), &both, size, 3));
+    }
 }
 
 /// The part outlives the table and the scratch: it belongs to the images alone.
 #[test]
 fn the_part_belongs_to_the_images() {
-    let (home, spare) = (vec![0; TRACK], track(7, AT_PRIMARY, 3));
+    let size = WIDE_SIZE;
+    let (home, spare) = (noise(size), track(size, 7, AT_PRIMARY, 3));
     let part = {
         let (table, mut scratch) = table_and_scratch();
-        let part = reading::data(SHAPE, SPARES, &table, &mut scratch, 7, &home, &spare);
+        let part = reading::data(size, SHAPE, SPARES, &table, &mut scratch, 7, &home, &spare);
         scratch.fill(1);
         part.expect("a good image")
     };
-    assert!(lies_at(part, &spare, 3 * 530 + 16));
+    assert!(lies_at(part, &spare, size, 3));
 }
 
 #[test]
 fn data_of_a_sector_image_lie_after_its_header() {
-    let track = track(9, AT_HOME, 0);
-    let image = &track[..530];
-    let part = image::data(image, 9, AT_HOME).expect("a good image");
-    assert!(lies_at(part, image, 16));
+    for size in SIZES {
+        let track = track(size, 9, AT_HOME, 0);
+        let image = &track[..image_length(size)];
+        let part = image::data(size, image, 9, AT_HOME).expect("a good image");
+        assert!(lies_at(part, image, size, 0));
+    }
 }
 
-/// An image may lie at any byte.
+/// An image may lie at any byte, and so may the images of the XBN area.
 #[test]
 fn images_at_odd_addresses() {
-    let image = &track(9, AT_PRIMARY, 0)[..530];
-    for start in 0..8 {
-        let mut moved = vec![0xFF; start];
-        moved.extend(image);
-        let head = Head { code: AT_PRIMARY, block: 9 };
-        assert_eq!(image::header(&moved[start..]), Ok(head));
-        let part = image::data(&moved[start..], 9, AT_PRIMARY);
-        assert_eq!(part, Ok(&image[16..528]));
+    for size in SIZES {
+        let image = &track(size, 9, AT_PRIMARY, 0)[..image_length(size)];
+        let mut area = vec![0; image_length(DATA_SIZE)];
+        let mut mode_data = vec![0; DATA_SIZE as usize];
+        mode_data[..2].copy_from_slice(&(size as u16).to_be_bytes());
+        image::write(DATA_SIZE, 0, AT_HOME, &mode_data, false, &mut area).expect("512 bytes");
+        for start in 0..8 {
+            let moved = |image: &[u8]| [&vec![0xFF; start], image].concat();
+            let (image_moved, area_moved) = (moved(image), moved(&area));
+            let head = Head { code: AT_PRIMARY, block: 9 };
+            assert_eq!(image::header(size, &image_moved[start..]), Ok(head));
+            let part = image::data(size, &image_moved[start..], 9, AT_PRIMARY);
+            assert_eq!(part, Ok(&image[16..16 + size as usize]));
+            assert_eq!(mode::find(&area_moved[start..], 1), Ok(size));
+        }
     }
 }

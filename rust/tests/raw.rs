@@ -2,7 +2,8 @@
 
 use std::ptr::{null, null_mut};
 
-use tautberry::{Address, Cursor, Shape, LIST_MOST, PAGE_MOST};
+use tautberry::{image_length, track_length, Address, Cursor, Shape};
+use tautberry::{DATA_SIZE, LIST_MOST, PAGE_MOST, WIDE_SIZE};
 
 // The answers are read as one row of numbers, not by their fields.
 #[allow(dead_code)]
@@ -14,6 +15,8 @@ use ffi::*;
 /// C 2, H 2, S 5, r 2: 12 blocks, 20 sectors, 8 spares; each head is a group.
 const SHAPE: Shape = Shape { groups: 2, tracks: 1, offset: 3, ..Shape::ungrouped(2, 2, 5) };
 const R: u32 = 2;
+const SIZES: [u32; 2] = [DATA_SIZE, WIDE_SIZE];
+const NO_SIZES: [u32; 6] = [0, 511, 513, 575, 577, u32::MAX];
 /// No list has it.
 const STRAY: Cursor = Cursor { block: 5, skipped: 4_000 };
 /// Scratch for the drive, and two numbers more.
@@ -334,7 +337,7 @@ fn bad_groups_answer_zeros() {
     ];
     let takes_shape = include_str!("../src/ffi.rs").matches("shape: Shape").count();
     let (mut table, mut room, mut scratch) = (table(), vec![7; 128], SCRATCH);
-    let track = vec![0; 5 * 530];
+    let (size, track) = (WIDE_SIZE, vec![0; track_length(WIDE_SIZE, 5)]);
     for (groups, tracks, offset) in bad {
         let shape = Shape { groups, tracks, offset, ..SHAPE };
         let (list, at, len) = (null(), table.as_ptr(), table.len());
@@ -367,13 +370,13 @@ fn bad_groups_answer_zeros() {
                 (
                     "tb_read_judge",
                     numbers(tb_read_judge(
-                        shape, R, at, len, to, lent, 9, image, bytes, image, bytes,
+                        size, shape, R, at, len, to, lent, 9, image, bytes, image, bytes,
                     )),
                 ),
                 (
                     "tb_read_data",
                     numbers(tb_read_data(
-                        shape, R, at, len, to, lent, 9, image, bytes, image, bytes,
+                        size, shape, R, at, len, to, lent, 9, image, bytes, image, bytes,
                     )),
                 ),
             ]
@@ -387,31 +390,32 @@ fn bad_groups_answer_zeros() {
 }
 
 /// The image of block 7 at its primary spare, with zeros for data, good or forced.
-fn image(forced: bool) -> Vec<u8> {
+fn image(size: u32, forced: bool) -> Vec<u8> {
     let mut image = [0x20, 0, 0, 7].repeat(4);
-    image.extend([0; 512]);
+    image.resize(16 + size as usize, 0);
     image.extend(if forced { [0xA5, 0xC3] } else { [0x5A, 0x3C] });
     image
 }
 
 /// Images of block 7 at its primary spare that are refused so, by the call that reads a header alone and by the
 /// others: with another block, each other code of four bits, and all else.
-fn bad_images() -> Vec<(u32, u32, Vec<u8>)> {
-    let mut no_address = image(false);
+fn bad_images(size: u32) -> Vec<(u32, u32, Vec<u8>)> {
+    let mut no_address = image(size, false);
     (no_address[0], no_address[4]) = (0, 0x30);
-    let mut other_block = image(false);
+    let mut other_block = image(size, false);
     other_block[3..16].iter_mut().step_by(4).for_each(|byte| *byte = 8);
-    let mut bad_code = image(false);
-    bad_code[20] ^= 1;
+    let mut bad_code = image(size, false);
+    bad_code[15 + size as usize] ^= 1;
     let mut images = vec![
-        (14, 14, image(false)[1..].to_vec()),
+        (14, 14, image(DATA_SIZE + WIDE_SIZE - size, false)),
+        (14, 14, image(size, false)[1..].to_vec()),
         (15, 15, no_address),
         (0, 16, other_block),
-        (0, 17, image(true)),
+        (0, 17, image(size, true)),
         (0, 18, bad_code),
     ];
     for code in (0..16).filter(|code| *code != 2) {
-        let mut other_code = image(false);
+        let mut other_code = image(size, false);
         other_code[..16].iter_mut().step_by(4).for_each(|byte| *byte = 16 * code);
         images.push((if [0, 3].contains(&code) { 0 } else { 16 }, 16, other_code));
     }
@@ -420,104 +424,180 @@ fn bad_images() -> Vec<(u32, u32, Vec<u8>)> {
 
 #[test]
 fn refused_images_answer_zeros() {
-    for (by_header, number, image) in bad_images() {
-        // SAFETY: the pointer and length are those of a live slice.
-        unsafe {
-            let (at, len) = (image.as_ptr(), image.len());
-            refused("tb_image_judge", number, tb_image_judge(at, len, 7, 2));
-            if by_header != 0 {
-                refused("tb_image_header", by_header, tb_image_header(at, len));
+    for size in SIZES {
+        for (by_header, number, image) in bad_images(size) {
+            // SAFETY: the pointer and length are those of a live slice.
+            unsafe {
+                let (at, len) = (image.as_ptr(), image.len());
+                refused("tb_image_judge", number, tb_image_judge(size, at, len, 7, 2));
+                if by_header != 0 {
+                    refused("tb_image_header", by_header, tb_image_header(size, at, len));
+                }
+                for none in NO_SIZES {
+                    refused("tb_image_judge", 1, tb_image_judge(none, at, len, 7, 2));
+                    refused("tb_image_header", 1, tb_image_header(none, at, len));
+                }
             }
         }
+        // Pairs of a block and a code that the image is not of.
+        let good = image(size, false);
+        let pairs = [(7, 0), (7, 1), (7, 3), (7, 18), (8, 2), (268_435_463, 1), (536_870_919, 0)];
+        for (block, code) in pairs {
+            // SAFETY: the pointer and length are those of a live slice.
+            let answer = unsafe { tb_image_judge(size, good.as_ptr(), good.len(), block, code) };
+            refused("tb_image_judge", 16, answer);
+        }
     }
-    // Pairs of a block and a code that the image is not of.
-    let good = image(false);
-    let pairs = [(7, 0), (7, 1), (7, 3), (7, 18), (8, 2), (268_435_463, 1), (536_870_919, 0)];
-    for (block, code) in pairs {
-        // SAFETY: the pointer and length are those of a live slice.
-        let answer = unsafe { tb_image_judge(good.as_ptr(), good.len(), block, code) };
-        refused("tb_image_judge", 16, answer);
+}
+
+#[test]
+fn refused_writes_answer_zeros() {
+    // The number, the size, the block, the code, the lengths of the data and of the room.
+    let mut writes = vec![];
+    for size in SIZES {
+        let (data, room, other) = (size as usize, image_length(size), DATA_SIZE + WIDE_SIZE - size);
+        writes.extend([
+            (14, size, 268_435_456, 1, data - 1, room - 1),
+            (14, size, 7, 2, other as usize, room),
+            (5, size, 268_435_456, 1, data, room - 1),
+            (22, size, 268_435_455, 1, data, room - 1),
+            (22, size, 7, 15, data, room),
+            (22, size, 7, u32::MAX, data, room),
+            (7, size, 7, 2, data, room - 1),
+        ]);
+        for none in NO_SIZES {
+            writes.push((1, none, 268_435_456, 1, data - 1, 0));
+            writes.push((1, none, 7, 2, data, room));
+        }
     }
-    // The number, the block, the code, the lengths of the data and of the room.
-    let writes = [
-        (14, 268_435_456, 1, 511, 529),
-        (5, 268_435_456, 1, 512, 529),
-        (22, 268_435_455, 1, 512, 529),
-        (22, 7, 15, 512, 530),
-        (22, 7, u32::MAX, 512, 530),
-        (7, 7, 2, 512, 529),
-    ];
-    for (number, block, code, length, room_length) in writes {
-        let (data, mut room) = (vec![0; length], vec![0; room_length]);
+    for (number, size, block, code, length, room_length) in writes {
+        let (data, mut room) = (vec![0; length], vec![0xA5; room_length]);
         let (at, len) = (data.as_ptr(), data.len());
         // SAFETY: pointers and lengths are those of live slices.
-        let answer =
-            unsafe { tb_image_write(block, code, at, len, true, room.as_mut_ptr(), room.len()) };
+        let answer = unsafe {
+            tb_image_write(size, block, code, at, len, true, room.as_mut_ptr(), room.len())
+        };
         refused("tb_image_write", number, answer);
-        assert_eq!(room, vec![0; room_length], "tb_image_write");
+        assert_eq!(room, vec![0xA5; room_length], "tb_image_write");
     }
 }
 
 /// The code comes before the block.
 #[test]
 fn a_header_answers_code_and_block() {
-    let image = image(false);
-    // SAFETY: the pointer and length are those of a live slice.
-    unsafe {
-        assert_eq!(numbers(tb_image_header(image.as_ptr(), image.len())), [0, 2, 7]);
-        assert_eq!(numbers(tb_image_judge(image.as_ptr(), image.len(), 7, 2)), [0]);
+    for size in SIZES {
+        let image = image(size, false);
+        let (at, len) = (image.as_ptr(), image.len());
+        // SAFETY: the pointer and length are those of a live slice.
+        unsafe {
+            assert_eq!(numbers(tb_image_header(size, at, len)), [0, 2, 7]);
+            assert_eq!(numbers(tb_image_judge(size, at, len, 7, 2)), [0]);
+        }
+        let (data, mut room) = (vec![0; size as usize], vec![0; image_length(size)]);
+        let (at, len) = (data.as_ptr(), data.len());
+        // SAFETY: pointers and lengths are those of live slices.
+        let answer =
+            unsafe { tb_image_write(size, 7, 2, at, len, false, room.as_mut_ptr(), room.len()) };
+        assert_eq!((numbers(answer), room), (vec![0, size + 18], image));
     }
-    let (data, mut room) = ([0; 512], [0; 530]);
-    let (at, len) = (data.as_ptr(), data.len());
-    // SAFETY: pointers and lengths are those of live slices.
-    let answer = unsafe { tb_image_write(7, 2, at, len, false, room.as_mut_ptr(), room.len()) };
-    assert_eq!((numbers(answer), &room[..]), (vec![0, 530], &image[..]));
 }
 
 #[test]
 fn refused_reads_answer_zeros() {
-    let read = |number: u32, r: u32, table: &[u32], lent: usize, block: u32, spare: &[u8]| {
-        let home = vec![0; 5 * 530];
+    // The number and the size, r, the table, how much of the scratch is lent, the block, the spare's image.
+    let read = |(number, size): (u32, u32), r, table: &[u32], lent, block, spare: &[u8]| {
+        let home = vec![0; track_length(size.min(WIDE_SIZE), 5)];
         let (at, len) = (table.as_ptr(), table.len());
-        let (home, bytes) = (home.as_ptr(), home.len());
-        let (spare, spare_bytes) = (spare.as_ptr(), spare.len());
-        let (mut scratch, mut again) = (SCRATCH, SCRATCH);
-        let (to, to_again) = (scratch.as_mut_ptr(), again.as_mut_ptr());
+        let (home, home_len) = (home.as_ptr(), home.len());
+        let (spare, spare_len) = (spare.as_ptr(), spare.len());
+        let (mut first, mut again) = (SCRATCH, SCRATCH);
+        let (to, to_again) = (first.as_mut_ptr(), again.as_mut_ptr());
         // SAFETY: pointers and lengths are those of live slices.
-        unsafe {
-            let judged =
-                tb_read_judge(SHAPE, r, at, len, to, lent, block, home, bytes, spare, spare_bytes);
-            refused("tb_read_judge", number, judged);
-            let part = tb_read_data(
-                SHAPE,
-                r,
-                at,
-                len,
-                to_again,
-                lent,
-                block,
-                home,
-                bytes,
-                spare,
-                spare_bytes,
-            );
-            refused("tb_read_data", number, part);
-        }
-        assert_eq!((scratch, again), (left(number), left(number)), "{number}");
+        let answers = unsafe {
+            (
+                tb_read_judge(
+                    size, SHAPE, r, at, len, to, lent, block, home, home_len, spare, spare_len,
+                ),
+                tb_read_data(
+                    size, SHAPE, r, at, len, to_again, lent, block, home, home_len, spare,
+                    spare_len,
+                ),
+            )
+        };
+        refused("tb_read_judge", number, answers.0);
+        refused("tb_read_data", number, answers.1);
+        assert_eq!((first, again), (left(number), left(number)), "{number}");
     };
     let table = table();
-    // Block 7 is on place 4, sector 3 of its track.
-    let mut spare = vec![0; 5 * 530];
-    spare[3 * 530..4 * 530].copy_from_slice(&image(false));
-    read(1, 5, &table, 0, 7, &spare);
-    read(7, R, &table[1..], 7, 12, &spare[1..]);
-    read(11, R, &table[1..], 10, 12, &spare[1..]);
-    read(11, R, &table_with_a_hole(), 10, 7, &spare);
-    read(5, R, &table, 10, 12, &spare[1..]);
-    read(14, R, &table, 10, 7, &spare[1..]);
-    for (_, number, image) in bad_images().into_iter().skip(1) {
-        spare[3 * 530..4 * 530].copy_from_slice(&image);
-        read(number, R, &table, 10, 7, &spare);
+    for size in SIZES {
+        let length = image_length(size);
+        // Block 7 is on place 4, sector 3 of its track.
+        let mut spare = vec![0; 5 * length];
+        spare[3 * length..4 * length].copy_from_slice(&image(size, false));
+        for none in NO_SIZES {
+            read((1, none), 5, &table[1..], 0, 12, &spare[1..]);
+            read((1, none), R, &table, 10, 7, &spare);
+        }
+        read((1, size), 5, &table, 0, 7, &spare);
+        read((7, size), R, &table[1..], 7, 12, &spare[1..]);
+        read((11, size), R, &table[1..], 10, 12, &spare[1..]);
+        read((11, size), R, &table_with_a_hole(), 10, 7, &spare);
+        read((5, size), R, &table, 10, 12, &spare[1..]);
+        read((14, size), R, &table, 10, 7, &spare[1..]);
+        // A home track of the right length, and a spare's of the other size.
+        let other = vec![0; track_length(DATA_SIZE + WIDE_SIZE - size, 5)];
+        read((14, size), R, &table, 10, 7, &other);
+        for (_, number, image) in bad_images(size).into_iter().filter(|(_, number, _)| *number > 14)
+        {
+            spare[3 * length..4 * length].copy_from_slice(&image);
+            read((number, size), R, &table, 10, 7, &spare);
+        }
+    }
+}
+
+/// The image comes before the offset, and the offset is in the image of a track of the size.
+#[test]
+fn a_read_answers_image_and_offset() {
+    let table = table();
+    for size in SIZES {
+        let length = image_length(size);
+        let (home, mut spare) = (vec![0xA5; 5 * length], vec![0xA5; 5 * length]);
+        spare[3 * length..4 * length].copy_from_slice(&image(size, false));
+        let (at, len) = (table.as_ptr(), table.len());
+        let (home, spare, bytes) = (home.as_ptr(), spare.as_ptr(), spare.len());
+        let mut scratch = SCRATCH;
+        let (to, lent) = (scratch.as_mut_ptr(), scratch.len());
+        // SAFETY: pointers and lengths are those of live slices.
+        let answer = unsafe {
+            tb_read_data(size, SHAPE, R, at, len, to, lent, 7, home, bytes, spare, bytes)
+        };
+        assert_eq!(numbers(answer), [0, 1, 3 * (size + 18) + 16], "tb_read_data");
+        assert_eq!(scratch, CLEARED, "tb_read_data");
+    }
+}
+
+/// The size comes behind the refusal, and is 0 beside one.
+#[test]
+fn a_mode_answers_its_size() {
+    let of_mode = |size: u32| {
+        let mut image = vec![0; 530];
+        image[16..18].copy_from_slice(&(size as u16).to_be_bytes());
+        image[528..].copy_from_slice(if size == 512 { &[0x5B, 0x3C] } else { &[0x5B, 0x1C] });
+        image
+    };
+    for size in SIZES {
+        let image = of_mode(size);
+        let (at, len) = (image.as_ptr(), image.len());
+        // SAFETY: the C face takes null where the length is 0; other pointers are of live slices.
+        unsafe {
+            assert_eq!(numbers(tb_mode(at, len, 1)), [0, size], "tb_mode");
+            assert_eq!(numbers(tb_mode(at, len, u32::MAX)), [0, size], "tb_mode");
+            refused("tb_mode", 1, tb_mode(at, len, 0));
+            refused("tb_mode", 1, tb_mode(null(), 0, 0));
+            refused("tb_mode", 21, tb_mode(at, len - 1, 1));
+            refused("tb_mode", 21, tb_mode(null(), 0, 1));
+            refused("tb_mode", 21, tb_mode(null(), 0, u32::MAX));
+        }
     }
 }
 
@@ -602,8 +682,8 @@ fn null_tables_and_lists() {
 /// No scratch at all is too little for any drive, and none is looked for where the shape is out of range.
 #[test]
 fn null_scratch() {
-    let (mut table, track) = (table(), vec![0; 5 * 530]);
-    let (len, no) = (table.len(), null_mut());
+    let (mut table, track) = (table(), vec![0; track_length(DATA_SIZE, 5)]);
+    let (len, no, size) = (table.len(), null_mut(), DATA_SIZE);
     let (image, bytes) = (track.as_ptr(), track.len());
     for (number, shape) in [(7, SHAPE), (1, shape_of(0))] {
         let at = table.as_mut_ptr();
@@ -617,9 +697,10 @@ fn null_scratch() {
             refused("tb_spare_block_at", number, on);
             refused("tb_spare_replace", number, tb_spare_replace(shape, R, at, len, no, 0, 3));
             refused("tb_spare_census", number, tb_spare_census(shape, R, at, len, no, 0));
-            let judged = tb_read_judge(shape, R, at, len, no, 0, 3, image, bytes, image, bytes);
+            let judged =
+                tb_read_judge(size, shape, R, at, len, no, 0, 3, image, bytes, image, bytes);
             refused("tb_read_judge", number, judged);
-            let part = tb_read_data(shape, R, at, len, no, 0, 3, image, bytes, image, bytes);
+            let part = tb_read_data(size, shape, R, at, len, no, 0, 3, image, bytes, image, bytes);
             refused("tb_read_data", number, part);
         }
     }
@@ -628,24 +709,43 @@ fn null_scratch() {
 
 #[test]
 fn null_images() {
-    let (data, table, mut scratch) = ([0; 512], table(), SCRATCH);
+    let table = table();
     let (at, len) = (table.as_ptr(), table.len());
-    let (to, lent) = (scratch.as_mut_ptr(), scratch.len());
-    // SAFETY: the C face takes null where the length is 0; other pointers are of live slices.
-    unsafe {
-        refused("tb_image_write", 14, tb_image_write(7, 2, null(), 0, false, null_mut(), 0));
-        let written = tb_image_write(7, 2, data.as_ptr(), data.len(), false, null_mut(), 0);
-        refused("tb_image_write", 7, written);
-        refused("tb_image_header", 14, tb_image_header(null(), 0));
-        refused("tb_image_judge", 14, tb_image_judge(null(), 0, 7, 2));
-        let judged = tb_read_judge(SHAPE, R, null(), 0, to, lent, 7, null(), 0, null(), 0);
-        refused("tb_read_judge", 11, judged);
-        let judged = tb_read_judge(SHAPE, R, at, len, to, lent, 7, null(), 0, null(), 0);
-        refused("tb_read_judge", 14, judged);
-        let part = tb_read_data(SHAPE, R, null(), 0, to, lent, 7, null(), 0, null(), 0);
-        refused("tb_read_data", 11, part);
-        let part = tb_read_data(SHAPE, R, at, len, to, lent, 7, null(), 0, null(), 0);
-        refused("tb_read_data", 14, part);
+    for size in SIZES {
+        let (data, mut scratch) = (vec![0; size as usize], SCRATCH);
+        let (to, lent) = (scratch.as_mut_ptr(), scratch.len());
+        // SAFETY: the C face takes null where the length is 0; other pointers are of live slices.
+        unsafe {
+            let written = tb_image_write(size, 7, 2, null(), 0, false, null_mut(), 0);
+            refused("tb_image_write", 14, written);
+            let (from, bytes) = (data.as_ptr(), data.len());
+            let written = tb_image_write(size, 7, 2, from, bytes, false, null_mut(), 0);
+            refused("tb_image_write", 7, written);
+            refused("tb_image_header", 14, tb_image_header(size, null(), 0));
+            refused("tb_image_judge", 14, tb_image_judge(size, null(), 0, 7, 2));
+            for (number, at, len) in [(11, null(), 0), (14, at, len)] {
+                let judged =
+                    tb_read_judge(size, SHAPE, R, at, len, to, lent, 7, null(), 0, null(), 0);
+                refused("tb_read_judge", number, judged);
+                let part = tb_read_data(size, SHAPE, R, at, len, to, lent, 7, null(), 0, null(), 0);
+                refused("tb_read_data", number, part);
+            }
+        }
+        assert_eq!(scratch, CLEARED);
     }
-    assert_eq!(scratch, CLEARED);
+    // Of no size nothing is looked for, and no pointer.
+    for size in NO_SIZES {
+        // SAFETY: the C face takes null where the length is 0; other pointers are of live slices.
+        unsafe {
+            let written = tb_image_write(size, 7, 2, null(), 0, false, null_mut(), 0);
+            refused("tb_image_write", 1, written);
+            refused("tb_image_header", 1, tb_image_header(size, null(), 0));
+            refused("tb_image_judge", 1, tb_image_judge(size, null(), 0, 7, 2));
+            let no = null_mut();
+            let judged = tb_read_judge(size, SHAPE, R, at, len, no, 0, 7, null(), 0, null(), 0);
+            refused("tb_read_judge", 1, judged);
+            let part = tb_read_data(size, SHAPE, R, at, len, no, 0, 7, null(), 0, null(), 0);
+            refused("tb_read_data", 1, part);
+        }
+    }
 }

@@ -1,23 +1,55 @@
 //! Drawn sector images.
 
 use crate::draw::Draw;
-use crate::model::image::{bytes, copy, BLOCKS_MOST, HOME};
+use crate::model::image::{bytes, copy, image_length, BLOCKS_MOST, HOME};
 use crate::model::spares::{ELSEWHERE, PRIMARY};
 
 /// The codes that a header may have.
 pub const CODES: [u32; 3] = [HOME, PRIMARY, ELSEWHERE];
 
+/// The sizes that a sector may have.
+pub const SIZES: [u32; 2] = [512, 576];
+
+/// Numbers that are no size: about the two, between them, as far as may be, and such as are one of the two
+/// where only some of their bits or bytes are looked at.
+pub const NO_SIZES: [u32; 12] =
+    [0, 1, 511, 513, 544, 575, 577, 1_024, 1_088, 65_536 + 512, 65_536 + 576, u32::MAX];
+
+/// The other of the two sizes.
+pub fn other_size(size: u32) -> u32 {
+    SIZES[0] + SIZES[1] - size
+}
+
+/// The size that is given to a call, and the size that what is lent was made for.
+#[derive(Clone, Copy, Debug)]
+pub struct Size {
+    pub given: u32,
+    pub made: u32,
+}
+
 impl Draw {
-    /// 512 bytes: without order, all zero, or zero but for one word.
-    pub fn data(&mut self) -> Vec<u8> {
+    /// Something made for either size, and mostly the same size to give; at times the other one, or none.
+    pub fn any_sector_size(&mut self) -> Size {
+        let made = self.of_these(&SIZES);
+        let given = match self.below(14) {
+            0 => self.of_these(&NO_SIZES),
+            1 => other_size(made),
+            _ => made,
+        };
+        Size { given, made }
+    }
+
+    /// The data of a sector of this size: without order, all zero, or zero but for one byte.
+    pub fn data(&mut self, size: u32) -> Vec<u8> {
+        let size = size as usize;
         match self.below(4) {
-            0 => vec![0; 512],
+            0 => vec![0; size],
             1 => {
-                let mut data = vec![0; 512];
-                data[self.place(512)] = self.any() as u8;
+                let mut data = vec![0; size];
+                data[self.place(size)] = self.any() as u8;
                 data
             }
-            _ => self.bytes(512),
+            _ => self.bytes(size),
         }
     }
 
@@ -83,36 +115,40 @@ impl Draw {
         copy(code, block % BLOCKS_MOST)
     }
 
-    /// An image with this copy in its header, good or forced.
-    pub fn image(&mut self, copy: [u8; 4]) -> Vec<u8> {
-        let data = self.data();
+    /// An image of this size with this copy in its header, good or forced.
+    fn image(&mut self, size: u32, copy: [u8; 4]) -> Vec<u8> {
+        let data = self.data(size);
         let forced = self.one_in(4);
         bytes(copy, &data, forced)
     }
 
     /// The same with none, one or several faults, its length right.
-    pub fn any_image(&mut self, copy: [u8; 4]) -> Vec<u8> {
-        let mut image = self.image(copy);
+    pub fn any_image(&mut self, size: u32, copy: [u8; 4]) -> Vec<u8> {
+        let mut image = self.image(size, copy);
         while self.one_in(2) {
             self.damage_image(&mut image);
         }
         image
     }
 
-    fn damage_image(&mut self, image: &mut [u8]) {
+    /// One fault more in an image of either size.
+    pub fn damage_image(&mut self, image: &mut [u8]) {
         let bit = 1 << self.below(8);
-        match self.below(8) {
+        let end = image.len() - 2;
+        match self.below(9) {
             0 | 1 => image[self.place(16)] ^= bit,
-            2 => image[16 + self.place(512)] ^= bit,
-            3 => image[528 + self.place(2)] ^= bit,
-            4 => image[528..].iter_mut().for_each(|byte| *byte = !*byte),
-            5 => self.rename(image),
-            6 => {
+            2 => image[16 + self.place(end - 16)] ^= bit,
+            // In the last 64 bytes, which an image of 576 has beyond 512.
+            3 => image[end - 64 + self.place(64)] ^= bit,
+            4 => image[end + self.place(2)] ^= bit,
+            5 => image[end..].iter_mut().for_each(|byte| *byte = !*byte),
+            6 => self.rename(image),
+            7 => {
                 // Halves agree in three copies, the whole number in none.
                 image[0] ^= bit;
                 image[7] ^= bit;
             }
-            _ => image[self.place(530)] = self.any() as u8,
+            _ => image[self.place(image.len())] = self.any() as u8,
         }
     }
 
@@ -131,12 +167,27 @@ impl Draw {
         }
     }
 
-    /// Now and then cuts or lengthens bytes that should have a certain length.
-    pub fn any_length(&mut self, bytes: &mut Vec<u8>, often: u32) {
+    /// Now and then cuts or lengthens bytes that should have a certain length, at times to the length that
+    /// they have at the other size.
+    pub fn any_length(&mut self, bytes: &mut Vec<u8>, at_other_size: usize, often: u32) {
         if self.one_in(often) {
             let length = bytes.len();
-            let other = self.of_these(&[0, 1, length - 1, length + 1, 2 * length, length / 2]);
-            bytes.resize(other, 0);
+            let lengths = [
+                0,
+                1,
+                length - 1,
+                length + 1,
+                2 * length,
+                length / 2,
+                at_other_size,
+                at_other_size,
+            ];
+            bytes.resize(self.of_these(&lengths), 0);
         }
+    }
+
+    /// The same for an image of this size.
+    pub fn any_image_length(&mut self, image: &mut Vec<u8>, size: u32, often: u32) {
+        self.any_length(image, image_length(other_size(size)), often);
     }
 }

@@ -1,14 +1,15 @@
 //! The limits, each at its last accepted number and at the first refused.
 
 use tautberry::{
-    format, image, page, shape as shapes, skip, skipped, spares, Cursor, Refusal, CODE_UNIT,
+    format, image, mode, page, shape as shapes, skip, skipped, spares, Cursor, Refusal, CODE_UNIT,
     LIST_MOST, PAGE_MOST, SPARES_MOST, UNITS_MOST,
 };
 
-use crate::drawn_images::CODES;
+use crate::drawn_images::{CODES, SIZES};
 use crate::drawn_nights::Drawn;
 use crate::drawn_shapes::{grouped, groupings, misgrouped, paper, shape};
 use crate::drawn_tables::descriptor;
+use crate::model::image::copy;
 use crate::model::spares::{drive, empty_table, search_order, word, FREE, PRIMARY, UNUSABLE};
 use crate::model::{self, skipping};
 use crate::nights::formatted;
@@ -348,20 +349,60 @@ fn every_spare_dies_under_one_block() {
 /// The last block that a header can say, with each code that it may have, and the first that it cannot.
 #[test]
 fn blocks_of_28_bits() {
-    for code in CODES {
-        for (block, expected) in [(CODE_UNIT - 1, Ok(530)), (CODE_UNIT, Err(5))] {
-            let (mut ours, mut theirs) = ([7; 530], [7; 530]);
-            let library = image::write(block, code, &[0; 512], false, &mut ours);
+    for (code, size) in CODES.into_iter().flat_map(|code| SIZES.map(|size| (code, size))) {
+        let (length, data) = (size + 18, vec![0; size as usize]);
+        for (block, expected) in [(CODE_UNIT - 1, Ok(length)), (CODE_UNIT, Err(5))] {
+            let mut ours = vec![7; length as usize];
+            let mut theirs = ours.clone();
+            let library = image::write(size, block, code, &data, false, &mut ours);
             assert_eq!(library.map_err(Refusal::number), expected, "code {code}");
-            let model = model::image::write(block, code, &[0; 512], false, &mut theirs);
+            let model = model::image::write(size, block, code, &data, false, &mut theirs);
             assert_eq!(model, expected, "code {code}");
             assert_eq!(ours, theirs, "code {code}");
             // In a room that was not written 07070707 stands in the header.
             let judged = expected.map(|_| ()).map_err(|_| 16);
-            let library = image::judge(&ours, block, code).map_err(Refusal::number);
+            let library = image::judge(size, &ours, block, code).map_err(Refusal::number);
             assert_eq!(library, judged, "code {code}");
-            assert_eq!(model::image::judge(&ours, block, code), judged, "code {code}");
+            assert_eq!(model::image::judge(size, &ours, block, code), judged, "code {code}");
         }
+    }
+}
+
+/// The numbers about the two sizes: only the two are one.
+#[test]
+fn sizes_of_512_and_of_576() {
+    for size in (0..=1_200).chain([65_536 + 512, 65_536 + 576, 1 << 31, u32::MAX]) {
+        let data = vec![0; size.min(1_200) as usize];
+        let (mut room, expected) = (vec![7; 1_300], SIZES.contains(&size));
+        let library = image::write(size, 7, 2, &data, false, &mut room);
+        let model = model::image::write(size, 7, 2, &data, false, &mut [7; 1_300]);
+        let answer = if expected { Ok(size + 18) } else { Err(1) };
+        assert_eq!((library.map_err(Refusal::number), model), (answer, answer), "size {size}");
+        let image = &room[..data.len() + 18];
+        let judged = image::judge(size, image, 7, 2).map_err(Refusal::number);
+        assert_eq!(judged, answer.map(|_| ()), "size {size}");
+        assert_eq!(room[..16] == [7; 16], !expected, "size {size}");
+    }
+}
+
+/// The only good copy of the format table lies where its XBN needs more than 16 bits, and no other sector of the
+/// area is good.
+#[test]
+fn a_mode_sector_far_away() {
+    let xbn = 65_537;
+    let mut images = vec![0xA5; xbn * 530];
+    let mut data = vec![0; 512];
+    data[..2].copy_from_slice(&[0x02, 0x40]);
+    images.extend(model::image::bytes(copy(0, xbn as u32), &data, false));
+    for (images, apart, expected) in [
+        (&images[..], 65_537, Ok(576)),
+        (&images[..], 1, Ok(576)),
+        (&images[..], 65_536, Err(21)),
+        (&images[..], 2, Err(21)),
+        (&images[..images.len() - 1], 65_537, Err(21)),
+    ] {
+        assert_eq!(mode::find(images, apart).map_err(Refusal::number), expected, "apart {apart}");
+        assert_eq!(model::mode::find(images, apart), expected, "apart {apart}");
     }
 }
 

@@ -16,6 +16,7 @@ mod draw;
 mod tally;
 
 mod drawn_images;
+mod drawn_modes;
 mod drawn_nights;
 mod drawn_pages;
 mod drawn_shapes;
@@ -24,6 +25,7 @@ mod drawn_tables;
 
 mod images;
 mod limits;
+mod modes;
 mod nights;
 mod order;
 mod pages;

@@ -3,9 +3,10 @@
 //! Each call is given an input with all its faults. Then the faults are mended one after the other in
 //! the order of the checks, and each time the next number must come up, from library and model.
 
-use tautberry::{format, image, page, reading, shape as shapes, skip, skipped, spares, Cursor};
-use tautberry::{Refusal, Shape, LIST_MOST};
+use tautberry::{format, image, mode, page, reading, shape as shapes, skip, skipped, spares};
+use tautberry::{image_length, Cursor, Refusal, Shape, LIST_MOST};
 
+use crate::drawn_images::SIZES;
 use crate::drawn_shapes::{grouped, misgrouped, paper, shape};
 use crate::model;
 use crate::model::format::Night;
@@ -502,54 +503,73 @@ fn first_tables_in_order() {
 
 #[test]
 fn images_in_order() {
-    // The block, the code, the lengths of the data and of the room.
-    let cases = [
-        (268_435_456, 1, 511, 0),
-        (268_435_456, 1, 513, 529),
-        (268_435_456, 1, 512, 529),
-        (268_435_455, 1, 512, 529),
-        (268_435_455, 3, 512, 529),
-        (268_435_455, 3, 512, 530),
-    ];
-    same(
-        "image::write",
-        cases
-            .map(|(block, code, data, room)| {
-                number(image::write(block, code, &vec![0; data], true, &mut vec![0; room]))
-            })
-            .to_vec(),
-        cases
-            .map(|(block, code, data, room)| {
-                let room = &mut vec![0; room];
-                paper_number(model::image::write(block, code, &vec![0; data], true, room))
-            })
-            .to_vec(),
-        &[14, 14, 5, 22, 7, 0],
-    );
+    for size in SIZES {
+        let (length, fits) = (size as usize, image_length(size));
+        // The size, the block, the code, the lengths of the data and of the room.
+        let cases = [
+            (size + 1, 268_435_456, 1, length - 1, 0),
+            (size, 268_435_456, 1, length - 1, 0),
+            (size, 268_435_456, 1, length + 1, fits - 1),
+            (size, 268_435_456, 1, length, fits - 1),
+            (size, 268_435_455, 1, length, fits - 1),
+            (size, 268_435_455, 3, length, fits - 1),
+            (size, 268_435_455, 3, length, fits),
+        ];
+        same(
+            "image::write",
+            cases
+                .map(|(size, block, code, data, room)| {
+                    let (data, room) = (vec![0; data], &mut vec![0; room]);
+                    number(image::write(size, block, code, &data, true, room))
+                })
+                .to_vec(),
+            cases
+                .map(|(size, block, code, data, room)| {
+                    let (data, room) = (vec![0; data], &mut vec![0; room]);
+                    paper_number(model::image::write(size, block, code, &data, true, room))
+                })
+                .to_vec(),
+            &[1, 14, 14, 5, 22, 7, 0],
+        );
 
-    let images = faulty_images();
-    same(
-        "image::header",
-        images.iter().map(|image| number(image::header(image))).collect(),
-        images.iter().map(|image| paper_number(model::image::header(image))).collect(),
-        &[14, 15, 16, 0, 0, 0, 0, 0],
-    );
-    same(
-        "image::judge",
-        images.iter().map(|image| number(image::judge(image, 7, 2))).collect(),
-        images.iter().map(|image| paper_number(model::image::judge(image, 7, 2))).collect(),
-        &[14, 15, 16, 16, 16, 18, 17, 0],
-    );
+        // The first image once more with a size that is none, and then each with its own.
+        let images = faulty_images(size);
+        let sized: Vec<(u32, &Vec<u8>)> = [(size - 1, &images[0])]
+            .into_iter()
+            .chain(images.iter().map(|image| (size, image)))
+            .collect();
+        let ask = |call: &dyn Fn(u32, &[u8]) -> u32| -> Vec<u32> {
+            sized.iter().map(|(size, image)| call(*size, image)).collect()
+        };
+        same(
+            "image::header",
+            ask(&|size, image| number(image::header(size, image))),
+            ask(&|size, image| paper_number(model::image::header(size, image))),
+            &[1, 14, 15, 16, 0, 0, 0, 0, 0],
+        );
+        same(
+            "image::judge",
+            ask(&|size, image| number(image::judge(size, image, 7, 2))),
+            ask(&|size, image| paper_number(model::image::judge(size, image, 7, 2))),
+            &[1, 14, 15, 16, 16, 16, 18, 17, 0],
+        );
+        same(
+            "image::data",
+            ask(&|size, image| number(image::data(size, image, 7, 2))),
+            ask(&|size, image| paper_number(model::image::data(size, image, 7, 2))),
+            &[1, 14, 15, 16, 16, 16, 18, 17, 0],
+        );
+    }
 }
 
 /// Images of block 7 with code 2, with ever fewer faults: length, header, a fourth code, another block, another
 /// code, the code of the data, forced, good.
-fn faulty_images() -> Vec<Vec<u8>> {
-    let copy = model::image::copy(2, 7);
-    let good = model::image::bytes(copy, &[0; 512], false);
-    let forced = model::image::bytes(copy, &[0; 512], true);
+fn faulty_images(size: u32) -> Vec<Vec<u8>> {
+    let (copy, data) = (model::image::copy(2, 7), vec![0; size as usize]);
+    let good = model::image::bytes(copy, &data, false);
+    let forced = model::image::bytes(copy, &data, true);
     let mut bad_code = forced.clone();
-    bad_code[529] ^= 1;
+    bad_code[good.len() - 1] ^= 1;
     let naming = |number: u32| {
         let mut image = bad_code.clone();
         image[..12].copy_from_slice(&number.to_be_bytes().repeat(3));
@@ -565,44 +585,69 @@ fn faulty_images() -> Vec<Vec<u8>> {
 }
 
 #[test]
+fn mode_in_order() {
+    let good = model::image::bytes([0; 4], &[&[2, 64][..], &[0; 510]].concat(), false);
+    let cases = [(&[][..], 0), (&good[..], 0), (&good[1..], 1), (&[], 1), (&good, 1)];
+    same(
+        "mode::find",
+        cases.map(|(images, apart)| number(mode::find(images, apart))).to_vec(),
+        cases.map(|(images, apart)| paper_number(model::mode::find(images, apart))).to_vec(),
+        &[1, 1, 21, 21, 0],
+    );
+}
+
+#[test]
 fn reads_in_order() {
+    for size in SIZES {
+        reads_of_a_size_in_order(size);
+    }
+}
+
+fn reads_of_a_size_in_order(size: u32) {
     // A block on its spare: the home image is noise and not looked into.
     let (drive, table) = (shape(2, 2, 5), table_of_8());
-    let track = 5 * 530;
+    let length = image_length(size);
+    let track = 5 * length;
     let noise = vec![0xA5; track];
-    let mut cases = Vec::new();
     let mut by_table = tables();
     // All but the row that is refused nothing.
     by_table.pop();
+    // The size is looked at before the first fault of the drive.
+    let mut cases = vec![(size + 1, tables().remove(0), noise.clone(), vec![0; 3])];
     for asked in by_table {
-        cases.push((asked, noise.clone(), vec![0; 3]));
+        cases.push((size, asked, noise.clone(), vec![0; 3]));
     }
     let proper = || {
         let (table, scratch) = (table.clone(), vec![u32::MAX; 8]);
         Asked { drive, r: 2, table, scratch, number: 7 }
     };
-    cases.push((proper(), vec![0xA5; track + 1], noise.clone()));
-    cases.push((proper(), noise.clone(), vec![0xA5; track - 1]));
-    for image in faulty_images().into_iter().skip(1) {
+    cases.push((size, proper(), vec![0xA5; track + 1], noise.clone()));
+    cases.push((size, proper(), noise.clone(), vec![0xA5; track - 1]));
+    for image in faulty_images(size).into_iter().skip(1) {
         // Block 7 lies on place 4, which is sector 3 of its track.
         let mut spare = noise.clone();
-        spare[3 * 530..4 * 530].copy_from_slice(&image);
-        cases.push((proper(), noise.clone(), spare));
+        spare[3 * length..4 * length].copy_from_slice(&image);
+        cases.push((size, proper(), noise.clone(), spare));
     }
-    let expected = [1, 1, 1, 1, 1, 7, 7, 7, 11, 11, 5, 14, 14, 15, 16, 16, 16, 18, 17, 0];
-    for ((asked, home, spare), expected) in cases.iter().zip(expected) {
+    // Nothing but the size is at fault, and then nothing at all.
+    let (_, _, home, spare) = cases.last().expect("a good image");
+    let no_size = (512 + 576, proper(), home.clone(), spare.clone());
+    cases.insert(cases.len() - 1, no_size);
+    let expected = [1, 1, 1, 1, 1, 1, 7, 7, 7, 11, 11, 5, 14, 14, 15, 16, 16, 16, 18, 17, 1, 0];
+    for ((size, asked, home, spare), expected) in cases.iter().zip(expected) {
         let Asked { drive, r, table, scratch, number: block } = asked;
+        let (size, drive, r, block) = (*size, *drive, *r, *block);
         let left = left(scratch, expected);
         let mut lent = scratch.clone();
-        let judged = reading::judge(*drive, *r, table, &mut lent, *block, home, spare);
+        let judged = reading::judge(size, drive, r, table, &mut lent, block, home, spare);
         assert_eq!((number(judged), &lent), (expected, &left), "reading::judge");
         let mut lent = scratch.clone();
-        let spot = reading::spot(*drive, *r, table, &mut lent, *block, home, spare);
+        let spot = reading::spot(size, drive, r, table, &mut lent, block, home, spare);
         assert_eq!((number(spot), &lent), (expected, &left), "reading::spot");
         let mut lent = scratch.clone();
-        let part = reading::data(*drive, *r, table, &mut lent, *block, home, spare);
+        let part = reading::data(size, drive, r, table, &mut lent, block, home, spare);
         assert_eq!((number(part), &lent), (expected, &left), "reading::data");
-        let read = Read { shape: paper(*drive), r: *r, table, block: *block, home, spare };
+        let read = Read { size, shape: paper(drive), r, table, block, home, spare };
         let mut lent = scratch.clone();
         let model = model::image::spot(read, &mut lent);
         assert_eq!((paper_number(model), &lent), (expected, &left), "the model's read");

@@ -2,11 +2,12 @@
 
 use tautberry::image::{self, Head};
 use tautberry::reading::{self, Track};
-use tautberry::{format, page, shape as shapes, skip, skipped, spares, Refusal, Shape};
+use tautberry::{format, mode, page, shape as shapes, skip, skipped, spares, Refusal, Shape};
 
+use crate::drawn_images::{other_size, NO_SIZES, SIZES};
 use crate::drawn_nights::Drawn;
 use crate::drawn_shapes::{grouped, paper, shape, CUSTOMERS};
-use crate::model::image::Read;
+use crate::model::image::{bytes, copy, data_code, image_length, Read};
 use crate::model::{self, skipping};
 use crate::nights::formatted;
 use crate::shape_calls::{every_call_gives, every_table_call_gives, Rest};
@@ -435,29 +436,41 @@ fn the_last_block_named_twice() {
     every_table_call_gives(drive.0, &rest, |_| 11, &[0; 65_536]);
 }
 
-#[test]
-fn the_codes() {
-    let zeros = [0; 512];
-    let (mut first, mut last) = (zeros, zeros);
-    first[1] = 1;
-    last[511] = 1;
-    let rows = [
-        (zeros, false, [0x5A, 0x3C]),
-        (first, false, [0xDA, 0x3C]),
-        (last, false, [0x5A, 0x3D]),
-        (zeros, true, [0xA5, 0xC3]),
-    ];
-    for (data, forced, code) in rows {
-        let mut room = [0; 530];
-        assert_eq!(image::write(9, 0, &data, forced, &mut room), Ok(530));
-        assert_eq!(room[528..], code);
-        assert_eq!(model::image::bytes([0, 0, 0, 9], &data, forced)[528..], code);
-    }
+/// The code of data, written good or forced, by the library and by the model.
+fn has_code(data: &[u8], forced: bool, code: u16) {
+    let size = data.len() as u32;
+    let mut room = vec![0; image_length(size)];
+    assert_eq!(image::write(size, 9, 0, data, forced, &mut room), Ok(size + 18));
+    assert_eq!(room[room.len() - 2..], code.to_be_bytes(), "{size} bytes, forced {forced}");
+    assert_eq!(bytes([0, 0, 0, 9], data, forced), room, "{size} bytes, forced {forced}");
 }
 
-/// An image of zeros with these four numbers in its header.
-fn image_of(copies: [u32; 4]) -> Vec<u8> {
-    let mut image = model::image::bytes([0; 4], &[0; 512], false);
+#[test]
+fn the_codes() {
+    for size in SIZES {
+        let zeros = vec![0; size as usize];
+        let (mut first, mut last) = (zeros.clone(), zeros.clone());
+        first[1] = 1;
+        last[size as usize - 1] = 1;
+        has_code(&zeros, false, 0x5A3C);
+        has_code(&zeros, true, 0xA5C3);
+        has_code(&first, false, 0xDA3C);
+        has_code(&last, false, 0x5A3D);
+    }
+    has_code(&thousands(), false, 0xA541);
+    has_code(&thousands(), true, 0x5ABE);
+    has_code(&mode_data(0x0200), false, 0x5B3C);
+    has_code(&mode_data(0x0240), false, 0x5B1C);
+}
+
+/// 576 bytes: word i is 1000 i, in 16 bits.
+fn thousands() -> Vec<u8> {
+    (0..288).flat_map(|word: u32| ((1_000 * word) as u16).to_be_bytes()).collect()
+}
+
+/// An image of zeros of this size with these four numbers in its header.
+fn image_of(size: u32, copies: [u32; 4]) -> Vec<u8> {
+    let mut image = bytes([0; 4], &vec![0; size as usize], false);
     let header = copies.map(u32::to_be_bytes);
     image[..16].copy_from_slice(header.as_flattened());
     image
@@ -473,16 +486,21 @@ fn the_headers() {
         (268_435_455, 3, [0x3F, 0xFF, 0xFF, 0xFF]),
         (268_435_455, 0, [0x0F, 0xFF, 0xFF, 0xFF]),
     ];
-    for (block, code, copy) in rows {
+    for (size, (block, code, copy)) in
+        SIZES.into_iter().flat_map(|size| rows.map(|row| (size, row)))
+    {
+        let data = vec![0; size as usize];
         let mut expected = copy.repeat(4);
-        expected.extend([0; 512]);
+        expected.extend(&data);
         expected.extend([0x5A, 0x3C]);
-        let (mut ours, mut theirs) = ([7; 530], [7; 530]);
-        assert_eq!(image::write(block, code, &[0; 512], false, &mut ours), Ok(530));
-        assert_eq!(model::image::write(block, code, &[0; 512], false, &mut theirs), Ok(530));
-        assert!(ours[..] == expected && theirs[..] == expected, "block {block}, code {code}");
-        assert_eq!(image::header(&ours), Ok(Head { code, block }));
-        assert_eq!(model::image::header(&ours), Ok((code, block)));
+        let mut ours = vec![7; image_length(size)];
+        let mut theirs = ours.clone();
+        assert_eq!(image::write(size, block, code, &data, false, &mut ours), Ok(size + 18));
+        let model = model::image::write(size, block, code, &data, false, &mut theirs);
+        assert_eq!(model, Ok(size + 18));
+        assert!(ours == expected && theirs == expected, "block {block}, code {code}");
+        assert_eq!(image::header(size, &ours), Ok(Head { code, block }));
+        assert_eq!(model::image::header(size, &ours), Ok((code, block)));
     }
 }
 
@@ -503,38 +521,56 @@ fn headers_of_four_copies() {
         ([0x8000_0000; 4], Err(16)),
         ([0xFFFF_FFFF; 4], Err(16)),
     ];
-    for (copies, expected) in rows {
-        let image = image_of(copies);
-        let library = image::header(&image).map(|Head { code, block }| (code, block));
-        assert_eq!(library.map_err(Refusal::number), expected, "{copies:08X?}");
-        assert_eq!(model::image::header(&image), expected, "{copies:08X?}");
+    for (size, (copies, expected)) in SIZES.into_iter().flat_map(|size| rows.map(|row| (size, row)))
+    {
+        let image = image_of(size, copies);
+        let says = |size: u32, expected: Result<(u32, u32), u32>| {
+            let library = image::header(size, &image).map(|Head { code, block }| (code, block));
+            assert_eq!(library.map_err(Refusal::number), expected, "{copies:08X?}, size {size}");
+            assert_eq!(model::image::header(size, &image), expected, "{copies:08X?}, size {size}");
+        };
+        says(size, expected);
+        says(other_size(size), Err(14));
+        NO_SIZES.map(|none| says(none, Err(1)));
     }
 }
 
 #[test]
 fn images_that_are_not_written() {
-    // The block, the code, the lengths of the data and of the room, and the number.
-    let rows = [
-        (268_435_456, 1, 511, 530, 14),
-        (268_435_456, 1, 512, 530, 5),
-        (268_435_456, 0, 512, 530, 5),
-        (4_294_967_295, 3, 512, 530, 5),
-        (7, 1, 512, 530, 22),
-        (7, 4, 512, 530, 22),
-        (7, 15, 512, 530, 22),
-        (7, 16, 512, 530, 22),
-        (7, 18, 512, 530, 22),
-        (7, 1, 512, 529, 22),
-        (7, 2, 512, 529, 7),
-    ];
-    for (block, code, data, length, expected) in rows {
+    // The size, the block, the code, the lengths of the data and of the room, and the number.
+    let mut rows = vec![];
+    for size in SIZES {
+        let (data, room) = (size as usize, image_length(size));
+        rows.extend([
+            (size, 268_435_456, 1, data - 1, room, 14),
+            (size, 268_435_456, 1, other_size(size) as usize, room, 14),
+            (size, 7, 2, other_size(size) as usize, 594, 14),
+            (size, 268_435_456, 1, data, room, 5),
+            (size, 268_435_456, 0, data, room, 5),
+            (size, 4_294_967_295, 3, data, room, 5),
+            (size, 7, 1, data, room, 22),
+            (size, 7, 4, data, room, 22),
+            (size, 7, 15, data, room, 22),
+            (size, 7, 16, data, room, 22),
+            (size, 7, 18, data, room, 22),
+            (size, 7, 1, data, room - 1, 22),
+            (size, 7, 2, data, room - 1, 7),
+        ]);
+    }
+    for size in NO_SIZES {
+        rows.push((size, 268_435_456, 1, 511, 529, 1));
+        rows.push((size, 7, 2, 512, 530, 1));
+        rows.push((size, 7, 2, 576, 594, 1));
+    }
+    for (size, block, code, data, length, expected) in rows {
+        let case = format!("size {size}, block {block}, code {code}");
         let data = vec![0; data];
         let (mut ours, mut theirs) = (vec![7; length], vec![7; length]);
-        let library = image::write(block, code, &data, false, &mut ours);
-        assert_eq!(library.map_err(Refusal::number), Err(expected), "block {block}, code {code}");
-        let model = model::image::write(block, code, &data, false, &mut theirs);
-        assert_eq!(model, Err(expected), "block {block}, code {code}");
-        assert_eq!((&ours, &theirs), (&vec![7; length], &vec![7; length]));
+        let library = image::write(size, block, code, &data, false, &mut ours);
+        assert_eq!(library.map_err(Refusal::number), Err(expected), "{case}");
+        let model = model::image::write(size, block, code, &data, false, &mut theirs);
+        assert_eq!(model, Err(expected), "{case}");
+        assert_eq!((&ours, &theirs), (&vec![7; length], &vec![7; length]), "{case}");
     }
 }
 
@@ -560,30 +596,55 @@ fn the_pairs_that_an_image_is_not_of() {
         (0x3FFF_FFFF, 268_435_455, 3, 0),
     ];
     for (number, block, code, expected) in rows {
-        let image = image_of([number; 4]);
         let case = format!("{number:08X}, block {block}, code {code}");
-        let expected = if expected == 0 { Ok(()) } else { Err(expected) };
-        let library = image::judge(&image, block, code).map_err(Refusal::number);
-        assert_eq!(library, expected, "{case}");
-        assert_eq!(model::image::judge(&image, block, code), expected, "{case}");
-        let part = image::data(&image, block, code).map_err(Refusal::number);
-        assert_eq!(part, expected.map(|_| &image[16..528]), "{case}");
-        assert_eq!(model::image::data(&image, block, code), part, "{case}");
+        for size in SIZES {
+            let image = image_of(size, [number; 4]);
+            judged(size, &image, (block, code), expected, &case);
+            // Of no size and at the other size the same image is refused before its header is looked at.
+            judged(other_size(size), &image, (block, code), 14, &case);
+            for none in NO_SIZES {
+                judged(none, &image, (block, code), 1, &case);
+            }
+        }
     }
     // Without three copies that agree it is 15, whatever is expected.
-    let image = image_of([0x2000_0007, 0x2000_0007, 0x0000_0007, 0x0000_0007]);
-    for (block, code) in [(7, 0), (7, 2), (7, 1), (268_435_463, 1)] {
-        assert_eq!(image::judge(&image, block, code), Err(Refusal::NoAddress));
-        assert_eq!(model::image::judge(&image, block, code), Err(15));
+    for size in SIZES {
+        let image = image_of(size, [0x2000_0007, 0x2000_0007, 0x0000_0007, 0x0000_0007]);
+        for (block, code) in [(7, 0), (7, 2), (7, 1), (268_435_463, 1)] {
+            judged(size, &image, (block, code), 15, "two copies against two");
+        }
     }
+}
+
+/// Library and model must judge an image so, 0 for good, and hand back its data where it is good.
+fn judged(size: u32, image: &[u8], (block, code): (u32, u32), expected: u32, case: &str) {
+    let data = if expected == 0 { Ok(&image[16..image.len() - 2]) } else { Err(expected) };
+    let library = image::judge(size, image, block, code).map_err(Refusal::number);
+    assert_eq!(library, data.map(|_| ()), "{case}");
+    assert_eq!(model::image::judge(size, image, block, code), library, "{case}");
+    let part = image::data(size, image, block, code).map_err(Refusal::number);
+    assert_eq!(part, data, "{case}");
+    assert_eq!(model::image::data(size, image, block, code), part, "{case}");
+}
+
+/// Two images of 576 that differ in the last 64 bytes alone: one is good, and the other is not. With the code of
+/// the first 512 bytes behind it, an image of 576 is not good.
+#[test]
+fn the_last_64_bytes() {
+    let good = bytes(copy(2, 7), &thousands(), false);
+    let mut other = good.clone();
+    other[16 + 512..16 + 576].fill(0);
+    judged(576, &good, (7, 2), 0, "as written");
+    judged(576, &other, (7, 2), 18, "with other bytes at its end");
+    let mut short_code = good.clone();
+    short_code[592..].copy_from_slice(&data_code(&thousands()[..512]).to_be_bytes());
+    judged(576, &short_code, (7, 2), 18, "with the code of 512 bytes");
 }
 
 /// Block 7 at place 4, block 8 at place 5, block 6 at home: sectors 3, 4 and 0 of their track. The other image
 /// is noise.
 #[test]
 fn reads_by_the_code_of_the_table() {
-    let (shape, r) = EIGHT_SPARES;
-    let table = table_of([0, 0, 0, 0, 0x2000_0007, 0x3000_0008, 0, 0]);
     let rows = [
         (7, 3, 0x2000_0007, 0),
         (7, 3, 0x3000_0007, 16),
@@ -599,32 +660,157 @@ fn reads_by_the_code_of_the_table() {
         (6, 0, 0x3000_0006, 16),
         (6, 0, 0x8000_0006, 16),
     ];
-    for (block, sector, number, expected) in rows {
-        let case = format!("block {block}, {number:08X}");
-        let mut track = vec![0xA5; 5 * 530];
-        track[sector * 530..][..530].copy_from_slice(&image_of([number; 4]));
-        let noise = vec![0xA5; 5 * 530];
+    for (size, (block, sector, number, expected)) in
+        SIZES.into_iter().flat_map(|size| rows.map(|row| (size, row)))
+    {
+        let case = format!("block {block}, {number:08X}, size {size}");
+        let length = image_length(size);
+        let mut track = vec![0xA5; 5 * length];
+        track[sector * length..][..length].copy_from_slice(&image_of(size, [number; 4]));
+        let noise = vec![0xA5; 5 * length];
         let (home, spare) = if block == 6 { (&track, &noise) } else { (&noise, &track) };
-        let mut scratches = [(); 6].map(|_| scratch(EIGHT_SPARES));
-        let [first, second, third, fourth, fifth, sixth] = &mut scratches;
-        let read = Read { shape: paper(shape), r, table: &table, block, home, spare };
-        let offset = (sector * 530 + 16) as u32;
-        let spot = (u32::from(block != 6), offset);
-        let answer = |spot| if expected == 0 { Ok(spot) } else { Err(expected) };
+        let spot = (u32::from(block != 6), (sector * length + 16) as u32);
+        let answer = if expected == 0 { Ok(spot) } else { Err(expected) };
+        reads_so(size, block, (home, spare), answer, &case);
+        // At the other size both images are too long or too short, and of no size nothing is looked at.
+        reads_so(other_size(size), block, (home, spare), Err(14), &case);
+        for none in NO_SIZES {
+            reads_so(none, block, (home, spare), Err(1), &case);
+        }
+        // One image of the right length, and one of the other size.
+        let other = vec![0xA5; 5 * image_length(other_size(size))];
+        reads_so(size, block, (home, &other), Err(14), &case);
+        reads_so(size, block, (&other, spare), Err(14), &case);
+    }
+}
 
-        let judged = reading::judge(shape, r, &table, first, block, home, spare);
-        assert_eq!(judged.map_err(Refusal::number).map(|_| spot), answer(spot), "{case}");
-        assert_eq!(model::image::judge_read(read, second).map(|_| spot), answer(spot), "{case}");
-        let lies = reading::spot(shape, r, &table, third, block, home, spare);
-        let lies = lies.map(|spot| (u32::from(spot.track == Track::Spare), spot.offset));
-        assert_eq!(lies.map_err(Refusal::number), answer(spot), "{case}");
-        assert_eq!(model::image::spot(read, fourth), answer(spot), "{case}");
-        let part = reading::data(shape, r, &table, fifth, block, home, spare);
-        let part = part.map_err(Refusal::number);
-        assert_eq!(part, answer(spot).map(|_| &track[offset as usize..][..512]), "{case}");
-        assert_eq!(model::image::read_data(read, sixth), part, "{case}");
+/// Library and model must find the data of a block of the drive of eight spares here, or refuse it so. The
+/// scratch is kept where the size is none, and else it is zeros.
+fn reads_so(
+    size: u32,
+    block: u32,
+    (home, spare): (&[u8], &[u8]),
+    answer: Result<(u32, u32), u32>,
+    case: &str,
+) {
+    let (shape, r) = EIGHT_SPARES;
+    let table = table_of([0, 0, 0, 0, 0x2000_0007, 0x3000_0008, 0, 0]);
+    let mut scratches = [(); 6].map(|_| scratch(EIGHT_SPARES));
+    let before = scratches.clone();
+    let [first, second, third, fourth, fifth, sixth] = &mut scratches;
+    let read = Read { size, shape: paper(shape), r, table: &table, block, home, spare };
+
+    let judged = reading::judge(size, shape, r, &table, first, block, home, spare);
+    assert_eq!(judged.map_err(Refusal::number), answer.map(|_| ()), "{case}");
+    assert_eq!(model::image::judge_read(read, second), answer.map(|_| ()), "{case}");
+    let lies = reading::spot(size, shape, r, &table, third, block, home, spare);
+    let lies = lies.map(|spot| (u32::from(spot.track == Track::Spare), spot.offset));
+    assert_eq!(lies.map_err(Refusal::number), answer, "{case}");
+    assert_eq!(model::image::spot(read, fourth), answer, "{case}");
+    let part = reading::data(size, shape, r, &table, fifth, block, home, spare);
+    let part = part.map_err(Refusal::number);
+    let expected = answer.map(|(image, offset)| {
+        let track = if image == 0 { home } else { spare };
+        &track[offset as usize..][..size as usize]
+    });
+    assert_eq!(part, expected, "{case}");
+    assert_eq!(model::image::read_data(read, sixth), part, "{case}");
+    if answer == Err(1) {
+        assert_eq!(scratches, before, "{case}");
+    } else {
         assert_eq!(scratches, [(); 6].map(|_| vec![0; 8]), "{case}");
     }
+}
+
+/// The data of a mode sector: this first word, and zeros.
+fn mode_data(word: u16) -> Vec<u8> {
+    let mut data = word.to_be_bytes().to_vec();
+    data.resize(512, 0);
+    data
+}
+
+/// The image of a mode sector that is headed by an XBN with code 0, with this first word.
+fn mode_sector(xbn: u32, word: u16) -> Vec<u8> {
+    bytes(copy(0, xbn), &mode_data(word), false)
+}
+
+/// The same, with a fault.
+fn forced(xbn: u32, word: u16) -> Vec<u8> {
+    bytes(copy(0, xbn), &mode_data(word), true)
+}
+
+fn damaged(xbn: u32, word: u16) -> Vec<u8> {
+    let mut image = mode_sector(xbn, word);
+    image[16 + 300] ^= 4;
+    image
+}
+
+fn headed(code: u32, block: u32, word: u16) -> Vec<u8> {
+    bytes(copy(code, block), &mode_data(word), false)
+}
+
+/// Library and model must find this size in images that lie one after another, or refuse so.
+fn finds(images: &[Vec<u8>], apart: u32, expected: Result<u32, u32>) {
+    let images = images.concat();
+    assert_eq!(mode::find(&images, apart).map_err(Refusal::number), expected, "apart {apart}");
+    assert_eq!(model::mode::find(&images, apart), expected, "apart {apart}");
+}
+
+#[test]
+fn the_mode_sector() {
+    let noise = || vec![0xA5; 530];
+    finds(&[mode_sector(0, 0x0240)], 1, Ok(576));
+    finds(&[mode_sector(0, 0x0200)], 7, Ok(512));
+    finds(&[forced(0, 0x0200), mode_sector(1, 0x0200), mode_sector(2, 0x0240)], 2, Ok(576));
+    finds(&[mode_sector(0, 0x0201), mode_sector(1, 0x0200)], 1, Ok(512));
+    finds(&[headed(2, 0, 0x0200), mode_sector(1, 0x0240)], 1, Ok(576));
+    finds(&[headed(3, 0, 0x0200), mode_sector(1, 0x0240)], 1, Ok(576));
+    finds(&[headed(1, 0, 0x0200), mode_sector(1, 0x0240)], 1, Ok(576));
+    // The first copy that says a size is taken, whatever the others say.
+    finds(&[mode_sector(0, 0x0200), mode_sector(1, 0x0240)], 1, Ok(512));
+    finds(&[mode_sector(0, 0x0240), mode_sector(1, 0x0200)], 1, Ok(576));
+    finds(&[noise(), mode_sector(1, 0x0240), mode_sector(2, 0x0200)], 2, Ok(512));
+    // A copy is headed by its XBN, and not by its own number or by 0.
+    finds(&[noise(), noise(), headed(0, 1, 0x0200), noise(), mode_sector(4, 0x0240)], 2, Ok(576));
+    finds(&[noise(), headed(0, 0, 0x0200), mode_sector(2, 0x0240)], 1, Ok(576));
+    // Words beside the two, and the two with their bytes exchanged.
+    for word in [0x0000, 0x0002, 0x01FF, 0x0201, 0x023F, 0x0241, 0x0400, 0x4002, 0xFFFF] {
+        finds(&[mode_sector(0, word)], 1, Err(21));
+        finds(&[mode_sector(0, word), mode_sector(1, 0x0240)], 1, Ok(576));
+    }
+    // What follows the copy may be cut short, also far from it.
+    finds(&[mode_sector(0, 0x0240), vec![0; 529]], 1, Ok(576));
+    finds(&[mode_sector(0, 0x0240), vec![7]], 3, Ok(576));
+    // The area has sectors of 512. One of 576 that says so is none.
+    let mut wide = mode_data(0x0240);
+    wide.resize(576, 0);
+    finds(&[bytes(copy(0, 0), &wide, false)], 1, Err(21));
+}
+
+#[test]
+fn no_mode_sector() {
+    let cut = |mut image: Vec<u8>| {
+        image.pop();
+        image
+    };
+    for images in [vec![], vec![mode_sector(0, 0x0240)], vec![vec![0xA5; 529]]] {
+        finds(&images, 0, Err(1));
+    }
+    for apart in [1, 2, 529, 530, u32::MAX] {
+        finds(&[], apart, Err(21));
+        finds(&[cut(mode_sector(0, 0x0240))], apart, Err(21));
+        finds(&[mode_sector(0, 0x0240)], apart, Ok(576));
+        finds(&[mode_sector(0, 0x0200), vec![7; 100]], apart, Ok(512));
+        finds(&[mode_sector(1, 0x0200)], apart, Err(21));
+    }
+    // A wrong code at 0, and XBN 1 headed 0.
+    finds(&[headed(2, 0, 0x0240), headed(0, 0, 0x0240)], 1, Err(21));
+    finds(&[damaged(0, 0x0240), mode_sector(1, 0x0240)], 2, Err(21));
+    finds(&[damaged(0, 0x0240), cut(mode_sector(1, 0x0240))], 1, Err(21));
+    finds(&[damaged(0, 0x0240), mode_sector(1, 0x0240)], 1, Ok(576));
+    finds(&[forced(0, 0x0240)], 1, Err(21));
+    finds(&[forced(0, 0x0240), forced(1, 0x0200)], 1, Err(21));
+    finds(&[vec![0xA5; 530], vec![0; 530], vec![0xFF; 530]], 1, Err(21));
 }
 
 #[test]

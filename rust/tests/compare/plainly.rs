@@ -5,6 +5,7 @@ use crate::drawn_nights::Drawn;
 use crate::drawn_shapes::paper;
 use crate::images::judges_like_the_model;
 use crate::model::{self, skipping};
+use crate::modes::finds_like_the_model;
 use crate::nights::formats_like_the_model;
 use crate::pages::{reads_like_the_model, writes_like_the_model};
 use crate::plain;
@@ -54,6 +55,11 @@ fn plain_spare_sector() {
 #[test]
 fn plain_judge() {
     judges_like_the_model("plain::judge", SEEDS, plain::judge);
+}
+
+#[test]
+fn plain_find_mode() {
+    finds_like_the_model("plain::find_mode", SEEDS, plain::find_mode);
 }
 
 #[test]

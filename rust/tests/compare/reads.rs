@@ -1,20 +1,25 @@
 //! Reads of revectored blocks against the model.
 
-use tautberry::reading::{self, Track};
+use std::fmt::Debug;
 
-use crate::draw::Draw;
+use tautberry::reading::{self, Track};
+use tautberry::Refusal;
+
+use crate::draw::{Draw, Scratch};
+use crate::drawn_images::{other_size, Size, SIZES};
 use crate::drawn_shapes::paper;
 use crate::drawn_tables::Tabled;
 use crate::model;
-use crate::model::image::{Read, HOME};
+use crate::model::image::{image_length, Read, HOME};
 use crate::model::spares::{allocated, Drive, ELSEWHERE, PRIMARY};
 use crate::order::number;
 use crate::tally::Tally;
 
 const SEEDS: u64 = 36_000;
 
-/// A drive with its table, a block, and two track images.
+/// A drive with the size of its sectors and its table, a block, and two track images.
 struct Drawn {
+    size: Size,
     tabled: Tabled,
     block: u32,
     home: Vec<u8>,
@@ -22,9 +27,26 @@ struct Drawn {
 }
 
 impl Drawn {
-    /// What the calls are asked.
-    fn asked(&self) -> (&Tabled, Option<u32>) {
-        (&self.tabled, Some(self.block))
+    /// Holds the answer of a call, and the scratch after it, to the model. Where the size is none, nothing
+    /// else is looked at, and the scratch is kept.
+    fn same<T: Copy + PartialEq + Debug>(
+        &self,
+        tally: &mut Tally,
+        seed: u64,
+        scratch: &Scratch,
+        library: Result<T, Refusal>,
+        model: Result<T, u32>,
+    ) {
+        tally.count_size(self.size, number(library));
+        if SIZES.contains(&self.size.given) {
+            let asked = (&self.tabled, Some(self.block));
+            tally.same_on_table(seed, asked, scratch, library, model);
+            self.count_header(tally, number(library));
+        } else {
+            tally.same(seed, library, model);
+            assert!(!scratch.written(), "scratch is written at seed {seed}");
+            assert!(scratch.library == scratch.model, "the model writes scratch at seed {seed}");
+        }
     }
 
     /// Counts the header that the block has where it lies, once the checks before it have passed.
@@ -38,13 +60,14 @@ impl Drawn {
             None => (&self.home, self.block % drive.l),
             Some(place) => (&self.spare, drive.l + place % drive.r),
         };
-        let start = sector as usize * 530;
+        let length = image_length(self.size.given);
         let expected = (code_at(*drive, place, self.block), self.block);
-        tally.count_header(&track[start..start + 530], expected, given);
+        tally.count_header(&track[sector as usize * length..][..length], expected, given);
     }
 
     fn paper(&self) -> Read<'_> {
         Read {
+            size: self.size.given,
             shape: paper(self.tabled.shape),
             r: self.tabled.r,
             table: &self.tabled.table,
@@ -67,13 +90,15 @@ fn code_at(drive: Drive, place: Option<u32>, block: u32) -> u32 {
 /// Both images hold an image of the block where it would lie, good or damaged, often with the code that it
 /// must have there; all else is noise.
 fn any_read(draw: &mut Draw) -> Drawn {
+    let size = draw.any_sector_size();
     let tabled = draw.any_tabled();
     let drive = tabled.drive;
     let named: Vec<u32> = tabled.table.iter().filter_map(|word| allocated(*word)).collect();
     let on_any_spare = !named.is_empty() && draw.one_in(3);
     let block = if on_any_spare { draw.of_these(&named) } else { draw.block_of(&tabled) };
     let place = drive.place_of(&tabled.table, block);
-    let track = drive.shape.s as usize * 530;
+    let length = image_length(size.made);
+    let track = drive.shape.s as usize * length;
     let (mut home, mut spare) = (draw.bytes(track), draw.bytes(track));
     let on_home = if draw.one_in(12) { draw.below(drive.shape.s) } else { block % drive.l };
     let on_spare = if draw.one_in(12) {
@@ -83,16 +108,17 @@ fn any_read(draw: &mut Draw) -> Drawn {
     };
     let code = code_at(drive, place, block);
     for (image, sector) in [(&mut home, on_home), (&mut spare, on_spare)] {
-        let start = sector as usize * 530;
         let copy = draw.any_copy(code, block);
-        image[start..start + 530].copy_from_slice(&draw.any_image(copy));
+        let drawn = draw.any_image(size.made, copy);
+        image[sector as usize * length..][..length].copy_from_slice(&drawn);
     }
     if draw.one_in(12) {
         std::mem::swap(&mut home, &mut spare);
     }
-    draw.any_length(&mut home, 20);
-    draw.any_length(&mut spare, 20);
-    Drawn { tabled, block, home, spare }
+    let at_other_size = drive.shape.s as usize * image_length(other_size(size.made));
+    draw.any_length(&mut home, at_other_size, 20);
+    draw.any_length(&mut spare, at_other_size, 20);
+    Drawn { size, tabled, block, home, spare }
 }
 
 #[test]
@@ -100,14 +126,13 @@ fn reading_judge() {
     let mut tally = Tally::of("reading::judge");
     for seed in tally.seeds(SEEDS) {
         let read = any_read(&mut Draw::of(seed));
-        let Drawn { tabled, block, home, spare } = &read;
+        let Drawn { size, tabled, block, home, spare } = &read;
         let (shape, r, table) = (tabled.shape, tabled.r, &tabled.table);
         let mut scratch = tabled.scratch();
         let lent = scratch.library.lent();
-        let library = reading::judge(shape, r, table, lent, *block, home, spare);
+        let library = reading::judge(size.given, shape, r, table, lent, *block, home, spare);
         let model = model::image::judge_read(read.paper(), scratch.model.lent());
-        tally.same_on_table(seed, read.asked(), &scratch, library, model);
-        read.count_header(&mut tally, number(library));
+        read.same(&mut tally, seed, &scratch, library, model);
     }
     tally.saw(&[0, 1, 5, 7, 11, 14, 15, 16, 17, 18]);
 }
@@ -119,11 +144,12 @@ fn reading_spot_and_data() {
     let (mut at_home, mut on_spare) = (0, 0);
     for seed in tally.seeds(SEEDS) {
         let read = any_read(&mut Draw::of(seed));
-        let Drawn { tabled, block, home, spare } = &read;
-        let (shape, r, table) = (tabled.shape, tabled.r, &tabled.table);
+        let Drawn { size, tabled, block, home, spare } = &read;
+        let (size, shape, r, table) = (size.given, tabled.shape, tabled.r, &tabled.table);
         let mut scratch = tabled.scratch();
         let lent = scratch.library.lent();
-        let library = reading::spot(shape, r, table, lent, *block, home, spare).map(|spot| {
+        let library = reading::spot(size, shape, r, table, lent, *block, home, spare);
+        let library = library.map(|spot| {
             let image = match spot.track {
                 Track::Home => 0,
                 Track::Spare => 1,
@@ -133,20 +159,18 @@ fn reading_spot_and_data() {
         at_home += u32::from(matches!(library, Ok((0, _))));
         on_spare += u32::from(matches!(library, Ok((1, _))));
         let model = model::image::spot(read.paper(), scratch.model.lent());
-        tally.same_on_table(seed, read.asked(), &scratch, library, model);
-        read.count_header(&mut tally, number(library));
+        read.same(&mut tally, seed, &scratch, library, model);
 
         let mut scratch = tabled.scratch();
         let lent = scratch.library.lent();
-        let library = reading::data(shape, r, table, lent, *block, home, spare);
+        let library = reading::data(size, shape, r, table, lent, *block, home, spare);
         let model = model::image::read_data(read.paper(), scratch.model.lent());
         let same_place = match (library, model) {
             (Ok(ours), Ok(theirs)) => ours.as_ptr() == theirs.as_ptr(),
             _ => true,
         };
         assert!(same_place, "reading::data lies elsewhere at seed {seed}");
-        parts.same_on_table(seed, read.asked(), &scratch, library, model);
-        read.count_header(&mut parts, number(library));
+        read.same(&mut parts, seed, &scratch, library, model);
     }
     tally.saw(&[0, 1, 5, 7, 11, 14, 15, 16, 17, 18]);
     parts.saw(&[0, 1, 5, 7, 11, 14, 15, 16, 17, 18]);

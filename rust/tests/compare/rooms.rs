@@ -2,9 +2,11 @@
 //!
 //! The rooms stand between guards, so a write outside them shows too. Nothing here asks the model.
 
-use tautberry::{format, image, page, spares, Refusal, CODE_UNIT, LIST_MOST, PAGE_MOST};
+use tautberry::{format, image, image_length, page, spares, Refusal};
+use tautberry::{CODE_UNIT, LIST_MOST, PAGE_MOST};
 
 use crate::draw::{Draw, Room};
+use crate::drawn_images::{other_size, SIZES};
 use crate::drawn_shapes::shape;
 
 /// Lends a room to a call and holds it to what was written of it.
@@ -183,23 +185,31 @@ fn the_room_of_a_first_table() {
 
 #[test]
 fn the_room_of_an_image() {
-    let mut draw = Draw::of(6);
-    let data = draw.bytes(512);
-    let cases = [
-        (9, 2, &data[1..], 600, Err(Refusal::WrongLength)),
-        (CODE_UNIT, 2, &data[..], 600, Err(Refusal::NoSuchBlock)),
-        (9, 1, &data[..], 600, Err(Refusal::UnknownCode)),
-        (9, 2, &data[..], 529, Err(Refusal::NoRoom)),
-        (9, 0, &data[..], 530, Ok(())),
-        (9, 2, &data[..], 530, Ok(())),
-        (9, 3, &data[..], 600, Ok(())),
-    ];
-    for (block, code, data, length, expected) in cases {
-        let before = draw.byte_room(length);
-        let case = format!("image::write into {length}, {expected:?}");
-        let written = if expected.is_ok() { 530 } else { 0 };
-        lend(&case, &before, written, expected, |room| {
-            image::write(block, code, data, false, room).map(|_| ())
-        });
+    let mut draw = Draw::of(8);
+    for size in SIZES {
+        let data = draw.bytes(size as usize);
+        let other = draw.bytes(other_size(size) as usize);
+        let fits = image_length(size);
+        // The size, the block, the code, the data, the length of the room, and the refusal.
+        let cases = [
+            (size + 1, CODE_UNIT, 1, &data[1..], 600, Err(Refusal::OutOfRange)),
+            (0, 9, 2, &data[..], 600, Err(Refusal::OutOfRange)),
+            (size, 9, 2, &data[1..], 600, Err(Refusal::WrongLength)),
+            (size, 9, 2, &other[..], 600, Err(Refusal::WrongLength)),
+            (size, CODE_UNIT, 2, &data[..], 600, Err(Refusal::NoSuchBlock)),
+            (size, 9, 1, &data[..], 600, Err(Refusal::UnknownCode)),
+            (size, 9, 2, &data[..], fits - 1, Err(Refusal::NoRoom)),
+            (size, 9, 0, &data[..], fits, Ok(())),
+            (size, 9, 2, &data[..], fits, Ok(())),
+            (size, 9, 3, &data[..], 600, Ok(())),
+        ];
+        for (size, block, code, data, length, expected) in cases {
+            let before = draw.byte_room(length);
+            let case = format!("image::write of {size} into {length}, {expected:?}");
+            let written = if expected.is_ok() { fits } else { 0 };
+            lend(&case, &before, written, expected, |room| {
+                image::write(size, block, code, data, false, room).map(|_| ())
+            });
+        }
     }
 }

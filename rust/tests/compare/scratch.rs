@@ -3,19 +3,20 @@
 
 use tautberry::Shape;
 
+use crate::drawn_images::NO_SIZES;
 use crate::drawn_shapes::{paper, shape, CUSTOMERS};
 use crate::drawn_tables::descriptor;
 use crate::model::spares::{drive, word, FREE, UNUSABLE};
-use crate::shape_calls::{every_table_call_gives, Rest};
+use crate::shape_calls::{every_call_gives, every_read_gives, every_table_call_gives, reads, Rest};
 
 /// Drives with one table block, with a part of a second one, and the customer's.
 fn drives() -> [(Shape, u32); 3] {
     [(shape(2, 2, 5), 2), (shape(4, 9, 64), 4), CUSTOMERS]
 }
 
-/// What every call accepts on a drive, with so many numbers more of scratch than spares.
-fn proper((shape, r): (Shape, u32), more: usize) -> Rest {
-    let mut rest = Rest::proper(shape, r);
+/// What every call accepts on a drive of this size of sectors, with so many numbers more of scratch than spares.
+fn proper(size: u32, (shape, r): (Shape, u32), more: usize) -> Rest {
+    let mut rest = Rest::of_size(size, shape, r);
     rest.scratch.extend(vec![u32::MAX; more]);
     rest
 }
@@ -69,7 +70,7 @@ fn broken_tables((shape, r): (Shape, u32)) -> Vec<Vec<u32>> {
 fn scratch_that_is_too_short() {
     for drive in drives() {
         for length in [0, spares(drive) - 1] {
-            let mut good = proper(drive, 0);
+            let mut good = proper(512, drive, 0);
             good.scratch.truncate(length);
             let mut rests = vec![Rest { asked: u32::MAX, ..good.clone() }, good.clone()];
             for table in broken_tables(drive) {
@@ -94,13 +95,31 @@ fn scratch_of_a_drive_out_of_range() {
     }
 }
 
+/// Where the size of a sector is none, no read looks at the scratch, and all of it is kept: with no other
+/// fault, and with all of them. The other calls take no size.
+#[test]
+fn scratch_of_a_sector_of_no_size() {
+    let drive = shape(2, 2, 5);
+    for size in NO_SIZES {
+        let well = Rest { size, ..proper(512, (drive, 2), 3) };
+        every_call_gives(drive, &well, |call| if reads(call) { 1 } else { 0 });
+        for (wrong, r) in [(drive, 2), (drive, 5), (shape(2, 0, 5), 2)] {
+            for scratch in [vec![], vec![u32::MAX; 7], vec![u32::MAX; 11]] {
+                let faulty = Rest { size, scratch: scratch.clone(), ..Rest::faulty(r) };
+                every_read_gives(wrong, &faulty, 1, &scratch);
+            }
+        }
+        every_read_gives(drive, &well, 1, &well.scratch);
+    }
+}
+
 /// Scratch full of ones, as long as it must be or three numbers longer: after every answer it has a zero for
-/// each spare, and the three numbers stand.
+/// each spare, and the three numbers stand. The sectors have either size.
 #[test]
 fn scratch_full_of_ones() {
     for drive in drives() {
-        for more in [0, 3] {
-            let good = proper(drive, more);
+        for (more, size) in [(0, 512), (3, 576)] {
+            let good = proper(size, drive, more);
             let mut left = vec![0; spares(drive)];
             left.resize(spares(drive) + more, u32::MAX);
             let gives = |rest: &Rest, expected: &dyn Fn(&str) -> u32| {
@@ -121,14 +140,18 @@ fn scratch_full_of_ones() {
             gives(&no_spare, &|call| if call == "spares::replace" { 13 } else { 0 });
             let mut short_image = good.clone();
             short_image.spare.pop();
-            gives(&short_image, &|call| if call.starts_with("reading::") { 14 } else { 0 });
+            gives(&short_image, &|call| if reads(call) { 14 } else { 0 });
+            // One image of the right length, and one of the other size.
+            let mut other_size = good.clone();
+            other_size.spare = proper(512 + 576 - size, drive, 0).spare;
+            gives(&other_size, &|call| if reads(call) { 14 } else { 0 });
             let mut no_address = good.clone();
             (no_address.home[0], no_address.home[4]) = (1, 2);
-            gives(&no_address, &|call| if call.starts_with("reading::") { 15 } else { 0 });
+            gives(&no_address, &|call| if reads(call) { 15 } else { 0 });
             // Block 0 is at home, and its header says that it is replaced.
             let mut other_code = good.clone();
             other_code.home[..16].copy_from_slice(&[0x20, 0, 0, 0].repeat(4));
-            gives(&other_code, &|call| if call.starts_with("reading::") { 16 } else { 0 });
+            gives(&other_code, &|call| if reads(call) { 16 } else { 0 });
         }
     }
 }

@@ -2,7 +2,8 @@
 
 use std::fs;
 
-use tautberry::{reading, shape as shapes, skipped, spares, table_length, Shape, LIST_MOST};
+use tautberry::{reading, shape as shapes, skipped, spares, table_length, track_length};
+use tautberry::{Shape, LIST_MOST};
 
 use crate::drawn_shapes::{paper, shape};
 use crate::model::image::Read;
@@ -13,6 +14,8 @@ use crate::order::{number, paper_number};
 /// What the calls are given beside the shape.
 #[derive(Clone)]
 pub struct Rest {
+    /// The size of a sector, for the calls that read one.
+    pub size: u32,
     pub r: u32,
     pub list: Vec<u32>,
     pub table: Vec<u32>,
@@ -27,15 +30,21 @@ pub struct Rest {
 
 impl Rest {
     /// What every call accepts on a drive of these cylinders, heads and sectors, whatever its groups: no
-    /// sector is bad, the scratch is full of ones, and block 0 is asked for.
-    pub fn proper(Shape { cylinders, heads, sectors, .. }: Shape, r: u32) -> Rest {
+    /// sector is bad, the scratch is full of ones, the sectors have 512 bytes, and block 0 is asked for.
+    pub fn proper(shape: Shape, r: u32) -> Rest {
+        Rest::of_size(512, shape, r)
+    }
+
+    /// The same where the sectors have this size.
+    pub fn of_size(size: u32, Shape { cylinders, heads, sectors, .. }: Shape, r: u32) -> Rest {
         let spares = (cylinders * heads * r) as usize;
         let mut table = vec![word(FREE, 0); table_length(spares)];
         table[spares..].fill(word(NULL, 0));
-        let track = sectors as usize * 530;
-        let mut home = model::image::bytes([0; 4], &[0; 512], false);
+        let track = track_length(size, sectors as usize);
+        let mut home = model::image::bytes([0; 4], &vec![0; size as usize], false);
         home.resize(track, 0);
         Rest {
+            size,
             r,
             list: vec![],
             room: table.len(),
@@ -47,9 +56,10 @@ impl Rest {
         }
     }
 
-    /// A fault in all but r.
+    /// A fault in all but the size and r.
     pub fn faulty(r: u32) -> Rest {
         Rest {
+            size: 512,
             r,
             list: vec![0; LIST_MOST + 1],
             table: vec![1; 5],
@@ -75,10 +85,10 @@ struct Given {
 
 /// Asks every call. Library and model must leave the same scratch.
 fn ask(drive: Shape, rest: &Rest) -> Vec<Given> {
-    let Rest { r, list, table, scratch, room, asked, home, spare } = rest;
-    let (r, asked) = (*r, *asked);
+    let Rest { size, r, list, table, scratch, room, asked, home, spare } = rest;
+    let (size, r, asked) = (*size, *r, *asked);
     let paper = paper(drive);
-    let read = Read { shape: paper, r, table, block: asked, home, spare };
+    let read = Read { size, shape: paper, r, table, block: asked, home, spare };
     let calls: [(&'static str, Ask, Ask); 15] = [
         ("shape::sector_of", &|_| number(shapes::sector_of(drive, asked, asked, asked)), &|_| {
             paper_number(model::shape::sector_of(paper, (asked, asked, asked)))
@@ -135,17 +145,17 @@ fn ask(drive: Shape, rest: &Rest) -> Vec<Given> {
         ),
         (
             "reading::judge",
-            &|lent| number(reading::judge(drive, r, table, lent, asked, home, spare)),
+            &|lent| number(reading::judge(size, drive, r, table, lent, asked, home, spare)),
             &|lent| paper_number(model::image::judge_read(read, lent)),
         ),
         (
             "reading::spot",
-            &|lent| number(reading::spot(drive, r, table, lent, asked, home, spare)),
+            &|lent| number(reading::spot(size, drive, r, table, lent, asked, home, spare)),
             &|lent| paper_number(model::image::spot(read, lent)),
         ),
         (
             "reading::data",
-            &|lent| number(reading::data(drive, r, table, lent, asked, home, spare)),
+            &|lent| number(reading::data(size, drive, r, table, lent, asked, home, spare)),
             &|lent| paper_number(model::image::read_data(read, lent)),
         ),
     ];
@@ -166,9 +176,14 @@ pub fn every_call_gives(drive: Shape, rest: &Rest, expected: impl Fn(&str) -> u3
     }
 }
 
+/// Whether a call reads a sector, and so takes its size.
+pub fn reads(call: &str) -> bool {
+    call.starts_with("reading::")
+}
+
 /// Whether a call is lent a table, and so takes scratch.
 pub fn is_lent_a_table(call: &str) -> bool {
-    call.starts_with("reading::") || call.starts_with("spares::") && call != "spares::first_table"
+    reads(call) || call.starts_with("spares::") && call != "spares::first_table"
 }
 
 /// Every call that is lent a table must give the number that is expected of it, and leave this of the
@@ -179,8 +194,23 @@ pub fn every_table_call_gives(
     expected: impl Fn(&str) -> u32,
     left: &[u32],
 ) {
+    these_calls_give(is_lent_a_table, drive, rest, expected, left);
+}
+
+/// Every call that reads a sector must give this number, and leave this of the scratch.
+pub fn every_read_gives(drive: Shape, rest: &Rest, expected: u32, left: &[u32]) {
+    these_calls_give(reads, drive, rest, |_| expected, left);
+}
+
+fn these_calls_give(
+    these: impl Fn(&str) -> bool,
+    drive: Shape,
+    rest: &Rest,
+    expected: impl Fn(&str) -> u32,
+    left: &[u32],
+) {
     for Given { call, library, model, scratch } in ask(drive, rest) {
-        if is_lent_a_table(call) {
+        if these(call) {
             let expected = expected(call);
             assert_eq!((library, model), (expected, expected), "{call} on {drive:?}");
             assert!(scratch == left, "{call} leaves other scratch on {drive:?}, {expected}");

@@ -7,7 +7,7 @@ use std::ops::Range;
 use tautberry::{Refusal, Shape, SPARES_MOST, TABLE_BLOCK};
 
 use crate::draw::{Room, Scratch};
-use crate::drawn_images::CODES;
+use crate::drawn_images::{Size, CODES, NO_SIZES, SIZES};
 use crate::drawn_shapes::{grouped, paper, FEW_SPARES};
 use crate::drawn_tables::{Hole, Tabled};
 use crate::model;
@@ -23,6 +23,7 @@ pub struct Tally {
     tables: Option<Tables>,
     look_ups: Option<LookUps>,
     headers: Option<Headers>,
+    sizes: Option<Sizes>,
 }
 
 /// What the groups of the shapes came to, of a call that takes a shape.
@@ -82,6 +83,17 @@ struct Headers {
     aliases: u32,
 }
 
+/// What the sizes of sectors came to, of a call that takes one.
+#[derive(Debug, Default)]
+struct Sizes {
+    /// Accepted, with each size.
+    accepted: BTreeMap<u32, u32>,
+    /// Refused 1, with each number that is no size.
+    none: BTreeMap<u32, u32>,
+    /// Refused 14 at each size, where what was lent was made for the other.
+    other: BTreeMap<u32, u32>,
+}
+
 /// Every comparison of a call that takes a shape must have seen each count of [`Groups`] so often, one of a
 /// call that is lent a table each count of [`Tables`] but those below, and one of a call that looks a block
 /// up each count of [`LookUps`].
@@ -92,6 +104,8 @@ const HOLES_LEAST: u32 = 50;
 const MOST_SPARES_LEAST: u32 = 8;
 /// One of a call that expects a code and a block must have seen each count of [`Headers`] so often.
 const HEADERS_LEAST: u32 = 40;
+/// One of a call that takes the size of a sector must have seen each count of [`Sizes`] so often.
+const SIZES_LEAST: u32 = 40;
 
 impl Groups {
     /// Counts one answer about a drive, with r where it has spares.
@@ -197,10 +211,43 @@ impl Headers {
     }
 }
 
+impl Sizes {
+    /// Counts one answer. The call must have given 1 wherever the size is none.
+    fn count(&mut self, Size { given, made }: Size, number: u32) {
+        let count = if !SIZES.contains(&given) {
+            assert_eq!(number, 1, "size {given}");
+            &mut self.none
+        } else if number == 0 {
+            &mut self.accepted
+        } else if number == 14 && given != made {
+            &mut self.other
+        } else {
+            return;
+        };
+        *count.entry(given).or_default() += 1;
+    }
+
+    fn are_enough(&self) -> bool {
+        let enough = |seen: &BTreeMap<u32, u32>, sizes: &[u32]| {
+            sizes.iter().all(|size| seen.get(size).is_some_and(|count| *count >= SIZES_LEAST))
+        };
+        let Sizes { accepted, none, other } = self;
+        enough(accepted, &SIZES) && enough(none, &NO_SIZES) && enough(other, &SIZES)
+    }
+}
+
 impl Tally {
     pub fn of(call: &'static str) -> Tally {
-        let (library, model) = (BTreeMap::new(), BTreeMap::new());
-        Tally { call, library, model, groups: None, tables: None, look_ups: None, headers: None }
+        Tally {
+            call,
+            library: BTreeMap::new(),
+            model: BTreeMap::new(),
+            groups: None,
+            tables: None,
+            look_ups: None,
+            headers: None,
+            sizes: None,
+        }
     }
 
     /// So many seeds that no other call has, as its name gives them.
@@ -299,10 +346,15 @@ impl Tally {
 
     /// Counts the header of an image where a call expected this code and this block, and gave this number.
     pub fn count_header(&mut self, image: &[u8], expected: (u32, u32), given: u32) {
-        // 14 comes before any look at the header.
-        if given != 14 {
+        // 1 and 14 come before any look at the header.
+        if given != 1 && given != 14 {
             self.headers.get_or_insert_default().count(image, expected, given);
         }
+    }
+
+    /// Counts the size that a call was given, and gave this number.
+    pub fn count_size(&mut self, size: Size, number: u32) {
+        self.sizes.get_or_insert_default().count(size, number);
     }
 
     /// The rooms after one input: the same on both sides, and as before past what was written, which
@@ -331,7 +383,8 @@ impl Tally {
     /// have been refused for its scratch, must have written to it, accepted and refused, must have been asked
     /// about drives of many spares, and must have been refused for each kind of hole alone. One that looks a
     /// block up must have ended in each way. One that expects a code and a block must have met each code
-    /// where each was expected.
+    /// where each was expected. One that takes the size of a sector must have accepted with both, and must
+    /// have been refused for each number that is none, and for what was made for the other size.
     pub fn saw(self, numbers: &[u32]) {
         let inputs: u32 = self.library.values().sum();
         println!("{}: {inputs} inputs, answers {:?}", self.call, self.library);
@@ -368,6 +421,10 @@ impl Tally {
             println!("{}: {headers:?}", self.call);
             let enough = headers.are_enough(self.tables.is_some());
             assert!(enough, "{}: too few of {headers:?}", self.call);
+        }
+        if let Some(sizes) = &self.sizes {
+            println!("{}: {sizes:?}", self.call);
+            assert!(sizes.are_enough(), "{}: too few of {sizes:?}", self.call);
         }
         for (side, seen) in [("library", &self.library), ("model", &self.model)] {
             let given: Vec<u32> = seen.keys().copied().collect();
