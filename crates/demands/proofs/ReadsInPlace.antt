@@ -1,17 +1,15 @@
 -- A read goes by the sector image of the block: the sector that the look-up answers, counted inside its track, is the one that the read looks into, in the image that the block lies in.
 -- Assumes nothing.
-use Prim.Native.Nat.{ℕ, _%_, _<_}
+use Prim.Native.Nat.{ℕ, _%_}
 use mathlib.Core.Path.{_≡_, refl, sym, _∙_, ap}
-use mathlib.Core.Logic.{⊎-elim}
 use mathlib.Core.List.{List}
-use native.Mathlib.Omega.{arith}
 use lib.ListN.{length, take, drop}
 use denote.Ref.{RefT}
 use Rattle.paper.specs.declared.Placed.the-variants.{At}
 use Rattle.paper.specs.Limits.{Size, dataSizeFault}
 use Rattle.paper.proofs.Cases.{byBool, byFault}
 use Rattle.paper.proofs.Kept.{gives-number}
-use Rattle.paper.proofs.Rows.{data-size-shows, sized-shows}
+use Rattle.paper.proofs.Rows.{data-size-shows, sized-shows, size-above}
 use Rattle.shape.specs.declared.Shape.{Shape}
 use Rattle.layout.specs.Layouts.{driveOf}
 use Rattle.layout.proofs.Layings.{track-whole}
@@ -119,9 +117,6 @@ module _ (size : ℕ) (shape : Shape) (r : ℕ) (t : List ℕ) (b : ℕ) (sized 
 accepted-size : (size : ℕ) (shape : Shape) (r : ℕ) (t judged : List ℕ) (b : ℕ) (home spare : List ℕ) (verdict : Verdict) → Judge size shape r t judged b home spare verdict → saidVerdict verdict ≡ 0 → Size size
 accepted-size size shape r t judged b home spare verdict judge none =
     sized-shows size (blockReadFault size shape r t judged b home spare) (sym (gives-number judge (λ number. number) (λ k. refl) refl) ∙ none)
-
-size-above : {size : ℕ} → Size size → 0 < size
-size-above sized = ⊎-elim (λ narrow. omega arith) (λ wide. omega arith) sized
 
 pub reads-in-place : ReadsInPlace
 reads-in-place =

@@ -12,7 +12,7 @@ use Rattle.paper.specs.Limits.{imageExtra, sectorsLeast, Size, dataSizeFault}
 use Rattle.paper.specs.Refusals.{outOfRange, wrongLength, noMode}
 use Rattle.paper.proofs.Cases.{byEq, byFault}
 use Rattle.paper.proofs.Kept.{gives-number, gives-accepted, refuses, accepts}
-use Rattle.paper.proofs.Rows.{data-size-passes}
+use Rattle.paper.proofs.Rows.{data-size-passes, size-above}
 use Rattle.shape.specs.declared.Shape.{Shape}
 use Rattle.table.specs.Rules.{BlockJudged}
 use Rattle.table.proofs.Exact.{block-passes, block-exactly}
@@ -23,7 +23,6 @@ use Rattle.image.proofs.Lent.{part-refused}
 use Rattle.mode.specs.declared.Mode.the-variants.{Of, Refused as NoMode}
 use Rattle.mode.specs.Modes.{FirstSays, modeOf, modeFault}
 use Rattle.mode.specs.Promises.{Finds}
-use Rattle.mode.proofs.Found.{size-some}
 use Rattle.mode.proofs.Exact.{mode-apart, mode-none, mode-some, found-says, none-modes, mode-first, first-mode}
 use Rattle.reading.specs.Tracks.{bytesIn}
 use Rattle.reading.specs.Faults.{blockReadFault}
@@ -141,7 +140,7 @@ sizes =
       mode-first = λ images apart size found. (some-apart images apart found, says-first images apart found);
       first-mode = λ images apart size some first.
           let is = first-mode images apart some first in
-          accepts (λ k. refl) (mode-some images apart some (λ none. size-some (first .says .sized) (sym is ∙ none))) (ap Of (sym is));
+          accepts (λ k. refl) (mode-some images apart some (λ none. omega (arith, size-above (first .says .sized), is, none))) (ap Of (sym is));
       mode-size = λ images apart size found. says-first images apart found .says .sized;
       no-mode-none = λ images apart refused.
           (apart-some images apart refused, λ k size says. found-says images apart (apart-some images apart refused) k says (no-mode images apart refused));

@@ -2,8 +2,8 @@
 -- Assumes nothing.
 use Prim.Native.Nat.{ℕ, zero, suc, _+_, _-_, _*_, _/_, _<_, _≤_}
 use mathlib.Core.Path.{_≡_, refl, sym, _∙_}
-use mathlib.Core.Bool.{true, false, not}
-use mathlib.Core.Logic.{inl, ⊎-elim}
+use mathlib.Core.Bool.{true, false}
+use mathlib.Core.Logic.{inl}
 use mathlib.Core.List.{List}
 use native.Mathlib.Nat.{le-div-iff-mul-le, min-le-right, zero-add, zero-mul, suc-mul, mul-le-mul-right}
 use native.Mathlib.Omega.{arith}
@@ -13,7 +13,7 @@ use lib.Seq.{getD-take, getD-drop}
 use borrow.Author.Tests.{eq-eqb, ne-eqb, eqb-true, lt-ltb, le-ltb}
 use Rattle.paper.specs.Limits.{dataSize, headerSize, Size, isSize}
 use Rattle.paper.proofs.Cases.{byBool, byLt, byEq, byFault}
-use Rattle.paper.proofs.Rows.{Tells, tells-both, tells-size}
+use Rattle.paper.proofs.Rows.{Tells, tells-both, tells-size, size-above}
 use Rattle.words.specs.Coded.{codeUnit, wordOf}
 use Rattle.words.specs.Words.{word16At}
 use Rattle.words.proofs.Places.{word16-alike}
@@ -41,10 +41,6 @@ module _ (image : List ℕ) (xbn : ℕ) where
   tells-says : Tells (isSaid image xbn) (Good × Size (firstWord image))
   tells-says = tells-both tells-good (tells-size (firstWord image))
 
--- a size is not 0
-pub size-some : {size : ℕ} → Size size → size ≡ 0 → ⊥
-size-some sized none = ⊎-elim (λ is. omega arith) (λ is. omega arith) sized
-
 module _ (images : List ℕ) (xbn : ℕ) where
   abbrev image : List ℕ
   image = xbnImage images xbn
@@ -65,7 +61,7 @@ module _ (images : List ℕ) (xbn : ℕ) where
       rw (tells-says image xbn .told (says .good, sized)) (says .word)
 
   pub says-some : {size : ℕ} → SaysSize images xbn size → sizeIn (xbnImage images xbn) xbn ≡ 0 → ⊥
-  says-some says none = size-some (says .sized) (sym (says-number says) ∙ none)
+  says-some says none = omega (arith, size-above (says .sized), says-number says, none)
 
   -- a copy that says a size lies whole inside the images, and a header has a number for it
   module _ {size : ℕ} (says : SaysSize images xbn size) where

@@ -154,7 +154,11 @@ pub data-size-passes : {size : ℕ} → Size size → dataSizeFault size ≡ 0
 unfolding dataSizeFault
 data-size-passes {size} sized = rw (tells-size size .told sized)
 
--- a size that passes is no larger than the larger of the two
+-- a size is not 0
+pub size-above : {size : ℕ} → Size size → 0 < size
+size-above sized = ⊎-elim (λ is. omega arith) (λ is. omega arith) sized
+
+-- and one that passes is no larger than the larger of the two
 pub data-size-most : (size : ℕ) → dataSizeFault size ≡ 0 → size ≤ wideSize
 data-size-most size none = ⊎-elim (λ is. omega arith) (λ is. omega arith) (data-size-shows size none)
 
