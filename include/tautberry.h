@@ -395,7 +395,7 @@ tb_judged tb_image_judge(uint32_t size, const uint8_t *image, size_t image_lengt
  * tb_image_judge, with TB_DATA_SIZE, the XBN for the block and TB_AT_HOME, and where the word is TB_DATA_SIZE or TB_WIDE_SIZE. Any other copy is
  * passed over: one that is damaged, forced, headed otherwise or cut short by the end of the images, and one with any other word. */
 
-/* The size that the first copy says which says one.
+/* The size of the first copy that says one.
  * Checks: TB_OUT_OF_RANGE (apart is 0), TB_NO_MODE (no copy says a size). Answers size. Writes nothing. */
 tb_sized tb_mode(const uint8_t *images, size_t images_length, uint32_t apart);
 

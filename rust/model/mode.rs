@@ -19,7 +19,7 @@ fn said((xbn, sector): (u32, &[u8])) -> Option<u32> {
     }
 }
 
-/// The size that the first copy says which says one.
+/// The size of the first copy that says one.
 pub fn find(images: &[u8], apart: u32) -> Answer<u32> {
     refuse(apart == 0, 1)?;
     copies(images, apart).find_map(said).ok_or(21)

@@ -312,7 +312,7 @@ pub fn judge(size: u32, image: &[u8], block: u32, code: u32) -> Answer<()> {
     }
 }
 
-/// The size that the first copy of the format table says which says one.
+/// The size of the first copy of the format table that says one.
 pub fn find_mode(images: &[u8], apart: u32) -> Answer<u32> {
     refuse(apart == 0, 1)?;
     for (xbn, image) in images.chunks_exact(XBN_IMAGE).enumerate().step_by(apart as usize) {

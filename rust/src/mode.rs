@@ -7,7 +7,7 @@
 use crate::ffi;
 use crate::refusal::{answered, Refusal};
 
-/// The size that the first copy says which says one: [`DATA_SIZE`](crate::DATA_SIZE) or
+/// The size of the first copy that says one: [`DATA_SIZE`](crate::DATA_SIZE) or
 /// [`WIDE_SIZE`](crate::WIDE_SIZE). It goes into the calls of [`image`](crate::image) and
 /// [`reading`](crate::reading) as it is.
 ///

@@ -19,7 +19,7 @@ use Rattle.paper.specs.Checks.{refuse, _orElse_, answer}
 use Rattle.paper.proofs.Cases.{byLt, byFault}
 use Rattle.paper.proofs.Chain.{answer-refused}
 use Rattle.paper.proofs.Kept.{gives, fills}
-use Rattle.paper.proofs.Rows.{tells-false, data-size-passes}
+use Rattle.paper.proofs.Rows.{tells-false, data-size-passes, normal-size as normal, wide-size as wide}
 use Rattle.words.specs.Coded.{codeUnit, wordOf, numberOf}
 use Rattle.words.specs.Words.{bytes16, bytes32, bytesOf, word16At, word32At, entriesAt, Bytes}
 use Rattle.words.proofs.Runs.{length-bytesOf}
@@ -335,13 +335,6 @@ six-expected = own (tells-false (tells-replaced afterEight 6) refl)
 
 not-known-one : Known 1 → ⊥
 not-known-one known = tells-false (tells-known 1) refl known
-
--- the two sizes
-normal : Size 512
-normal = inl refl
-
-wide : Size 576
-wide = inr refl
 
 -- every row of the table
 pub numbers-to-try : AllHold paperRows

@@ -37,7 +37,7 @@ use Rattle.reading.specs.Tracks.{sectorIn, headerFor, imageAt, trackOf, bytesIn
 use Rattle.reading.specs.Faults.{lentFault}
 use Rattle.reading.proofs.Exact.{block-few, lent-passes}
 use Rattle.reading.proofs.Tracks.{seated, header-home, header-named}
-use Rattle.reading.proofs.Sized.{data-sized}
+use Rattle.reading.proofs.Sized.{part-of}
 use Rattle.reading.proofs.Written.{good-read, forced-read, other-read, good-part, forced-part, other-part}
 use Rattle.demands.specs.Headers.{Expected, own, descriptor, Holding, Headers}
 use Rattle.demands.proofs.ReadsInPlace.{its-image}
@@ -118,7 +118,7 @@ headers =
                 (on-sector held ∙ rw (expected-is (is-sound held) expected)),
           );
       expected-gives = λ size shape r t read b home spare number bytes expected are-bytes held enough part promise.
-          good-part size shape r t read b bytes (held .long) are-bytes home spare part (rw (data-sized size shape r t read b (held .sized) home spare) at promise) (passes held read enough) (seated (driveOf shape r) t b (home .now) (spare .now))
+          good-part size shape r t read b bytes (held .long) are-bytes home spare part (part-of size shape r t read b (held .sized) home spare part promise) (passes held read enough) (seated (driveOf shape r) t b (home .now) (spare .now))
           (on-sector held ∙ rw (expected-is (is-sound held) expected));
       expected-forced = λ size shape r t judged b home spare number bytes expected are-bytes held enough verdict promise.
           promise .answers
@@ -128,7 +128,7 @@ headers =
                 (on-sector held ∙ rw (expected-is (is-sound held) expected)),
           );
       forced-gives-none = λ size shape r t read b home spare number bytes expected are-bytes held enough part promise.
-          forced-part size shape r t read b bytes (held .long) are-bytes home spare part (rw (data-sized size shape r t read b (held .sized) home spare) at promise) (passes held read enough) (seated (driveOf shape r) t b (home .now) (spare .now))
+          forced-part size shape r t read b bytes (held .long) are-bytes home spare part (part-of size shape r t read b (held .sized) home spare part promise) (passes held read enough) (seated (driveOf shape r) t b (home .now) (spare .now))
           (on-sector held ∙ rw (expected-is (is-sound held) expected));
       other-code = λ size shape r t judged b home spare number code bytes forced expected few other held enough verdict promise.
           promise .answers
@@ -141,5 +141,5 @@ headers =
       other-gives-none = λ size shape r t read b home spare number code bytes forced expected few other held enough part promise.
           other-part size shape r t read b bytes (wordOf code b) forced
           (word-fits few (block-few (is-sound held) (is-below held))) (coded-other (is-sound held) (is-below held) expected other)
-          home spare part (rw (data-sized size shape r t read b (held .sized) home spare) at promise) (passes held read enough) (seated (driveOf shape r) t b (home .now) (spare .now)) (on-sector held);
+          home spare part (part-of size shape r t read b (held .sized) home spare part promise) (passes held read enough) (seated (driveOf shape r) t b (home .now) (spare .now)) (on-sector held);
     }

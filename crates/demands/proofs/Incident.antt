@@ -4,7 +4,7 @@ use Rattle.paper.proofs.Kept.{gives-number, fills-gives}
 use Prim.Native.Nat.{ℕ, zero, suc, _+_, _-_, _%_, _^_, _<_}
 use mathlib.Core.Path.{_≡_, refl, sym, _∙_, ap}
 use mathlib.Core.Bool.{Bool, true, false}
-use mathlib.Core.Logic.{inl, inr, ⊎-elim}
+use mathlib.Core.Logic.{⊎-elim}
 use mathlib.Core.List.{List, []}
 use native.Mathlib.Omega.{arith}
 use lib.IntN.{ℤ, pos, negsuc, _+ℤ_, _-ℤ_}
@@ -18,7 +18,7 @@ use Rattle.paper.specs.Refusals.{otherBlock}
 use Rattle.paper.specs.declared.Written.{Written}
 use Rattle.paper.proofs.Cases.{byFault}
 use Rattle.paper.proofs.Chain.{orElse-next}
-use Rattle.paper.proofs.Rows.{data-size-passes, sized-shows}
+use Rattle.paper.proofs.Rows.{data-size-passes, sized-shows, normal-size, wide-size}
 use Rattle.words.specs.Coded.{codeUnit, wordOf, codeOf}
 use Rattle.words.specs.Words.{Bytes}
 use Rattle.words.proofs.Coded.{word-of-parts}
@@ -55,7 +55,7 @@ use Rattle.reading.proofs.Alike.{home-unread, verdict-alike, part-alike}
 use Rattle.reading.proofs.Parts.{refused-empty, accepted-data, accepted-part}
 use Rattle.reading.proofs.Exact.{block-few, lent-passes}
 use Rattle.reading.proofs.Tracks.{seated-only, header-named, data-inside}
-use Rattle.reading.proofs.Sized.{judge-sized, data-sized, spot-sized}
+use Rattle.reading.proofs.Sized.{data-sized, spot-sized, verdict-of, part-of}
 use Rattle.reading.proofs.Written.{good-read, other-read, good-part, other-part}
 use Rattle.demands.proofs.ByKind.{spot-says}
 use Rattle.demands.specs.Relations.{AllowsOnly}
@@ -212,10 +212,7 @@ module _
           moved-empty part given-part =
               other-part size shape r t scratch b bytes b forced own-fits own-other home spare part given-part passes (on-spare q in-table named) moved-held
 
-    -- the reads with this size are those for any number of data bytes
-    part-of : (scratch : List ℕ) (home spare part : RefT (List ℕ)) → Data size shape r t scratch b home spare part → DataSized size shape r t scratch b home spare part
-    part-of scratch home spare part promise = rw (data-sized size shape r t scratch b sized home spare) at promise
-
+    -- what every part is that the read for any number of data bytes allows, every part is that the public one allows
     every-part :
         (scratch : List ℕ) (home spare : RefT (List ℕ)) {Figures : RefT (List ℕ) → Type 0} →
         ((part : RefT (List ℕ)) → DataSized size shape r t scratch b home spare part → Figures part) → AllowsOnly (Data size shape r t scratch b home spare) Figures
@@ -235,10 +232,10 @@ module _
               given-spot .says ∙ rw (passes, is-replaced, its-sector)));
           lends = λ scratch home spare. every-part scratch home spare (part-filled scratch home spare);
           same-part = λ scratch again-scratch enough enough′ home other spare part again long first second.
-              part-unread scratch again-scratch enough enough′ home other spare part again long (part-of scratch home spare part first) (part-of again-scratch other spare again second);
+              part-unread scratch again-scratch enough enough′ home other spare part again long (part-of size shape r t scratch b sized home spare part first) (part-of size shape r t again-scratch b sized other spare again second);
           same-verdict = λ scratch again-scratch enough enough′ home other spare verdict again long first second.
               verdict-unread scratch again-scratch enough enough′ home other spare verdict again long
-              (rw (judge-sized size shape r t scratch b sized home spare) at first) (rw (judge-sized size shape r t again-scratch b sized other spare) at second);
+              (verdict-of size shape r t scratch b sized home spare first) (verdict-of size shape r t again-scratch b sized other spare second);
           gives-back = λ home spare bytes whole whole′ long h stands.
               record {
                 accepted = λ scratch enough. allows (λ k. refl) (rw (data-size-passes sized, read-passes home spare bytes whole whole′ scratch enough long h stands));
@@ -318,9 +315,9 @@ module _ (scratch : List ℕ) (enough : Enough small 2 scratch) (given : Answers
   pub six-part :
       (read : List ℕ) (home spare part : RefT (List ℕ)) → Data dataSize small 2 after read 6 home spare part → (part .now ≡ [] → ⊥) →
       Lends spare 2136 (take 512 (drop 2136 (spare .now))) part
-  six-part read home spare = six-safe dataSize (inl refl) .lends read home spare .every
+  six-part read home spare = six-safe dataSize normal-size .lends read home spare .every
 
   pub six-wide-part :
       (read : List ℕ) (home spare part : RefT (List ℕ)) → Data wideSize small 2 after read 6 home spare part → (part .now ≡ [] → ⊥) →
       Lends spare 2392 (take 576 (drop 2392 (spare .now))) part
-  six-wide-part read home spare = six-safe wideSize (inr refl) .lends read home spare .every
+  six-wide-part read home spare = six-safe wideSize wide-size .lends read home spare .every

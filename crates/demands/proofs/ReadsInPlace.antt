@@ -24,9 +24,9 @@ use Rattle.image.specs.declared.Verdict.the-variants.{Good}
 use Rattle.image.specs.Promises.{saidVerdict, Lends}
 use Rattle.reading.specs.Tracks.{trackOf, sectorIn, imageAt, imageFor}
 use Rattle.reading.specs.Faults.{blockReadFault}
-use Rattle.reading.specs.Promises.{JudgeSized, DataSized, SpotSized, Judge, Data, Spots, nowhere, saidSpot}
+use Rattle.reading.specs.Promises.{JudgeSized, DataSized, SpotSized, Judge, nowhere, saidSpot}
 use Rattle.reading.specs.declared.answers.Spot.{Spot}
-use Rattle.reading.proofs.Sized.{judge-sized, data-sized, spot-sized, good-size, size-refuses, size-unspotted, size-lends-none}
+use Rattle.reading.proofs.Sized.{verdict-of, part-of, spot-of, good-size, size-refuses, size-unspotted, size-lends-none}
 use Rattle.reading.proofs.Alike.{Agree, agree-same, passes-either, verdict-alike, spot-alike, part-alike}
 use Rattle.reading.proofs.Parts.{refused-empty, empty-refused, accepted-data, accepted-part, read-length, data-at-spot}
 use Rattle.reading.proofs.Tracks.{sector-lies, data-inside}
@@ -102,17 +102,6 @@ module _ (size : ℕ) (shape : Shape) (r : ℕ) (t : List ℕ) (b : ℕ) where
   spot-said asked spotted s image home spare spot placed (on-spare moved) passed spots =
       spots .says ∙ rw (passed, tells-replaced t b .told moved, its-sector asked s placed)
 
--- the reads with one of the two sizes are those for any number of data bytes
-module _ (size : ℕ) (shape : Shape) (r : ℕ) (t : List ℕ) (b : ℕ) (sized : Size size) where
-  verdict-of : (judged home spare : List ℕ) (verdict : Verdict) → Judge size shape r t judged b home spare verdict → JudgeSized size shape r t judged b home spare verdict
-  verdict-of judged home spare verdict promise = rw (judge-sized size shape r t judged b sized home spare) at promise
-
-  part-of : (read : List ℕ) (home spare part : RefT (List ℕ)) → Data size shape r t read b home spare part → DataSized size shape r t read b home spare part
-  part-of read home spare part promise = rw (data-sized size shape r t read b sized home spare) at promise
-
-  spot-of : (spotted home spare : List ℕ) (spot : Spot) → Spots size shape r t spotted b home spare spot → SpotSized size shape r t spotted b home spare spot
-  spot-of spotted home spare spot promise = rw (spot-sized size shape r t spotted b sized home spare) at promise
-
 -- a verdict that accepts was given with one of the two
 accepted-size : (size : ℕ) (shape : Shape) (r : ℕ) (t judged : List ℕ) (b : ℕ) (home spare : List ℕ) (verdict : Verdict) → Judge size shape r t judged b home spare verdict → saidVerdict verdict ≡ 0 → Size size
 accepted-size size shape r t judged b home spare verdict judge none =
@@ -123,37 +112,37 @@ reads-in-place =
     record {
       lends-in-place = λ size shape r t asked judged read b s home spare track part placed lies good enough lent.
           let sized = good-size size shape r t judged b (home .now) (spare .now) good in
-          let judge = verdict-of size shape r t b sized judged (home .now) (spare .now) Good good in
+          let judge = verdict-of size shape r t judged b sized (home .now) (spare .now) good in
           lent-in-place size shape r t b asked read s home spare track part placed lies (good-passes size shape r t b judged read (home .now) (spare .now) judge enough)
-          (part-of size shape r t b sized read home spare part lent);
+          (part-of size shape r t read b sized home spare part lent);
       lends-whole = λ size shape r t judged read b home spare part good enough lent.
           let sized = good-size size shape r t judged b (home .now) (spare .now) good in
-          let judge = verdict-of size shape r t b sized judged (home .now) (spare .now) Good good in
+          let judge = verdict-of size shape r t judged b sized (home .now) (spare .now) good in
           let none = good-passes size shape r t b judged read (home .now) (spare .now) judge enough in
-          ap length (accepted-data size shape r t read b home spare part (part-of size shape r t b sized read home spare part lent) none)
+          ap length (accepted-data size shape r t read b home spare part (part-of size shape r t read b sized home spare part lent) none)
           ∙ read-length size shape r t read b (home .now) (spare .now) none;
       refused-empty = λ size shape r t judged read b home spare part verdict enough judge lent some.
           byFault (dataSizeFault size)
           (λ fits.
           let sized = data-size-shows size fits in
-          refused-empty size shape r t read b home spare part (part-of size shape r t b sized read home spare part lent)
+          refused-empty size shape r t read b home spare part (part-of size shape r t read b sized home spare part lent)
           (λ none.
           some
-          (judged-by size shape r t b judged (home .now) (spare .now) verdict (verdict-of size shape r t b sized judged (home .now) (spare .now) verdict judge)
+          (judged-by size shape r t b judged (home .now) (spare .now) verdict (verdict-of size shape r t judged b sized (home .now) (spare .now) judge)
           ∙ passes-either size shape r t read judged b (home .now) (spare .now) none enough)))
           (λ bad. size-lends-none size shape r t read b bad home spare part lent .holds);
       empty-refused = λ size shape r t judged read b home spare part verdict judge enough lent empty none.
           let sized = accepted-size size shape r t judged b (home .now) (spare .now) verdict judge none in
-          let said = judged-by size shape r t b judged (home .now) (spare .now) verdict (verdict-of size shape r t b sized judged (home .now) (spare .now) verdict judge) in
-          empty-refused size shape r t read b home spare part (part-of size shape r t b sized read home spare part lent) (size-above sized) empty
+          let said = judged-by size shape r t b judged (home .now) (spare .now) verdict (verdict-of size shape r t judged b sized (home .now) (spare .now) judge) in
+          empty-refused size shape r t read b home spare part (part-of size shape r t read b sized home spare part lent) (size-above sized) empty
           (passes-either size shape r t judged read b (home .now) (spare .now) (sym said ∙ none) enough);
       same-verdict = λ size shape r t asked judged judged′ b s home spare track home′ spare′ track′ verdict again placed lies lies′ long long′ same enough enough′ first second.
           byFault (dataSizeFault size)
           (λ fits.
           let sized = data-size-shows size fits in
-          verdict-of size shape r t b sized judged home spare verdict first .answers
+          verdict-of size shape r t judged b sized home spare first .answers
           ∙ (verdict-alike size shape r t judged judged′ enough enough′ b (agreeing size shape r t b asked s placed home spare home′ spare′ lies lies′ long long′ same)
-          ∙ sym (verdict-of size shape r t b sized judged′ home′ spare′ again second .answers)))
+          ∙ sym (verdict-of size shape r t judged′ b sized home′ spare′ second .answers)))
           (λ bad. size-refuses size shape r t judged b bad home spare first ∙ sym (size-refuses size shape r t judged′ b bad home′ spare′ second));
       same-data = λ size shape r t asked read read′ b s home spare track home′ spare′ track′ part again placed lies lies′ long long′ same enough enough′ first second.
           byFault (dataSizeFault size)
@@ -161,20 +150,20 @@ reads-in-place =
           let sized = data-size-shows size fits in
           part-alike size shape r t read read′ enough enough′ b home spare home′ spare′ part again
           (agreeing size shape r t b asked s placed (home .now) (spare .now) (home′ .now) (spare′ .now) (lies-now size shape r t b lies) (lies-now size shape r t b lies′) long long′ same)
-          (part-of size shape r t b sized read home spare part first) (part-of size shape r t b sized read′ home′ spare′ again second))
+          (part-of size shape r t read b sized home spare part first) (part-of size shape r t read′ b sized home′ spare′ again second))
           (λ bad. size-lends-none size shape r t read b bad home spare part first .holds ∙ sym (size-lends-none size shape r t read′ b bad home′ spare′ again second .holds));
       spot-in-place = λ size shape r t asked judged spotted b s image home spare spot placed lies good enough spots.
           let sized = good-size size shape r t judged b home spare good in
-          let judge = verdict-of size shape r t b sized judged home spare Good good in
+          let judge = verdict-of size shape r t judged b sized home spare good in
           spot-said size shape r t b asked spotted s image home spare spot placed lies (good-passes size shape r t b judged spotted home spare judge enough)
-          (spot-of size shape r t b sized spotted home spare spot spots);
+          (spot-of size shape r t spotted b sized home spare spots);
       data-at-spot = λ size shape r t spotted read b home spare part spot enough enough′ spots lent.
           byFault (dataSizeFault size)
           (λ fits.
           let sized = data-size-shows size fits in
           rw
-          (spot-of size shape r t b sized spotted (home .now) (spare .now) spot spots .answers
+          (spot-of size shape r t spotted b sized (home .now) (spare .now) spots .answers
           ∙ spot-alike size shape r t spotted read enough enough′ b (agree-same size (driveOf shape r) t b (home .now) (spare .now)))
-          (data-at-spot size shape r t read b home spare part (part-of size shape r t b sized read home spare part lent)))
+          (data-at-spot size shape r t read b home spare part (part-of size shape r t read b sized home spare part lent)))
           (λ bad. rw (size-unspotted size shape r t spotted b bad (home .now) (spare .now) spots) (nowhere (size-lends-none size shape r t read b bad home spare part lent)));
     }

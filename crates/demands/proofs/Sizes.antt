@@ -1,4 +1,4 @@
--- What Q-10 asks holds: what has the one size is refused 14 at the other, and the mode is what the first copy says that says a size.
+-- What Q-10 asks holds: what has the one size is refused 14 at the other, and the mode is the size of the first copy that says one.
 -- Assumes nothing.
 use Prim.Native.Nat.{ℕ, _+_, _≤_}
 use mathlib.Core.Path.{_≡_, refl, sym, _∙_, ap}

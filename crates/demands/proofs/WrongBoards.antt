@@ -12,7 +12,7 @@ use lib.Seq.{length-sets}
 use denote.Ref.{RefT}
 use Rattle.paper.proofs.Chain.{orElse-none}
 use Rattle.paper.proofs.Kept.{accepts}
-use Rattle.paper.proofs.Rows.{data-size-passes, sized-exactly}
+use Rattle.paper.proofs.Rows.{data-size-passes, sized-exactly, normal-size}
 use Rattle.paper.specs.Checks.{answer}
 use Rattle.paper.specs.Limits.{dataSize, headerSize, imageExtra, Size, dataSizeFault, DataSizeJudged}
 use Rattle.paper.specs.Exactly.{_andThen_, Exactly}
@@ -348,12 +348,9 @@ unfolding laidOut word32At entriesAt faultBelow
 writes-early-keeps-not = (refl, λ keeps. omega (arith, ap (λ (l : List ℕ). getD l 0 0) (keeps (λ none. omega arith))))
 
 -- 512 is a size, so that no other number is given by rows that follow that of the size
-normal : Size dataSize
-normal = inl refl
-
 sized-other : (Rows : ℕ → Type 0) {number k : ℕ} → Exactly Rows number → (number ≡ k → ⊥) → (DataSizeJudged dataSize andThen Rows) k → ⊥
 sized-other Rows {number} exactly other =
-    no-other (sized-exactly dataSize Rows exactly) (λ same. other (sym (orElse-none (dataSizeFault dataSize) number (data-size-passes normal)) ∙ same))
+    no-other (sized-exactly dataSize Rows exactly) (λ same. other (sym (orElse-none (dataSizeFault dataSize) number (data-size-passes normal-size)) ∙ same))
 
 -- every mismatch taken for a forced error: the code is neither, and no row gives 17
 damaged-fault : imageFault dataSize damaged 6 0 ≡ badCode
@@ -379,7 +376,7 @@ seven-contents = rw older-long at (written-good 0x20000007 older (omega arith) (
 pub compares-word-unjudged :
     (comparesWord dataSize sevenAtPrimary 268435463 1 ≡ Good) × ((DataSizeJudged dataSize andThen ImageJudged dataSize sevenAtPrimary 268435463 1) 0 → ⊥)
 compares-word-unjudged = (
-  rw (data-size-passes normal, length-passes (dataSize + imageExtra) sevenAtPrimary seven-long, seven-contents),
+  rw (data-size-passes normal-size, length-passes (dataSize + imageExtra) sevenAtPrimary seven-long, seven-contents),
   sized-other (ImageJudged dataSize sevenAtPrimary 268435463 1) (judge-exactly sevenAtPrimary dataSize 268435463 1) (λ same. let clash : otherBlock ≡ 0 = sym aliased ∙ same in omega arith),
 )
   where
@@ -460,14 +457,14 @@ module _ (home spare : RefT (List ℕ)) (home-is : home .now ≡ trackWith 0 6 o
   home-good = rw home-holds (rw older-long at (written-good 6 older (omega arith) (replicate-below 512 0 (omega arith) (omega arith))))
 
   home-handed : readsHome dataSize small 2 afterSix eightZeros 6 home spare .now ≡ older
-  home-handed = rw (data-size-passes normal, lent-passes, home-good, home-holds) (rw older-long at (written-data 6 older false))
+  home-handed = rw (data-size-passes normal-size, lent-passes, home-good, home-holds) (rw older-long at (written-data 6 older false))
 
   spare-spot : (spot : Spot) → Spots dataSize small 2 afterSix eightZeros 6 (home .now) (spare .now) spot → spot ≡ InSpare (bytesIn dataSize 4 + headerSize)
   unfolding headerFor codeFor placeOf firstBelow sectorIn
   spare-spot spot promise =
       promise .answers
       ∙ rw (
-        data-size-passes normal,
+        data-size-passes normal-size,
         good-read dataSize small 2 afterSix eightZeros 6 newer newer-long (replicate-below 512 1 (omega arith) (omega arith)) lent-passes (six-on-spare (home .now) (spare .now)) spare-holds,
       )
 
@@ -511,7 +508,7 @@ module _ (home spare : List ℕ) (home-long : length home ≡ bytesIn dataSize 5
       (comparesBlock dataSize small 2 afterSix eightZeros 6 home spare ≡ Good)
       × ((DataSizeJudged dataSize andThen BlockReadJudged dataSize small 2 afterSix eightZeros 6 home spare) 0 → ⊥)
   compares-block-unjudged = (
-    rw (data-size-passes normal, moved-passes, moved-holds, address-passes (imageOf 6 older false) 6 stands, stands-header (imageOf 6 older false) 6 stands, six-code),
+    rw (data-size-passes normal-size, moved-passes, moved-holds, address-passes (imageOf 6 older false) 6 stands, stands-header (imageOf 6 older false) 6 stands, six-code),
     sized-other (BlockReadJudged dataSize small 2 afterSix eightZeros 6 home spare) (read-exactly dataSize small 2 afterSix eightZeros 6 home spare) (λ same. let clash : otherBlock ≡ 0 = sym moved-fault ∙ same in omega arith),
   )
     where
@@ -539,7 +536,7 @@ small-spared = drive-shows small 2 refl .1
 -- whichever of the size, the shape and r a call looks at before its scratch: a read looks at all three, the other calls at the shape and r
 module _ (InRange : Type 0) (looked-at : Size dataSize × (Shaped small × Spared small 2) → InRange) where
   in-range : InRange
-  in-range = looked-at (normal, (small-shaped, small-spared))
+  in-range = looked-at (normal-size, (small-shaped, small-spared))
 
   first-zero : {after : List ℕ} → LeavesScratch InRange small 2 ones after → getD (take 8 after) 0 0 ≡ 0
   first-zero leaves = ap (λ (l : List ℕ). getD l 0 0) (leaves .zeros in-range (omega arith))

@@ -3,16 +3,15 @@
 use Prim.Native.Nat.{ℕ, _+_, _*_, _<_}
 use mathlib.Core.Path.{_≡_, refl, sym, _∙_, ap}
 use mathlib.Core.Bool.{Bool, true, false, not}
-use mathlib.Core.Logic.{inr}
 use mathlib.Core.List.{List, _++_}
 use native.Mathlib.Omega.{arith}
 use lib.Dec.{eqb}
 use lib.ListN.{length, set}
 use Rattle.paper.specs.Checks.{_orElse_}
-use Rattle.paper.specs.Limits.{dataSize, headerSize, wideSize, Size, dataSizeFault}
+use Rattle.paper.specs.Limits.{dataSize, headerSize, wideSize, dataSizeFault}
 use Rattle.paper.specs.Refusals.{badCode, noMode}
 use Rattle.paper.proofs.Kept.{accepts, gives-number}
-use Rattle.paper.proofs.Rows.{data-size-passes}
+use Rattle.paper.proofs.Rows.{data-size-passes, wide-size}
 use Rattle.seek.specs.Count.{times}
 use Rattle.seek.specs.Every.{allBelow}
 use Rattle.seek.proofs.Firsts.{first-is}
@@ -109,9 +108,6 @@ wideZeros = imageOf 6 (zeros wideSize) false
 abbrev wideChanged : List ℕ
 wideChanged = set wideZeros (headerSize + 575) 1
 
-wide : Size wideSize
-wide = inr refl
-
 wide-faults : (imageFault wideSize wideZeros 6 0 ≡ 0) × (imageFault wideSize wideChanged 6 0 ≡ badCode)
 unfolding bytes16 bytes32 bytesOf word16At word32At entriesAt wordsOf rotated codeAfter codeFrom dataCode carried times copies headerOf dataOf storedIn foundIn imageOf copiesFault contentsFault pairFault imageFault
 wide-faults = (refl, refl)
@@ -128,9 +124,9 @@ pub codes-short-both-good :
 codes-short-both-good = (
   both-good .0,
   both-good .1,
-  accepts (λ k. refl) (rw (data-size-passes wide, wide-faults .0)) refl,
+  accepts (λ k. refl) (rw (data-size-passes wide-size, wide-faults .0)) refl,
   λ promise.
       let fault : 0 ≡ (dataSizeFault wideSize orElse imageFault wideSize wideChanged 6 0) = gives-number promise (λ said. said) (λ k. refl) refl in
-      let none : 0 ≡ badCode = rw (data-size-passes wide, wide-faults .1) at fault in
+      let none : 0 ≡ badCode = rw (data-size-passes wide-size, wide-faults .1) at fault in
       omega arith,
 )

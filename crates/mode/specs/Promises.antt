@@ -14,6 +14,6 @@ saidMode (NoMode fault) = (fault, 0)
 abbrev pub GivesMode : ℕ → Mode → Mode → Type 0
 GivesMode = Gives saidMode (λ fault. (fault, 0)) NoMode
 
--- the size that the first copy says which says one
+-- the size of the first copy that says one
 abbrev pub Finds : List ℕ → ℕ → Mode → Type 0
 Finds images apart = GivesMode (modeFault images apart) (Of (modeOf images apart))

@@ -59,7 +59,7 @@ fn headable(images: &[u8]) -> usize
     CODE_UNIT as usize
 }
 
-// The size that the first copy says which says one, else 0.
+// The size of the first copy that says one, else 0.
 fn mode_of(images: &[u8], apart: u32) -> u32
     requires { ⌜ 0 < apart ⌝ }
     ensures { λ result. ⌜ result ≡ modeOf (now (images .entry)) apart ⌝ }

@@ -154,6 +154,13 @@ pub data-size-passes : {size : ℕ} → Size size → dataSizeFault size ≡ 0
 unfolding dataSizeFault
 data-size-passes {size} sized = rw (tells-size size .told sized)
 
+-- the two sizes
+pub normal-size : Size dataSize
+normal-size = inl refl
+
+pub wide-size : Size wideSize
+wide-size = inr refl
+
 -- a size is not 0
 pub size-above : {size : ℕ} → Size size → 0 < size
 size-above sized = ⊎-elim (λ is. omega arith) (λ is. omega arith) sized

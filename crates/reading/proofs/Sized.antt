@@ -30,6 +30,16 @@ module _ (size : ℕ) (shape : Shape) (r : ℕ) (t scratch : List ℕ) (b : ℕ)
     pub spot-sized : (home spare : List ℕ) → Spots size shape r t scratch b home spare ≡ SpotSized size shape r t scratch b home spare
     spot-sized home spare = rw (data-size-passes sized)
 
+    -- so what a public read has promised is promised for any number of data bytes
+    pub verdict-of : (home spare : List ℕ) {verdict : Verdict} → Judge size shape r t scratch b home spare verdict → JudgeSized size shape r t scratch b home spare verdict
+    verdict-of home spare promise = rw (judge-sized home spare) at promise
+
+    pub part-of : (home spare part : RefT (List ℕ)) → Data size shape r t scratch b home spare part → DataSized size shape r t scratch b home spare part
+    part-of home spare part promise = rw (data-sized home spare) at promise
+
+    pub spot-of : (home spare : List ℕ) {spot : Spot} → Spots size shape r t scratch b home spare spot → SpotSized size shape r t scratch b home spare spot
+    spot-of home spare promise = rw (spot-sized home spare) at promise
+
   pub good-size : (home spare : List ℕ) → Judge size shape r t scratch b home spare Good → Size size
   good-size home spare promise = sized-shows size (blockReadFault size shape r t scratch b home spare) (sym (gives-number promise (λ said. said) (λ k. refl) refl))
 

@@ -1,4 +1,4 @@
-// The mode sector: the size is what the first copy of the format table says which says one. Copies that stand before it are forced, damaged, headed otherwise, or have another first word; and there are areas in which no copy says a size.
+// The mode sector: the size is that of the first copy of the format table that says one. Copies that stand before it are forced, damaged, headed otherwise, or have another first word; and there are areas in which no copy says a size.
 use image::AT_HOME;
 use words::AT_PRIMARY;
 
