@@ -54,12 +54,12 @@ use Rattle.spares.proofs.Exact.{block-on-exactly as spare-block-on-exactly, blo
 use Rattle.table.proofs.Exact.{block-exactly}
 use Rattle.image.specs.Image.{imageFault}
 use Rattle.image.specs.Judged.{HeaderJudged, ImageJudged, WriteJudged}
-use Rattle.image.specs.Promises.{LendsNone, LendsData, Write, Header, Judge, Data}
+use Rattle.image.specs.Promises.{Write, Header, Judge, Data}
 use Rattle.image.specs.declared.Head.{Head}
 use Rattle.image.specs.declared.Verdict.{Verdict}
 use Rattle.image.proofs.Exact.{header-exactly, judge-exactly, write-exactly, image-length}
 use Rattle.image.proofs.Images.{length-data}
-use Rattle.image.proofs.Lent.{part-refused, part-accepted}
+use Rattle.image.proofs.Lent.{data-refused, data-accepted}
 use Rattle.mode.specs.declared.Mode.{Mode}
 use Rattle.mode.specs.Modes.{ModeJudged}
 use Rattle.mode.specs.Promises.{Finds}
@@ -67,10 +67,10 @@ use Rattle.mode.proofs.Exact.{mode-exactly}
 use Rattle.reading.specs.Tracks.{dataStart}
 use Rattle.reading.specs.Faults.{blockReadFault}
 use Rattle.reading.specs.Judged.{BlockReadJudged}
-use Rattle.reading.specs.Promises.{LendsBlock, Judge as ReadJudge, Data as ReadData, Spots}
+use Rattle.reading.specs.Promises.{Judge as ReadJudge, Data as ReadData, Spots}
 use Rattle.reading.specs.declared.answers.Spot.{Spot}
 use Rattle.reading.proofs.Exact.{read-exactly}
-use Rattle.reading.proofs.Parts.{read-length}
+use Rattle.reading.proofs.Parts.{read-length, data-refused as read-refused, data-accepted as read-accepted}
 use Rattle.demands.specs.Relations.{Keeps, PartBy}
 use Rattle.demands.specs.Numbered.{PlacedBy, NamedBy, WrittenBy, LocatedBy, JobBy, PagedBy, FormattedBy, ShiftedBy, ReplacedBy, CountedBy, HeadBy, VerdictBy, ModeBy, SpotBy}
 use Rattle.demands.specs.Demand1.{EachByTheNumbers, EachKeeps, Demand1}
@@ -214,10 +214,10 @@ image-data size image block code part promise =
     record {
       number = dataSizeFault size orElse fault;
       exactly = sized-exactly size (ImageJudged size (image .now) block code) (judge-exactly (image .now) size block code);
-      refused-empty = λ some. part-refused (LendsNone image) (LendsData size image) part (dataSizeFault size orElse fault) some promise .holds;
+      refused-empty = λ some. data-refused size image block code part promise some .holds;
       accepted-whole =
           λ passes.
-          ap length (part-accepted (LendsNone image) (LendsData size image) part (dataSizeFault size orElse fault) passes promise .holds)
+          ap length (data-accepted size image block code part promise passes .holds)
           ∙ length-data size (image .now) (image-length (image .now) size block code (orElse-next (dataSizeFault size) fault passes));
     }
 
@@ -248,10 +248,10 @@ module _ (size : ℕ) (shape : Shape) (r : ℕ) (t scratch : List ℕ) (b : ℕ)
       record {
         number = dataSizeFault size orElse fault;
         exactly = sized-exactly size (BlockReadJudged size shape r t scratch b (home .now) (spare .now)) (read-exactly size shape r t scratch b (home .now) (spare .now));
-        refused-empty = λ some. part-refused (LendsNone home) (LendsBlock size shape r t b home spare) part (dataSizeFault size orElse fault) some promise .holds;
+        refused-empty = λ some. read-refused size shape r t scratch b home spare part promise some .holds;
         accepted-whole =
             λ passes.
-            ap length (part-accepted (LendsNone home) (LendsBlock size shape r t b home spare) part (dataSizeFault size orElse fault) passes promise .holds)
+            ap length (read-accepted size shape r t scratch b home spare part promise passes .holds)
             ∙ read-length size shape r t scratch b (home .now) (spare .now) (orElse-next (dataSizeFault size) fault passes);
       }
 

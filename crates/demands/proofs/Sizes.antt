@@ -17,17 +17,16 @@ use Rattle.shape.specs.declared.Shape.{Shape}
 use Rattle.table.specs.Rules.{BlockJudged}
 use Rattle.table.proofs.Exact.{block-passes, block-exactly}
 use Rattle.image.specs.Image.{headerFault, imageFault, writeFault}
-use Rattle.image.specs.Promises.{LendsNone, LendsData}
 use Rattle.image.proofs.Exact.{header-exactly, judge-exactly, write-exactly}
-use Rattle.image.proofs.Lent.{part-refused}
+use Rattle.image.proofs.Lent.{data-refused}
 use Rattle.mode.specs.declared.Mode.the-variants.{Of, Refused as NoMode}
 use Rattle.mode.specs.Modes.{FirstSays, modeOf, modeFault}
 use Rattle.mode.specs.Promises.{Finds}
 use Rattle.mode.proofs.Exact.{mode-apart, mode-none, mode-some, found-says, none-modes, mode-first, first-mode}
 use Rattle.reading.specs.Tracks.{bytesIn}
 use Rattle.reading.specs.Faults.{blockReadFault}
-use Rattle.reading.specs.Promises.{LendsBlock}
 use Rattle.reading.proofs.Exact.{read-exactly}
+use Rattle.reading.proofs.Parts.{data-refused as read-refused}
 use Rattle.demands.specs.Sizes.{OtherSize, OtherTrack, Sizes}
 
 -- 14 is a number
@@ -130,13 +129,11 @@ sizes =
       other-header = λ size other image sizes long result promise. promise .answers ∙ rw (given-14 sizes (header-14 sizes image long));
       other-image = λ size other image block code sizes long result promise. promise .answers ∙ rw (given-14 sizes (image-14 sizes image block code long));
       other-image-gives-none = λ size other image block code sizes long part promise.
-          part-refused (LendsNone image) (LendsData size image) part (dataSizeFault size orElse imageFault size (image .now) block code)
-          (λ none. fourteen (sym (given-14 sizes (image-14 sizes (image .now) block code long)) ∙ none)) promise .holds;
+          data-refused size image block code part promise (λ none. fourteen (sym (given-14 sizes (image-14 sizes (image .now) block code long)) ∙ none)) .holds;
       other-track = λ size other shape r t scratch b home spare lent result promise. promise .answers ∙ rw (given-14 (lent .sizes) (read-14 lent));
       other-track-spot = λ size other shape r t scratch b home spare lent result promise. promise .answers ∙ rw (given-14 (lent .sizes) (read-14 lent));
       other-track-gives-none = λ size other shape r t scratch b home spare lent part promise.
-          part-refused (LendsNone home) (LendsBlock size shape r t b home spare) part (dataSizeFault size orElse blockReadFault size shape r t scratch b (home .now) (spare .now))
-          (λ none. fourteen (sym (given-14 (lent .sizes) (read-14 lent)) ∙ none)) promise .holds;
+          read-refused size shape r t scratch b home spare part promise (λ none. fourteen (sym (given-14 (lent .sizes) (read-14 lent)) ∙ none)) .holds;
       mode-first = λ images apart size found. (some-apart images apart found, says-first images apart found);
       first-mode = λ images apart size some first.
           let is = first-mode images apart some first in

@@ -26,5 +26,5 @@ pub record Mission : Type 0 where
   pub unholed : NoHoles
   -- Q-9. An address has its angle, (sector + offset × group) mod S; a bad g, t or offset is refusal 1; and the groups change nothing else.
   pub angles : Angles
-  -- Q-10. A sector has 512 data bytes or 576. An image or a track of the one size is refused 14 at the other. The mode sector says the size of a drive: it is answered exactly where some copy of the format table says it and no earlier copy says any; 21 where none does, and 1 where copies lie no sector apart.
+  -- Q-10. A sector has 512 data bytes or 576, and any other size is refused 1, before all else, as demand 1 says. Data, an image or a track of the one size is refused 14 at the other. The mode sector says the size of a drive: it is answered exactly where some copy of the format table says it and no earlier copy says any; 21 exactly where none does, and 1 exactly where copies lie no sector apart.
   pub sizes : Sizes

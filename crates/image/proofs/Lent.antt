@@ -83,6 +83,14 @@ module _ (size : ℕ) (image : RefT (List ℕ)) (block code : ℕ) where
         let long : length (dataOf size (image .now)) ≡ size = length-data size (image .now) (image-length (image .now) size block code none) in
         omega (arith, ap length (sym (accepted-data none) ∙ empty))
 
+  -- the part of the public call, whose chain has the size first
+  module _ (part : RefT (List ℕ)) (lent : Data size image block code part) where
+    pub data-refused : ((dataSizeFault size orElse imageFault size (image .now) block code) ≡ 0 → ⊥) → LendsNone image part
+    data-refused some = part-refused Empty Whole part (dataSizeFault size orElse fault) some lent
+
+    pub data-accepted : (dataSizeFault size orElse imageFault size (image .now) block code) ≡ 0 → LendsData size image part
+    data-accepted none = part-accepted Empty Whole part (dataSizeFault size orElse fault) none lent
+
   -- two parts that the promise of the public call allows hold the same and lie at the same place
   pub data-one :
       (first second : RefT (List ℕ)) →

@@ -123,6 +123,14 @@ module _ (size : ℕ) (shape : Shape) (r : ℕ) (t scratch : List ℕ) (b : ℕ)
           }))))
           (λ some. rw (answer-refused (blockReadFault size shape r t scratch b (home .now) (spare .now)) NotSpotted (spotOf size shape r t b) some) (nowhere (refused-part some)))
 
+    -- the part of the public call, whose chain has the size first
+    module _ (part : RefT (List ℕ)) (lent : Data size shape r t scratch b home spare part) where
+      pub data-refused : ((dataSizeFault size orElse blockReadFault size shape r t scratch b (home .now) (spare .now)) ≡ 0 → ⊥) → LendsNone home part
+      data-refused some = part-refused Empty Whole part (dataSizeFault size orElse fault) some lent
+
+      pub data-accepted : (dataSizeFault size orElse blockReadFault size shape r t scratch b (home .now) (spare .now)) ≡ 0 → LendsBlock size shape r t b home spare part
+      data-accepted none = part-accepted Empty Whole part (dataSizeFault size orElse fault) none lent
+
     -- two parts that the promise of the public call allows hold the same and lie at the same place
     pub data-one :
         (first second : RefT (List ℕ)) → Data size shape r t scratch b home spare first → Data size shape r t scratch b home spare second →

@@ -13,11 +13,11 @@ use Rattle.shape.specs.declared.Shape.{Shape}
 use Rattle.image.specs.declared.Verdict.{Verdict}
 use Rattle.image.specs.declared.Verdict.the-variants.{Good, Refused as NotGood}
 use Rattle.image.specs.Promises.{LendsNone}
-use Rattle.image.proofs.Lent.{part-refused}
 use Rattle.reading.specs.declared.answers.Spot.{Spot}
 use Rattle.reading.specs.declared.answers.Spot.the-variants.{Refused as NotSpotted}
 use Rattle.reading.specs.Faults.{blockReadFault}
-use Rattle.reading.specs.Promises.{LendsBlock, spotOf, JudgeSized, DataSized, SpotSized, Judge, Data, Spots}
+use Rattle.reading.specs.Promises.{spotOf, JudgeSized, DataSized, SpotSized, Judge, Data, Spots}
+use Rattle.reading.proofs.Parts.{data-refused}
 
 module _ (size : ℕ) (shape : Shape) (r : ℕ) (t scratch : List ℕ) (b : ℕ) where
   module _ (sized : Size size) where
@@ -54,6 +54,4 @@ module _ (size : ℕ) (shape : Shape) (r : ℕ) (t scratch : List ℕ) (b : ℕ)
         ∙ rw (orElse-some (dataSizeFault size) (blockReadFault size shape r t scratch b home spare) some) (answer-refused (dataSizeFault size) NotSpotted (spotOf size shape r t b) some)
 
     pub size-lends-none : (home spare part : RefT (List ℕ)) → Data size shape r t scratch b home spare part → LendsNone home part
-    size-lends-none home spare part =
-        part-refused (LendsNone home) (LendsBlock size shape r t b home spare) part (dataSizeFault size orElse blockReadFault size shape r t scratch b (home .now) (spare .now))
-        (λ none. some (orElse-first (dataSizeFault size) _ none))
+    size-lends-none home spare part lent = data-refused size shape r t scratch b home spare part lent (λ none. some (orElse-first (dataSizeFault size) _ none))
