@@ -634,6 +634,7 @@ fn reads_of_a_size_in_order(size: u32) {
     let no_size = (512 + 576, proper(), home.clone(), spare.clone());
     cases.insert(cases.len() - 1, no_size);
     let expected = [1, 1, 1, 1, 1, 1, 7, 7, 7, 11, 11, 5, 14, 14, 15, 16, 16, 16, 18, 17, 1, 0];
+    assert_eq!(cases.len(), expected.len());
     for ((size, asked, home, spare), expected) in cases.iter().zip(expected) {
         let Asked { drive, r, table, scratch, number: block } = asked;
         let (size, drive, r, block) = (*size, *drive, *r, *block);
