@@ -18,8 +18,8 @@ use Rattle.first_table.specs.Promises.{FirstTable}
 use Rattle.spares.specs.Promises.{SectorOf as SpareSectorOf, AddressOf as SpareAddressOf, ShiftOf, BlockOn as SpareBlockOn, BlockAt as SpareBlockAtOf, Replacement, CensusOf, saidReplaced}
 use Rattle.image.specs.Promises.{Write, Header, Judge as ImageVerdict}
 use Rattle.mode.specs.Promises.{Finds}
-use Rattle.reading.specs.Promises.{Judge as ReadVerdict, Spots}
-use Rattle.demands.proofs.Determined.{image-header, image-judge, mode-find, reading-judge, reading-spot, shape-address-of, shape-sector-of, skip-block-on, skip-cursor-check, skip-cursor-start, skip-cursor-step, skip-sector-of, skipped-address-of, skipped-block-at, spares-address-of, spares-block-at, spares-block-on, spares-census, spares-sector-of, spares-shift}
+use Rattle.reading.specs.Promises.{TracksOf, Judge as ReadVerdict, Spots}
+use Rattle.demands.proofs.Determined.{image-header, image-judge, mode-find, reading-tracks, reading-judge, reading-spot, shape-address-of, shape-sector-of, skip-block-on, skip-cursor-check, skip-cursor-start, skip-cursor-step, skip-sector-of, skipped-address-of, skipped-block-at, spares-address-of, spares-block-at, spares-block-on, spares-census, spares-sector-of, spares-shift}
 use Rattle.board.specs.declared.answers.TbCounted.{TbCounted}
 use Rattle.board.specs.declared.answers.TbFormatted.{TbFormatted}
 use Rattle.board.specs.declared.answers.TbHeaded.{TbHeaded}
@@ -33,8 +33,9 @@ use Rattle.board.specs.declared.answers.TbReplaced.{TbReplaced}
 use Rattle.board.specs.declared.answers.TbShifted.{TbShifted}
 use Rattle.board.specs.declared.answers.TbSized.{TbSized}
 use Rattle.board.specs.declared.answers.TbSpotted.{TbSpotted}
+use Rattle.board.specs.declared.answers.TbTracks.{TbTracks}
 use Rattle.board.specs.declared.answers.TbWritten.{TbWritten}
-use Rattle.board.specs.Promises.{formattedFields, pagedFields, replacedFields, writtenFields, TellsCounted, TellsFormatted, TellsHeaded, TellsJob, TellsJudged, TellsLocated, TellsNamed, TellsPaged, TellsPlaced, TellsReplaced, TellsShifted, TellsSized, TellsSpotted, TellsWritten}
+use Rattle.board.specs.Promises.{formattedFields, pagedFields, replacedFields, writtenFields, TellsCounted, TellsFormatted, TellsHeaded, TellsJob, TellsJudged, TellsLocated, TellsNamed, TellsPaged, TellsPlaced, TellsReplaced, TellsShifted, TellsSized, TellsSpotted, TellsTracks, TellsWritten}
 use Rattle.board.proofs.Carried.{told-one}
 
 -- each result as it is made of its fields
@@ -73,6 +74,9 @@ shiftedOf n = record { refusal = n .0; shift = n .1 }
 
 abbrev sizedOf : ℕ × ℕ → TbSized
 sizedOf n = record { refusal = n .0; size = n .1 }
+
+abbrev tracksOf : ℕ × ℕ × ℕ × ℕ × ℕ × ℤ → TbTracks
+tracksOf n = record { refusal = n .0; «home_cylinder» = n .1; «home_head» = n .2; cylinder = n .3; head = n .4; shift = n .5 }
 
 abbrev spottedOf : ℕ × ℕ × ℕ → TbSpotted
 spottedOf n = record { refusal = n .0; image = n .1; offset = n .2 }
@@ -181,6 +185,9 @@ image-judge-one size image block code one other = ap judgedOf (told-one (image-j
 
 pub mode-one : (images : List ℕ) (apart : ℕ) {first second : TbSized} → TellsSized (Finds images apart) first → TellsSized (Finds images apart) second → first ≡ second
 mode-one images apart one other = ap sizedOf (told-one (mode-find images apart) one other)
+
+pub read-tracks-one : (shape : Shape) (r : ℕ) (table scratch : List ℕ) (block : ℕ) {first second : TbTracks} → TellsTracks (TracksOf shape r table scratch block) first → TellsTracks (TracksOf shape r table scratch block) second → first ≡ second
+read-tracks-one shape r table scratch block one other = ap tracksOf (told-one (reading-tracks shape r table scratch block) one other)
 
 pub read-judge-one : (size : ℕ) (shape : Shape) (r : ℕ) (table scratch : List ℕ) (block : ℕ) (home spare : List ℕ) {first second : TbJudged} → TellsJudged (ReadVerdict size shape r table scratch block home spare) first → TellsJudged (ReadVerdict size shape r table scratch block home spare) second → first ≡ second
 read-judge-one size shape r table scratch block home spare one other = ap judgedOf (told-one (reading-judge size shape r table scratch block home spare) one other)

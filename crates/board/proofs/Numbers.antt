@@ -17,7 +17,7 @@ use Rattle.first_table.specs.Promises.{FirstTable}
 use Rattle.spares.specs.Promises.{SectorOf as SpareSectorOf, AddressOf as SpareAddressOf, ShiftOf, BlockOn as SpareBlockOn, BlockAt as SpareBlockAtOf, Replacement, CensusOf}
 use Rattle.image.specs.Promises.{Write, Header, Judge as ImageVerdict}
 use Rattle.mode.specs.Promises.{Finds}
-use Rattle.reading.specs.Promises.{Judge as ReadVerdict, Spots}
+use Rattle.reading.specs.Promises.{TracksOf, Judge as ReadVerdict, Spots}
 use Rattle.shape.specs.Addresses.{SectorOfJudged as ShapeSectorOfJudged, AddressOfJudged as ShapeAddressOfJudged}
 use Rattle.skip.specs.Translation.{SectorOfJudged as SkipSectorOfJudged, BlockOnJudged as SkipBlockOnJudged}
 use Rattle.skip.specs.Cursors.{CheckJudged, StepJudged}
@@ -31,7 +31,7 @@ use Rattle.image.specs.Judged.{HeaderJudged, ImageJudged, WriteJudged as ImageW
 use Rattle.mode.specs.Modes.{ModeJudged}
 use Rattle.reading.specs.Judged.{BlockReadJudged}
 use Rattle.demands.specs.Relations.{Keeps}
-use Rattle.demands.proofs.Demand1.{skip-sector-of, skip-block-on, cursor-start, cursor-check, cursor-step, shape-sector-of, shape-address-of, skipped-address-of, skipped-block-at, page-read, page-write, format-format, spares-sector-of, spares-address-of, spares-shift, spares-block-on, spares-block-at, spares-replace, spares-census, spares-first-table, image-write, image-header, image-judge, mode-find, reading-judge, reading-spot, page-read-keeps, page-write-keeps, format-keeps, spares-replace-keeps, spares-first-table-keeps, image-write-keeps}
+use Rattle.demands.proofs.Demand1.{skip-sector-of, skip-block-on, cursor-start, cursor-check, cursor-step, shape-sector-of, shape-address-of, skipped-address-of, skipped-block-at, page-read, page-write, format-format, spares-sector-of, spares-address-of, spares-shift, spares-block-on, spares-block-at, spares-replace, spares-census, spares-first-table, image-write, image-header, image-judge, mode-find, reading-tracks, reading-judge, reading-spot, page-read-keeps, page-write-keeps, format-keeps, spares-replace-keeps, spares-first-table-keeps, image-write-keeps}
 use Rattle.board.specs.declared.answers.TbCounted.{TbCounted}
 use Rattle.board.specs.declared.answers.TbFormatted.{TbFormatted}
 use Rattle.board.specs.declared.answers.TbHeaded.{TbHeaded}
@@ -45,8 +45,9 @@ use Rattle.board.specs.declared.answers.TbReplaced.{TbReplaced}
 use Rattle.board.specs.declared.answers.TbShifted.{TbShifted}
 use Rattle.board.specs.declared.answers.TbSized.{TbSized}
 use Rattle.board.specs.declared.answers.TbSpotted.{TbSpotted}
+use Rattle.board.specs.declared.answers.TbTracks.{TbTracks}
 use Rattle.board.specs.declared.answers.TbWritten.{TbWritten}
-use Rattle.board.specs.Promises.{NumbersBy, countedFields, formattedFields, headedFields, jobFields, judgedFields, locatedFields, namedFields, pagedFields, placedFields, replacedFields, shiftedFields, sizedFields, spottedFields, writtenFields, TellsCounted, TellsFormatted, TellsHeaded, TellsJob, TellsJudged, TellsLocated, TellsNamed, TellsPaged, TellsPlaced, TellsReplaced, TellsShifted, TellsSized, TellsSpotted, TellsWritten}
+use Rattle.board.specs.Promises.{NumbersBy, countedFields, formattedFields, headedFields, jobFields, judgedFields, locatedFields, namedFields, pagedFields, placedFields, replacedFields, shiftedFields, sizedFields, spottedFields, tracksFields, writtenFields, TellsCounted, TellsFormatted, TellsHeaded, TellsJob, TellsJudged, TellsLocated, TellsNamed, TellsPaged, TellsPlaced, TellsReplaced, TellsShifted, TellsSized, TellsSpotted, TellsTracks, TellsWritten}
 use Rattle.board.proofs.Carried.{told-numbers, told-keeps}
 
 pub skip-sector-numbers : (n : ℕ) (list : List ℕ) (block : ℕ) {result : TbPlaced} → TellsPlaced (SkipSectorOf n list block) result → NumbersBy (λ fields. fields .0) (λ k. (k, 0)) (SkipSectorOfJudged n list block) (placedFields result)
@@ -138,6 +139,9 @@ image-judge-numbers size image block code = told-numbers (image-judge size image
 
 pub mode-numbers : (images : List ℕ) (apart : ℕ) {result : TbSized} → TellsSized (Finds images apart) result → NumbersBy (λ fields. fields .0) (λ k. (k, 0)) (ModeJudged images apart) (sizedFields result)
 mode-numbers images apart = told-numbers (mode-find images apart)
+
+pub read-tracks-numbers : (shape : Shape) (r : ℕ) (table scratch : List ℕ) (block : ℕ) {result : TbTracks} → TellsTracks (TracksOf shape r table scratch block) result → NumbersBy (λ fields. fields .0) (λ k. (k, 0, 0, 0, 0, pos 0)) (BlockJudged shape r table scratch block) (tracksFields result)
+read-tracks-numbers shape r table scratch block = told-numbers (reading-tracks shape r table scratch block)
 
 pub read-judge-numbers : (size : ℕ) (shape : Shape) (r : ℕ) (table scratch : List ℕ) (block : ℕ) (home spare : List ℕ) {result : TbJudged} → TellsJudged (ReadVerdict size shape r table scratch block home spare) result → NumbersBy (λ fields. fields) (λ k. k) (DataSizeJudged size andThen BlockReadJudged size shape r table scratch block home spare) (judgedFields result)
 read-judge-numbers size shape r table scratch block home spare = told-numbers (reading-judge size shape r table scratch block home spare)

@@ -24,7 +24,8 @@ use Rattle.image.specs.declared.Head.{Head}
 use Rattle.image.specs.declared.Verdict.{Verdict}
 use Rattle.mode.specs.Promises.{saidMode}
 use Rattle.mode.specs.declared.Mode.{Mode}
-use Rattle.reading.specs.Promises.{saidSpot}
+use Rattle.reading.specs.Promises.{saidTracks, saidSpot}
+use Rattle.reading.specs.declared.answers.Tracks.{Tracks}
 use Rattle.reading.specs.declared.answers.Spot.{Spot}
 use Rattle.board.specs.declared.answers.TbPlaced.{TbPlaced}
 use Rattle.board.specs.declared.answers.TbNamed.{TbNamed}
@@ -39,6 +40,7 @@ use Rattle.board.specs.declared.answers.TbCounted.{TbCounted}
 use Rattle.board.specs.declared.answers.TbHeaded.{TbHeaded}
 use Rattle.board.specs.declared.answers.TbJudged.{TbJudged}
 use Rattle.board.specs.declared.answers.TbSized.{TbSized}
+use Rattle.board.specs.declared.answers.TbTracks.{TbTracks}
 use Rattle.board.specs.declared.answers.TbSpotted.{TbSpotted}
 
 -- the fields are the numbers that some answer says which the promise allows; a promise allows one answer
@@ -142,6 +144,13 @@ sizedFields r = (r .refusal, r .size)
 
 abbrev pub TellsSized : (Mode → Type 0) → TbSized → Type 0
 TellsSized Promise r = Tells saidMode Promise (sizedFields r)
+
+-- refusal, cylinder and head of the home track, cylinder and head of the track that the block lies on, shift
+abbrev pub tracksFields : TbTracks → ℕ × ℕ × ℕ × ℕ × ℕ × ℤ
+tracksFields r = (r .refusal, r .«home_cylinder», r .«home_head», r .cylinder, r .head, r .shift)
+
+abbrev pub TellsTracks : (Tracks → Type 0) → TbTracks → Type 0
+TellsTracks Promise r = Tells saidTracks Promise (tracksFields r)
 
 -- refusal, image, offset
 abbrev pub spottedFields : TbSpotted → ℕ × ℕ × ℕ

@@ -8,8 +8,8 @@ ghost use Rattle.format.specs.Promises.{saidFormatted};
 ghost use Rattle.spares.specs.Promises.{saidShifted, saidReplaced, saidCounted};
 ghost use Rattle.image.specs.Promises.{saidHead, saidVerdict};
 ghost use Rattle.mode.specs.Promises.{saidMode};
-ghost use Rattle.reading.specs.Promises.{saidSpot};
-ghost use Rattle.board.specs.Promises.{placedFields, namedFields, writtenFields, locatedFields, jobFields, pagedFields, formattedFields, shiftedFields, replacedFields, countedFields, headedFields, judgedFields, sizedFields, spottedFields};
+ghost use Rattle.reading.specs.Promises.{saidTracks, saidSpot};
+ghost use Rattle.board.specs.Promises.{placedFields, namedFields, writtenFields, locatedFields, jobFields, pagedFields, formattedFields, shiftedFields, replacedFields, countedFields, headedFields, judgedFields, sizedFields, tracksFields, spottedFields};
 use format::Formatted;
 use image::Head;
 use image::Verdict;
@@ -19,6 +19,7 @@ use paper::Named;
 use paper::Placed;
 use paper::Written;
 use reading::Spot;
+use reading::Tracks;
 use shape::Address;
 use shape::Located;
 use skip::Cursor;
@@ -126,6 +127,17 @@ pub struct TbJudged {
 pub struct TbSized {
     pub refusal: u32,
     pub size: u32,
+}
+
+// The home track of a block, the track that it lies on, and how many cylinders the arm moves between them, negative toward cylinder 0.
+#[repr(C)]
+pub struct TbTracks {
+    pub refusal: u32,
+    pub home_cylinder: u32,
+    pub home_head: u32,
+    pub cylinder: u32,
+    pub head: u32,
+    pub shift: i32,
 }
 
 // Where the data of a block begins: in image 0, that of its home track, or in image 1, the second one, and how far inside it.
@@ -329,6 +341,29 @@ pub fn sized(answer: Mode) -> TbSized
     match answer {
         Mode::Of(size) => TbSized { refusal: 0, size },
         Mode::Refused(refusal) => TbSized { refusal, size: 0 },
+    }
+}
+
+pub fn tracked(answer: Tracks) -> TbTracks
+    ensures { λ result. ⌜ tracksFields result ≡ saidTracks answer ⌝ }
+{
+    match answer {
+        Tracks::Fetch(pair) => TbTracks {
+            refusal: 0,
+            home_cylinder: pair.home.cylinder,
+            home_head: pair.home.head,
+            cylinder: pair.there.cylinder,
+            head: pair.there.head,
+            shift: pair.shift,
+        },
+        Tracks::Refused(refusal) => TbTracks {
+            refusal,
+            home_cylinder: 0,
+            home_head: 0,
+            cylinder: 0,
+            head: 0,
+            shift: 0,
+        },
     }
 }
 

@@ -9,8 +9,8 @@ ghost use Rattle.first_table.specs.Promises.{FirstTable};
 ghost use Rattle.spares.specs.Promises.{SectorOf as SpareSectorOf, AddressOf as SpareAddressOf, ShiftOf, BlockOn as SpareBlockOn, BlockAt as SpareBlockAtOf, Replacement, CensusOf};
 ghost use Rattle.image.specs.Promises.{Write, Header, Judge as ImageVerdict};
 ghost use Rattle.mode.specs.Promises.{Finds};
-ghost use Rattle.reading.specs.Promises.{Judge as ReadVerdict, Spots, ReadScratched};
-ghost use Rattle.board.specs.Promises.{TellsPlaced, TellsNamed, TellsWritten, TellsLocated, TellsJob, TellsPaged, TellsFormatted, TellsShifted, TellsReplaced, TellsCounted, TellsHeaded, TellsJudged, TellsSized, TellsSpotted};
+ghost use Rattle.reading.specs.Promises.{TracksOf, Judge as ReadVerdict, Spots, ReadScratched};
+ghost use Rattle.board.specs.Promises.{TellsPlaced, TellsNamed, TellsWritten, TellsLocated, TellsJob, TellsPaged, TellsFormatted, TellsShifted, TellsReplaced, TellsCounted, TellsHeaded, TellsJudged, TellsSized, TellsTracks, TellsSpotted};
 
 mod answers;
 
@@ -27,6 +27,7 @@ pub use answers::TbReplaced;
 pub use answers::TbShifted;
 pub use answers::TbSized;
 pub use answers::TbSpotted;
+pub use answers::TbTracks;
 pub use answers::TbWritten;
 use shape::Shape;
 use skip::Cursor;
@@ -293,6 +294,21 @@ pub extern "C" fn tb_mode(images: &[u8], apart: u32) -> TbSized
     ensures { λ result. ⌜ TellsSized (Finds (now (images .entry)) apart) result ⌝ }
 {
     answers::sized(mode::find(images, apart))
+}
+
+// The tracks to fetch for a read of a block, and how many cylinders the arm moves between them. Checks 1, 7, 11, 5.
+#[no_mangle]
+pub extern "C" fn tb_read_tracks(
+    shape: Shape,
+    r: u32,
+    table: &[u32],
+    scratch: &mut [u32],
+    block: u32,
+) -> TbTracks
+    ensures { λ result. ⌜ TellsTracks (TracksOf shape r (now (table .entry)) (now (scratch .entry)) block) result ⌝ }
+    ensures { λ result. ⌜ Scratched shape r (now (scratch .entry)) (now (scratch .exit)) ⌝ }
+{
+    answers::tracked(reading::tracks(shape, r, table, scratch, block))
 }
 
 // The verdict on a block from the images of its home track and of its spare's track. Checks 1, 7, 11, 5, 14, 15 to 18.

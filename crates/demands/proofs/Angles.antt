@@ -166,6 +166,7 @@ each-call =
           in-any-groups _
           (λ shape bad outcome given. spares-first-table shape r list room outcome (NotWritten outOfRange, room) given (fills-refuses (λ k. refl) outOfRange (rw bad) (omega arith)))
           (λ shape g tracks offset one other first second here there. spares-first-table shape r list room first second here (rw one (rw other at there)));
+      read-tracks = λ r t scratch b. in-any-groups _ (λ shape bad answer given. rw bad at (given .answers)) (λ shape g tracks offset one other first second here there. gives-one (rw one at here) (rw other at there));
       read-judge = λ size r t scratch b home spare. in-any-groups _ (λ shape bad answer given. (rw bad at (given .answers)) ∙ rw (one-either size)) (λ shape g tracks offset one other first second here there. gives-one (rw one at here) (rw other at there));
       read-spot = λ size r t scratch b home spare. in-any-groups _ (λ shape bad answer given. (rw bad at (given .answers)) ∙ rw (one-either size)) (λ shape g tracks offset one other first second here there. gives-one (rw one at here) (rw other at there));
       read-data = λ size r t scratch b home spare.

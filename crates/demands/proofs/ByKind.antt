@@ -54,10 +54,13 @@ use Rattle.image.specs.declared.Verdict.the-variants.{Good, Refused as NotGood}
 use Rattle.mode.specs.Promises.{saidMode, GivesMode}
 use Rattle.mode.specs.declared.Mode.{Mode}
 use Rattle.mode.specs.declared.Mode.the-variants.{Of as ModeOf, Refused as NoMode}
-use Rattle.reading.specs.Promises.{saidSpot, GivesSpot}
+use Rattle.reading.specs.Promises.{saidTracks, GivesTracks, saidSpot, GivesSpot}
+use Rattle.reading.specs.declared.answers.Pair.{Pair}
+use Rattle.reading.specs.declared.answers.Tracks.{Tracks}
+use Rattle.reading.specs.declared.answers.Tracks.the-variants.{Fetch, Refused as NotFetched}
 use Rattle.reading.specs.declared.answers.Spot.{Spot}
 use Rattle.reading.specs.declared.answers.Spot.the-variants.{InHome, InSpare, Refused as NotSpotted}
-use Rattle.demands.specs.Numbered.{JobRefused, PlacedBy, NamedBy, WrittenBy, LocatedBy, JobBy, PagedBy, FormattedBy, ShiftedBy, ReplacedBy, CountedBy, HeadBy, VerdictBy, ModeBy, SpotBy}
+use Rattle.demands.specs.Numbered.{JobRefused, PlacedBy, NamedBy, WrittenBy, LocatedBy, JobBy, PagedBy, FormattedBy, ShiftedBy, ReplacedBy, CountedBy, HeadBy, VerdictBy, ModeBy, TracksBy, SpotBy}
 use Rattle.demands.proofs.Chains.{by-the-numbers}
 
 -- a block or no block, and no refusal
@@ -176,6 +179,11 @@ module _ {Judged : ℕ → Type 0} {fault : ℕ} (exactly : Exactly Judged fault
   pub mode-by : {size : ℕ} {result : Mode} → GivesMode fault (ModeOf size) result → ModeBy Judged result
   mode-by given =
       by-the-numbers (λ numbers. numbers .0) (λ k. refl) refl (λ k result. result ≡ NoMode k) (λ k e. ap (λ (r : Mode). saidMode r .0) e)
+      (λ clash. let z : _≡_ {A = ℕ} 0 1 = cc in absurd (omega arith)) given exactly
+
+  pub tracks-by : {pair : Pair} {result : Tracks} → GivesTracks fault (Fetch pair) result → TracksBy Judged result
+  tracks-by given =
+      by-the-numbers (λ numbers. numbers .0) (λ k. refl) refl (λ k result. result ≡ NotFetched k) (λ k e. ap (λ (r : Tracks). saidTracks r .0) e)
       (λ clash. let z : _≡_ {A = ℕ} 0 1 = cc in absurd (omega arith)) given exactly
 
   pub spot-by : (on-spare : Bool) (offset : ℕ) {result : Spot} → GivesSpot fault (pick on-spare InSpare InHome offset) result → SpotBy Judged result

@@ -67,15 +67,16 @@ use Rattle.mode.proofs.Exact.{mode-exactly}
 use Rattle.reading.specs.Tracks.{dataStart}
 use Rattle.reading.specs.Faults.{blockReadFault}
 use Rattle.reading.specs.Judged.{BlockReadJudged}
-use Rattle.reading.specs.Promises.{Judge as ReadJudge, Data as ReadData, Spots}
+use Rattle.reading.specs.Promises.{TracksOf, Judge as ReadJudge, Data as ReadData, Spots}
+use Rattle.reading.specs.declared.answers.Tracks.{Tracks}
 use Rattle.reading.specs.declared.answers.Spot.{Spot}
 use Rattle.reading.proofs.Exact.{read-exactly}
 use Rattle.reading.proofs.Parts.{read-length, data-refused as read-refused, data-accepted as read-accepted}
 use Rattle.demands.specs.Relations.{Keeps, PartBy}
-use Rattle.demands.specs.Numbered.{PlacedBy, NamedBy, WrittenBy, LocatedBy, JobBy, PagedBy, FormattedBy, ShiftedBy, ReplacedBy, CountedBy, HeadBy, VerdictBy, ModeBy, SpotBy}
+use Rattle.demands.specs.Numbered.{PlacedBy, NamedBy, WrittenBy, LocatedBy, JobBy, PagedBy, FormattedBy, ShiftedBy, ReplacedBy, CountedBy, HeadBy, VerdictBy, ModeBy, TracksBy, SpotBy}
 use Rattle.demands.specs.Demand1.{EachByTheNumbers, EachKeeps, Demand1}
 use Rattle.demands.proofs.Chains.{keeps}
-use Rattle.demands.proofs.ByKind.{found-naming, lying-naming, placed-by, named-by, written-by, located-by, ready-by, stepped-by, paged-by, formatted-by, shifted-by, replaced-by, counted-by, head-by, verdict-by, mode-by, spot-by}
+use Rattle.demands.proofs.ByKind.{found-naming, lying-naming, placed-by, named-by, written-by, located-by, ready-by, stepped-by, paged-by, formatted-by, shifted-by, replaced-by, counted-by, head-by, verdict-by, mode-by, tracks-by, spot-by}
 use Rattle.demands.proofs.Rooms.{each-hands}
 use Rattle.demands.proofs.Determined.{each-determined}
 use Rattle.demands.proofs.ThereAndBack.{each-again}
@@ -171,6 +172,9 @@ module _ (shape : Shape) (r : ℕ) (t scratch : List ℕ) where
       NamedBy (SpareBlockAtJudged shape r t scratch cylinder head sector) result
   spares-block-at cylinder head sector result promise =
       named-by (spare-block-at-exactly shape r t scratch cylinder head sector) (lying-naming (driveOf shape r) t (sectorAt shape cylinder head sector)) promise
+
+  pub reading-tracks : (b : ℕ) (result : Tracks) → TracksOf shape r t scratch b result → TracksBy (BlockJudged shape r t scratch b) result
+  reading-tracks b result promise = tracks-by (block-exactly shape r t scratch b) promise
 
   pub spares-census : (result : Counted) → CensusOf shape r t scratch result → CountedBy (TableJudged shape r t scratch) result
   spares-census result promise = counted-by (table-exactly shape r t scratch) promise
@@ -284,6 +288,7 @@ each-by-the-numbers =
       image-judge = image-judge;
       image-data = image-data;
       mode-find = mode-find;
+      reading-tracks = reading-tracks;
       reading-judge = reading-judge;
       reading-spot = reading-spot;
       reading-data = reading-data;

@@ -106,7 +106,7 @@ module _ (shape : Shape) (r : ℕ) (t scratch : List ℕ) (b : ℕ) (after : Lis
     step-kills = rw (step .holds) (replace-unusable-more shape r t scratch b accepted)
 
   -- and a refused one leaves the table as it was
-  step-leaves : (fault : ℕ) → Replacement shape r t scratch b (NotReplaced fault) after → after ≡ t
+  pub step-leaves : (fault : ℕ) → Replacement shape r t scratch b (NotReplaced fault) after → after ≡ t
   step-leaves fault step =
       byFault (replaceFault shape r t scratch b)
       (λ none.

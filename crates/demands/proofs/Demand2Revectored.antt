@@ -1,11 +1,11 @@
 -- Demand 2 on a revectored drive: every block has one sector, its home or else the spare whose descriptor names it, and no other block has that sector. An unusable spare has no block, and stays unusable. A replacement changes the descriptor that the block had and the one that it takes, and 13 means that every spare is taken.
 -- Assumes nothing.
 use Rattle.paper.proofs.Kept.{gives-one, gives-number, fills-gives}
-use Prim.Native.Nat.{ℕ, _*_, _/_, _<_}
+use Prim.Native.Nat.{ℕ, _*_, _<_}
 use mathlib.Core.Path.{_≡_, refl, sym, _∙_, ap, subst}
 use mathlib.Core.List.{List}
 use native.Mathlib.Omega.{arith}
-use lib.IntN.{ℤ, pos, _+ℤ_, +ℤ-idr}
+use lib.IntN.{ℤ, pos, _+ℤ_}
 use lib.ListN.{length, getD}
 use borrow.Author.Tests.{lt-leb}
 use Rattle.paper.specs.Refusals.{noSpare, noSuchSector}
@@ -14,9 +14,8 @@ use Rattle.paper.specs.declared.Placed.{Placed}
 use Rattle.paper.specs.declared.Placed.the-variants.{At, Refused as NotPlaced}
 use Rattle.paper.specs.declared.Named.{Named}
 use Rattle.paper.specs.declared.Named.the-variants.{Block, NoBlock, Refused as NotNamed}
-use Rattle.paper.proofs.Cases.{byBool}
 use Rattle.paper.proofs.Chain.{orElse-first, orElse-next, answer-accepted}
-use Rattle.paper.proofs.Rows.{below-shows, tells-lt}
+use Rattle.paper.proofs.Rows.{below-shows}
 use Rattle.shape.specs.declared.Shape.{Shape}
 use Rattle.shape.specs.declared.Address.{Address}
 use Rattle.shape.specs.declared.Located.{Located}
@@ -32,15 +31,15 @@ use Rattle.layout.specs.declared.Drive.{Drive}
 use Rattle.layout.specs.Layouts.{driveOf, sectorsPerTrack, homeSector, spareSector, homeCylinder}
 use Rattle.layout.specs.Steps.{Laid}
 use Rattle.layout.specs.Descriptors.{unusable, codeOf, Names}
-use Rattle.layout.proofs.Layings.{track-whole, drive-whole}
-use Rattle.layout.proofs.Sectors.{home-track, spare-track, home-below, spare-below, home-no-spare}
+use Rattle.layout.proofs.Layings.{drive-whole}
+use Rattle.layout.proofs.Sectors.{home-below, spare-below, home-no-spare}
 use Rattle.layout.proofs.Words.{tells-names}
 use Rattle.table.specs.Rules.{Sound, tableFault, blockFault, BlockJudged}
 use Rattle.table.specs.Scratch.{Enough}
-use Rattle.table.specs.Lookup.{Replaced, isReplaced, placeOf, liesOn, lyingOn, Resides, Vacant, home-left, spare-unused}
+use Rattle.table.specs.Lookup.{Replaced, placeOf, liesOn, lyingOn, Resides, Vacant, home-left, spare-unused}
 use Rattle.table.proofs.Lookups.{tells-replaced, place-once, lies-shows, lies-only, lies-apart, none-on-unusable, lying-of-lies, vacant-told, lies-below, lies-of-lying, vacant-shows}
 use Rattle.replacing.specs.Replacing.{NoneFree, Moved, spareFor}
-use Rattle.spares.specs.Spares.{shiftOf, blockOnFault, blockAtFault, replaceFault}
+use Rattle.spares.specs.Spares.{blockOnFault, blockAtFault, replaceFault}
 use Rattle.spares.specs.Promises.{SectorOf, AddressOf, ShiftOf, BlockOn, BlockAt, Replacement}
 use Rattle.spares.specs.declared.Shifted.the-variants.{By}
 use Rattle.spares.specs.declared.Replaced.{Replaced as ReplaceAnswer}
@@ -48,7 +47,8 @@ use Rattle.spares.specs.declared.Replaced.the-variants.{Place, Refused as NotRe
 use Rattle.spares.proofs.Exact.{sector-within}
 use Rattle.table.proofs.Exact.{sound-laid, sound-obeys, table-sound, table-passes, table-alike, block-sound, block-below, block-passes, block-exactly}
 use Rattle.spares.proofs.Accepted.{replace-block, after-sound, after-stays, replace-moves, no-spare-shows, no-spare-told}
-use Rattle.spares.proofs.Shifts.{shift-at-home, shift-leads, shift-sound}
+use Rattle.arm.specs.Shifts.{shiftOf}
+use Rattle.arm.proofs.Shifts.{shift-at-home, shift-sound, home-address, shift-reaches}
 use Rattle.demands.proofs.ByKind.{naming-says, lying-naming}
 use Rattle.demands.specs.Demand2Revectored.{LiesThere, Alters, ShiftLeads}
 use Rattle.demands.specs.Histories.{Later, at-once, called}
@@ -67,7 +67,7 @@ module _ {shape : Shape} {r : ℕ} {t : List ℕ} (sound : Sound shape r t) wher
       sym (place-once obeys p b in-p (tells-names (getD t p 0) b .told names-p)) ∙ place-once obeys q b in-q (tells-names (getD t q 0) b .told names-q)
 
   -- a block lies on a sector of the drive
-  lies-inside : (b : ℕ) → b < driveOf shape r .blocks → liesOn (driveOf shape r) t b < sizeOf shape
+  pub lies-inside : (b : ℕ) → b < driveOf shape r .blocks → liesOn (driveOf shape r) t b < sizeOf shape
   lies-inside b below = rw (drive-whole (sound .spared)) at (lies-below (sound-laid sound) t (sound-obeys sound) b below)
 
   module _ (scratch : List ℕ) (enough : Enough shape r scratch) where
@@ -111,16 +111,16 @@ module _ {shape : Shape} {r : ℕ} {t : List ℕ} (sound : Sound shape r t) wher
 module _ (shape : Shape) (r : ℕ) (t : List ℕ) where
   -- a sector that is answered for a block
   module _ (scratch : List ℕ) (b s : ℕ) (promise : SectorOf shape r t scratch b (At s)) where
-    answered-passes : blockFault shape r t scratch b ≡ 0
+    pub answered-passes : blockFault shape r t scratch b ≡ 0
     answered-passes = sym (gives-number promise (λ said. said .0) (λ k. refl) refl)
 
-    answered-sound : Sound shape r t
+    pub answered-sound : Sound shape r t
     answered-sound = block-sound shape r t scratch b answered-passes
 
-    answered-below : b < driveOf shape r .blocks
+    pub answered-below : b < driveOf shape r .blocks
     answered-below = block-below shape r t scratch b answered-passes
 
-    answered-is : s ≡ liesOn (driveOf shape r) t b
+    pub answered-is : s ≡ liesOn (driveOf shape r) t b
     answered-is = rw answered-passes at (ap (λ (said : ℕ × ℕ). said .1) (promise .says))
 
     answered-inside : s < sizeOf shape
@@ -351,21 +351,12 @@ module _ (shape : Shape) (r : ℕ) (t : List ℕ) where
       sound : Sound shape r t
       sound = block-sound shape r t scratch b none
 
-      goes : pos (homeCylinder (driveOf shape r) b) +ℤ shiftOf (driveOf shape r) t b ≡ pos (liesOn (driveOf shape r) t b / sectorsPerTrack (driveOf shape r) / shape .heads)
-      goes =
-          byBool (isReplaced t b)
-          (λ e.
-          shift-leads (driveOf shape r) t b (tells-lt (placeOf t b) (length t) .holds e)
-          ∙ rw e (rw (spare-track (sound-laid sound) (placeOf t b))))
-          (λ e. rw e (rw (home-track (sound-laid sound) b) (+ℤ-idr (pos (homeCylinder (driveOf shape r) b)))))
-
       leads :
           (asked : List ℕ) (address : Address) → AddressOf shape r t asked b (LocatedAt address) →
           pos (homeCylinder (driveOf shape r) b) +ℤ shiftOf (driveOf shape r) t b ≡ pos (address .cylinder)
       leads asked address located =
-          goes
-          ∙ (ap (λ (long : ℕ). pos (liesOn (driveOf shape r) t b / long / shape .heads)) (track-whole (sound .spared))
-          ∙ ap (λ (there : Address). pos (there .cylinder)) (sym (located-is located)))
+          ap (λ (home : ℕ). pos home +ℤ shiftOf (driveOf shape r) t b) (sym (home-address sound b))
+          ∙ (shift-reaches sound b ∙ ap (λ (there : Address). pos (there .cylinder)) (sym (located-is located)))
 
       stays : (asked : List ℕ) → SectorOf shape r t asked b (At (homeSector (driveOf shape r) b)) → Replaced t b → ⊥
       stays asked home replaced =

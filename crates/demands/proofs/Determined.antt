@@ -106,6 +106,9 @@ module _ (shape : Shape) (r : ℕ) (t scratch : List ℕ) where
   pub spares-replace : (b : ℕ) → OneFilled (Spares.Replacement shape r t scratch b)
   spares-replace b = fills-determines _ _ _ _ _ _ _
 
+  pub reading-tracks : (b : ℕ) → OneResult (Reading.TracksOf shape r t scratch b)
+  reading-tracks b = gives-determines _ _ _ _ _
+
   pub spares-census : OneResult (Spares.CensusOf shape r t scratch)
   spares-census = gives-determines _ _ _ _ _
 
@@ -190,6 +193,7 @@ each-determined =
       image-judge = image-judge;
       image-data = image-data;
       mode-find = mode-find;
+      reading-tracks = reading-tracks;
       reading-judge = reading-judge;
       reading-spot = reading-spot;
       reading-data = reading-data;

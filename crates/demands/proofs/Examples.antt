@@ -59,6 +59,7 @@ use Rattle.first_table.specs.Marks.{passing, badSpares, badHomes, marked}
 use Rattle.first_table.specs.Tables.{replacedAll, firstTable, spareFault, firstTableFault as startFault}
 use Rattle.first_table.proofs.Exact.{spares-judge}
 use Rattle.spares.specs.declared.Counted.the-variants.{Counts}
+use Rattle.arm.specs.Shifts.{shiftOf}
 use Rattle.spares.specs.Spares as Spares
 use Rattle.spares.specs.Promises.{saidCounted}
 use Rattle.spares.proofs.Accepted.{no-spare-told}
@@ -73,11 +74,12 @@ use Rattle.mode.specs.Modes.{xbnBytes, xbnImage, firstWord, sizeIn, sizeSaid, m
 use Rattle.mode.proofs.Found.{number-says, says-inside, found-first, found-none}
 use Rattle.mode.proofs.Exact.{mode-apart, mode-none, mode-some}
 use Rattle.reading.specs.Promises as Reading
+use Rattle.reading.specs.declared.answers.Tracks.the-variants.{Fetch}
 use Rattle.demands.specs.Headers.{Expected, own, descriptor, Holding}
 use Rattle.demands.proofs.Headers.{headers}
 use Rattle.demands.specs.Relations.{AllowsOnly}
 use Rattle.demands.specs.Inputs.{chart, small, eight, holding, noneReplaced, afterSeven, afterEight, afterSix, sevenOnFive, eightOnThree, sevenOnSix, sixOnTwo, sevenOnSeven, zeroOnZero, sevenOnOne, sevenPastFour, tall, tallWith}
-use Rattle.demands.specs.Rows.{skip-sector, skip-block, format, spare-first, spare-replace, spare-full, spare-shift, spare-address, spare-sector, spare-block, spare-census, spare-short, image-write, image-heads, image-unwritten, image-header, image-judge, image-unheaded, image-unjudged, read-judge, read-unsized, mode-find, Holds, AllHold, done, _also_, zeros, firstOne, lastOne, thousands, modeData, modeImage, modeDamaged, paperRows}
+use Rattle.demands.specs.Rows.{skip-sector, skip-block, format, spare-first, spare-replace, spare-full, spare-shift, read-tracks, spare-address, spare-sector, spare-block, spare-census, spare-short, image-write, image-heads, image-unwritten, image-header, image-judge, image-unheaded, image-unjudged, read-judge, read-unsized, mode-find, Holds, AllHold, done, _also_, zeros, firstOne, lastOne, thousands, modeData, modeImage, modeDamaged, paperRows}
 
 module _ {Answer Said : Type 0} {said : Answer → Said} {nothing : ℕ → Said} {refused : ℕ → Answer} {fault : ℕ} {accepted : Answer} (alone : (k : ℕ) → said (refused k) ≡ nothing k) where
   -- a promise allows the answer that its chain makes, and what holds of every answer that it allows
@@ -174,6 +176,12 @@ module _ (shape : Shape) (r : ℕ) where
       answer (blockFault shape r table (numbers shape r) block) (λ k. (k, 0)) (0, liesOn (driveOf shape r) table block) ≡ figures → Holds (spare-sector shape r table block figures)
   lies-told table block same scratch enough = allows (λ k. refl) (rw (as-numbers shape r table scratch enough) same)
 
+  tracks-told :
+      (table : List ℕ) (block : ℕ) {figures : ℕ × ℕ × ℕ × ℕ × ℕ × ℤ} →
+      answer (blockFault shape r table (numbers shape r) block) (λ k. (k, 0, 0, 0, 0, pos 0)) (Reading.saidTracks (Fetch (Reading.pairOf shape r table block))) ≡ figures →
+      Holds (read-tracks shape r table block figures)
+  tracks-told table block same scratch enough = allows (λ k. refl) (rw (as-numbers shape r table scratch enough) same)
+
   address-told :
       (table : List ℕ) (block : ℕ) {figures : ℕ × ℕ × ℕ × ℕ × ℕ} →
       answer (blockFault shape r table (numbers shape r) block) (λ k. (k, 0, 0, 0, 0)) (saidLocated (LocatedAt (addressAt shape (liesOn (driveOf shape r) table block)))) ≡ figures →
@@ -182,7 +190,7 @@ module _ (shape : Shape) (r : ℕ) where
 
   shift-told :
       (table : List ℕ) (block : ℕ) {figures : ℕ × ℤ} →
-      answer (blockFault shape r table (numbers shape r) block) (λ k. (k, pos 0)) (0, Spares.shiftOf (driveOf shape r) table block) ≡ figures →
+      answer (blockFault shape r table (numbers shape r) block) (λ k. (k, pos 0)) (0, shiftOf (driveOf shape r) table block) ≡ figures →
       Holds (spare-shift shape r table block figures)
   shift-told table block same scratch enough = allows (λ k. refl) (rw (as-numbers shape r table scratch enough) same)
 
@@ -478,4 +486,13 @@ numbers-to-try =
     also mode-untold (modeDamaged 0x200 ++ modeImage 0 0x200 false) 1 (omega arith) 2 1060 refl (omega arith) refl
     also mode-untold (modeDamaged 0x200 ++ modeImage 1 0x200 false) 2 (omega arith) 1 1060 refl (omega arith) refl
     also mode-untold (modeDamaged 0x200 ++ take 529 (modeImage 1 0x200 false)) 1 (omega arith) 1 1059 refl (omega arith) refl
+    also tracks-told small 2 noneReplaced 6 refl
+    also tracks-told small 2 afterSix 6 refl
+    also tracks-told small 2 (eight 0 0 0 0x40000000 0x20000007 0x30000008 0x30000006 0) 6 refl
+    also tracks-told small 2 afterSix 7 refl
+    also tracks-told small 2 (eight 0x40000000 0x40000000 0x40000000 0x40000000 0x30000000 0 0 0) 0 refl
+    also tracks-told small 2 afterSix 11 refl
+    also tracks-told small 2 afterSix 12 refl
+    also tracks-told small 2 sevenPastFour 7 refl
+    also tracks-told small 0 afterSix 6 refl
     also done

@@ -36,7 +36,7 @@ use Rattle.image.proofs.Exact.{image-unsaid}
 use Rattle.reading.specs.Tracks.{sectorIn, headerFor, imageAt, trackOf, bytesIn}
 use Rattle.reading.specs.Faults.{lentFault}
 use Rattle.reading.proofs.Exact.{block-few, lent-passes}
-use Rattle.reading.proofs.Tracks.{seated, header-home, header-named}
+use Rattle.reading.proofs.Seats.{seated, header-home, header-named}
 use Rattle.reading.proofs.Sized.{part-of}
 use Rattle.reading.proofs.Written.{good-read, forced-read, other-read, good-part, forced-part, other-part}
 use Rattle.demands.specs.Headers.{Expected, own, descriptor, Holding, Headers}

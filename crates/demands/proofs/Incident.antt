@@ -37,10 +37,11 @@ use Rattle.order.proofs.Signs.{minus-below}
 use Rattle.replacing.specs.Replacing.{spareFor, Moved}
 use Rattle.spares.specs.declared.Replaced as Answers
 use Rattle.spares.specs.declared.Replaced.the-variants.{Place, Refused as NotReplaced}
-use Rattle.spares.specs.Spares.{shiftOf, replaceFault}
+use Rattle.spares.specs.Spares.{replaceFault}
 use Rattle.spares.specs.Promises.{Replacement}
 use Rattle.table.proofs.Exact.{sound-obeys, block-passes}
-use Rattle.spares.proofs.Shifts.{shift-replaced, shift-leads}
+use Rattle.arm.specs.Shifts.{shiftOf}
+use Rattle.arm.proofs.Shifts.{shift-replaced, shift-leads}
 use Rattle.image.specs.declared.Verdict.{Verdict}
 use Rattle.image.specs.Image.{dataOf, imageOf, writeFault}
 use Rattle.image.specs.Promises.{Lends, WriteSized, Write}
@@ -54,7 +55,7 @@ use Rattle.reading.specs.Promises.{DataSized, JudgeSized, Data}
 use Rattle.reading.proofs.Alike.{home-unread, verdict-alike, part-alike}
 use Rattle.reading.proofs.Parts.{refused-empty, accepted-data, accepted-part}
 use Rattle.reading.proofs.Exact.{block-few, lent-passes}
-use Rattle.reading.proofs.Tracks.{seated-only, header-named, data-inside}
+use Rattle.reading.proofs.Seats.{seated-only, header-named, data-inside}
 use Rattle.reading.proofs.Sized.{data-sized, spot-sized, verdict-of, part-of}
 use Rattle.reading.proofs.Written.{good-read, other-read, good-part, other-part}
 use Rattle.demands.proofs.ByKind.{spot-says}
@@ -65,7 +66,7 @@ use Rattle.demands.proofs.Demand2Revectored.{taken-below, taken-after, 
 use Rattle.demands.proofs.Examples.{allows, allows-where}
 
 -- a read allows what holds of every part that it hands back, and nothing else
-allows-part :
+pub allows-part :
     (size : ℕ) (shape : Shape) (r : ℕ) (t scratch : List ℕ) (b : ℕ) (home spare : RefT (List ℕ)) {Figures : RefT (List ℕ) → Type 0} →
     ((part : RefT (List ℕ)) → DataSized size shape r t scratch b home spare part → Figures part) → AllowsOnly (DataSized size shape r t scratch b home spare) Figures
 allows-part size shape r t scratch b home spare every =

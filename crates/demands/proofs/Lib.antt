@@ -14,6 +14,12 @@ pub mod Headers
 pub mod Demand3
 pub mod Angles
 pub mod Sizes
+pub mod Putting
+pub mod Lives
+pub mod Fetching
+pub mod Runs
+pub mod StaleSpares
+pub mod NeverStale
 pub mod ThereAndBack
 pub mod Examples
 pub mod Incident

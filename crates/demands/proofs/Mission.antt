@@ -13,6 +13,7 @@ use Rattle.demands.proofs.NoHoles.{no-holes}
 use Rattle.demands.proofs.Demand3.{demand3}
 use Rattle.demands.proofs.Angles.{angles}
 use Rattle.demands.proofs.Sizes.{sizes}
+use Rattle.demands.proofs.NeverStale.{never-stale}
 
 pub demand2-revectored : Demand2Revectored
 demand2-revectored =
@@ -42,4 +43,4 @@ demand2-revectored =
     }
 
 pub mission : Mission
-mission = record { answers = demand1; headers = headers; scratch = scratches; skipped-lies = demand2-skipped; revectored-lies = demand2-revectored; nights = demand3; unholed = no-holes; angles = angles; sizes = sizes }
+mission = record { answers = demand1; headers = headers; scratch = scratches; skipped-lies = demand2-skipped; revectored-lies = demand2-revectored; nights = demand3; unholed = no-holes; angles = angles; sizes = sizes; never-stale = never-stale }

@@ -29,7 +29,7 @@ use Rattle.reading.specs.declared.answers.Spot.{Spot}
 use Rattle.reading.proofs.Sized.{verdict-of, part-of, spot-of, good-size, size-refuses, size-unspotted, size-lends-none}
 use Rattle.reading.proofs.Alike.{Agree, agree-same, passes-either, verdict-alike, spot-alike, part-alike}
 use Rattle.reading.proofs.Parts.{refused-empty, empty-refused, accepted-data, accepted-part, read-length, data-at-spot}
-use Rattle.reading.proofs.Tracks.{sector-lies, data-inside}
+use Rattle.reading.proofs.Seats.{sector-lies, data-inside}
 use Rattle.demands.specs.Incident.{imageFrom}
 use Rattle.demands.specs.Reads.{LiesIn, at-home, on-spare, startAt, dataAt, AsLong, ReadsInPlace}
 
@@ -82,7 +82,7 @@ module _ (size : ℕ) (shape : Shape) (r : ℕ) (t : List ℕ) (b : ℕ) where
   lies-now (at-home none) = at-home none
   lies-now (on-spare moved) = on-spare moved
 
-  lent-in-place :
+  pub lent-in-place :
       (asked read : List ℕ) (s : ℕ) (home spare track part : RefT (List ℕ)) → SectorOf shape r t asked b (At s) → LiesIn t b home spare track →
       blockReadFault size shape r t read b (home .now) (spare .now) ≡ 0 → DataSized size shape r t read b home spare part →
       Lends track (dataAt size shape s) (take size (drop (dataAt size shape s) (track .now))) part

@@ -66,16 +66,16 @@ module _ (shape : Shape) where
 
 -- an image that was written
 module _ {size block code : ℕ} {bytes : List ℕ} {forced : Bool} {image : List ℕ} (left : WrittenImage size block code bytes forced image) where
-  was-sized : Size size
+  pub was-sized : Size size
   was-sized = written-size size block code bytes forced (left .room) (left .long) (left .after) (left .wrote)
 
   wrote-sized : WriteSized size block code bytes forced (left .room) (Length (left .long)) (left .after)
   wrote-sized = rw (write-sized was-sized block code bytes forced (left .room)) at (left .wrote)
 
-  was-writable : Writable size block code bytes (left .room)
+  pub was-writable : Writable size block code bytes (left .room)
   was-writable = write-shows size block code bytes (left .room) (sym (gives-number (fills-gives wrote-sized) (λ said. said .0) (λ k. refl) refl))
 
-  image-is : image ≡ imageOf (wordOf code block) bytes forced
+  pub image-is : image ≡ imageOf (wordOf code block) bytes forced
   image-is = left .is ∙ image-write-hands size block code bytes forced (left .room) (left .long) (left .after) (left .wrote) .1 .first
 
   -- what the calls that are handed it promise
@@ -86,7 +86,7 @@ module _ {size block code : ℕ} {bytes : List ℕ} {forced : Bool} {image : Lis
   judges other-block other-code promise = rw (image-is) at (rw (judge-sized was-sized image other-block other-code) at promise) .answers
 
 -- a good verdict is that of an image without fault
-good-passes : (size : ℕ) (image : List ℕ) (block code : ℕ) → Judge size image block code Good → imageFault size image block code ≡ 0
+pub good-passes : (size : ℕ) (image : List ℕ) (block code : ℕ) → Judge size image block code Good → imageFault size image block code ≡ 0
 good-passes size image block code good = orElse-next (dataSizeFault size) _ (sym (gives-number good (λ said. said) (λ k. refl) refl))
 
 pub each-again : EachAgain

@@ -77,7 +77,7 @@ use Rattle.reading.proofs.Exact.{read-exactly}
 use Rattle.reading.specs.Promises.{AtSpot, in-spare, Spots}
 use Rattle.reading.specs.declared.answers.Spot.{Spot}
 use Rattle.reading.specs.declared.answers.Spot.the-variants.{InSpare}
-use Rattle.reading.proofs.Tracks.{image-inside, data-inside}
+use Rattle.reading.proofs.Seats.{image-inside, data-inside}
 use Rattle.reading.proofs.Written.{good-read, other-read}
 use Rattle.demands.specs.Relations.{Keeps, Handed, Onward, Counts}
 use Rattle.demands.proofs.Demand3.{Arrives}

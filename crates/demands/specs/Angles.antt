@@ -23,6 +23,7 @@ use Rattle.spares.specs.declared.Counted.the-variants.{Refused as NotCounted}
 use Rattle.spares.specs.Promises as Spares
 use Rattle.image.specs.declared.Verdict.the-variants.{Refused as NotGood}
 use Rattle.image.specs.Promises.{LendsNone}
+use Rattle.reading.specs.declared.answers.Tracks.the-variants.{Refused as NotFetched}
 use Rattle.reading.specs.declared.answers.Spot.the-variants.{Refused as NotSpotted}
 use Rattle.reading.specs.Promises as Reading
 use Rattle.demands.specs.Relations.{partShown}
@@ -82,7 +83,7 @@ butAngle said = (said .0, said .1, said .2, said .3)
 abbrev pub SameButAngle : (Shape → Located → Type 0) → Type 0
 SameButAngle = InAnyGroups (λ located. butAngle (Shapes.saidLocated located)) (λ located. located ≡ NotLocated outOfRange)
 
--- the 15 calls that take a shape, and what ten of them, the three reads among them, leave of their scratch
+-- the 16 calls that take a shape, and what eleven of them, the three reads among them, leave of their scratch
 pub record EachCall : Type 0 where
   pub shape-sector : (cylinder head sector : ℕ) → SameAnswer NotPlaced (λ shape. Shapes.SectorOf shape cylinder head sector)
   pub shape-address : (x : ℕ) → SameButAngle (λ shape. Shapes.AddressOf shape x)
@@ -96,6 +97,7 @@ pub record EachCall : Type 0 where
   pub spare-census : (r : ℕ) (t scratch : List ℕ) → SameAnswer NotCounted (λ shape. Spares.CensusOf shape r t scratch)
   pub spare-replace : (r : ℕ) (t scratch : List ℕ) (b : ℕ) → SameFilled NotReplaced t (λ shape. Spares.Replacement shape r t scratch b)
   pub spare-first : (r : ℕ) (list room : List ℕ) → SameFilled NotWritten room (λ shape. FirstTable shape r list room)
+  pub read-tracks : (r : ℕ) (t scratch : List ℕ) (b : ℕ) → SameAnswer NotFetched (λ shape. Reading.TracksOf shape r t scratch b)
   pub read-judge : (size r : ℕ) (t scratch : List ℕ) (b : ℕ) (home spare : List ℕ) → SameAnswer NotGood (λ shape. Reading.Judge size shape r t scratch b home spare)
   pub read-spot : (size r : ℕ) (t scratch : List ℕ) (b : ℕ) (home spare : List ℕ) → SameAnswer NotSpotted (λ shape. Reading.Spots size shape r t scratch b home spare)
   pub read-data :

@@ -1,6 +1,6 @@
 -- Demand 1: every call takes whatever it is handed, ends, and answers or refuses by the paper's numbers. The record `Demand1`, at the end, has a field for each sentence.
--- That a call takes anything and ends is no field: none of the 28 calls below has a `requires`, and Rattle proves of each function that it is safe and ends.
--- A call on a sector image or on a read is handed the size of a sector's data first; what is said of it is said of whatever size, and any but the two is refused 1.
+-- That a call takes anything and ends is no field: none of the 29 calls below has a `requires`, and Rattle proves of each function that it is safe and ends.
+-- A call on a sector image or on a read, but for the tracks of a read, is handed the size of a sector's data first; what is said of it is said of whatever size, and any but the two is refused 1.
 use Prim.Native.Nat.{ℕ, _+_, _*_, _^_, _<_, _≤_}
 use mathlib.Core.Path.{_≡_}
 use mathlib.Core.Bool.{Bool, true, false}
@@ -64,10 +64,11 @@ use Rattle.mode.specs.declared.Mode.{Mode}
 use Rattle.mode.specs.Modes.{ModeJudged}
 use Rattle.mode.specs.Promises.{Finds}
 use Rattle.reading.specs.declared.answers.Spot.{Spot}
+use Rattle.reading.specs.declared.answers.Tracks.{Tracks}
 use Rattle.reading.specs.Judged.{BlockReadJudged}
 use Rattle.reading.specs.Promises as Reading
 use Rattle.demands.specs.Relations.{Keeps, PartBy, Handed, OneResult, OneFilled, OneFilledTwice, OneLent}
-use Rattle.demands.specs.Numbered.{PlacedBy, NamedBy, WrittenBy, LocatedBy, JobBy, PagedBy, FormattedBy, ShiftedBy, ReplacedBy, CountedBy, HeadBy, VerdictBy, ModeBy, SpotBy}
+use Rattle.demands.specs.Numbered.{PlacedBy, NamedBy, WrittenBy, LocatedBy, JobBy, PagedBy, FormattedBy, ShiftedBy, ReplacedBy, CountedBy, HeadBy, VerdictBy, ModeBy, TracksBy, SpotBy}
 
 -- the number of each call is the one that the paper's table gives, exactly then; refused, the call says that number and nothing else; and no refusal is numbered 0
 pub record EachByTheNumbers : Type 0 where
@@ -134,7 +135,9 @@ pub record EachByTheNumbers : Type 0 where
       PartBy (DataSizeJudged size andThen ImageJudged size (image .now) block code) size (part .now)
   -- the mode sector
   pub mode-find : (images : List ℕ) (apart : ℕ) (result : Mode) → Finds images apart result → ModeBy (ModeJudged images apart) result
-  -- a read of a revectored block
+  -- a read of a revectored block: which tracks to fetch, and the read itself
+  pub reading-tracks :
+      (shape : Shape) (r : ℕ) (t scratch : List ℕ) (b : ℕ) (result : Tracks) → Reading.TracksOf shape r t scratch b result → TracksBy (BlockJudged shape r t scratch b) result
   pub reading-judge :
       (size : ℕ) (shape : Shape) (r : ℕ) (t scratch : List ℕ) (b : ℕ) (home spare : List ℕ) (result : Verdict) →
       Reading.Judge size shape r t scratch b home spare result → VerdictBy (DataSizeJudged size andThen BlockReadJudged size shape r t scratch b home spare) result
@@ -228,12 +231,13 @@ pub record EachDetermined : Type 0 where
   pub image-header : (size : ℕ) (image : List ℕ) → OneResult (Image.Header size image)
   pub image-judge : (size : ℕ) (image : List ℕ) (block code : ℕ) → OneResult (Image.Judge size image block code)
   pub image-data : (size : ℕ) (image : RefT (List ℕ)) (block code : ℕ) → OneLent (Image.Data size image block code)
+  pub reading-tracks : (shape : Shape) (r : ℕ) (t scratch : List ℕ) (b : ℕ) → OneResult (Reading.TracksOf shape r t scratch b)
   pub reading-judge : (size : ℕ) (shape : Shape) (r : ℕ) (t scratch : List ℕ) (b : ℕ) (home spare : List ℕ) → OneResult (Reading.Judge size shape r t scratch b home spare)
   pub reading-spot : (size : ℕ) (shape : Shape) (r : ℕ) (t scratch : List ℕ) (b : ℕ) (home spare : List ℕ) → OneResult (Reading.Spots size shape r t scratch b home spare)
   pub reading-data : (size : ℕ) (shape : Shape) (r : ℕ) (t scratch : List ℕ) (b : ℕ) (home spare : RefT (List ℕ)) → OneLent (Reading.Data size shape r t scratch b home spare)
   -- the mode sector
   pub mode-find : (images : List ℕ) (apart : ℕ) → OneResult (Finds images apart)
-  -- what the seven calls of `spares` that are lent a table leave of their scratch, and what the three reads leave
+  -- what the seven calls of `spares` that are lent a table and `reading::tracks` leave of their scratch, and what the three reads leave
   pub scratch : (shape : Shape) (r : ℕ) (before : List ℕ) → OneResult (Scratched shape r before)
   pub read-scratch : (size : ℕ) (shape : Shape) (r : ℕ) (before : List ℕ) → OneResult (Reading.ReadScratched size shape r before)
   -- what an image holds has one verdict

@@ -10,6 +10,9 @@ pub mod NoHoles
 pub mod Demand3
 pub mod Angles
 pub mod Sizes
+pub mod Ledgers
+pub mod Lives
+pub mod NeverStale
 pub mod Relations
 pub mod Numbered
 pub mod Inputs

@@ -37,7 +37,9 @@ use Rattle.image.specs.declared.Verdict.the-variants.{Refused as NotGood}
 use Rattle.mode.specs.Promises.{saidMode}
 use Rattle.mode.specs.declared.Mode.{Mode}
 use Rattle.mode.specs.declared.Mode.the-variants.{Refused as NoMode}
-use Rattle.reading.specs.Promises.{saidSpot}
+use Rattle.reading.specs.Promises.{saidTracks, saidSpot}
+use Rattle.reading.specs.declared.answers.Tracks.{Tracks}
+use Rattle.reading.specs.declared.answers.Tracks.the-variants.{Refused as NotFetched}
 use Rattle.reading.specs.declared.answers.Spot.{Spot}
 use Rattle.reading.specs.declared.answers.Spot.the-variants.{Refused as NotSpotted}
 use Rattle.demands.specs.Relations.{ByTheNumbers}
@@ -98,6 +100,10 @@ VerdictBy = ByTheNumbers saidVerdict (λ number. number) (λ k. k) (λ k result.
 -- a size
 abbrev pub ModeBy : (ℕ → Type 0) → Mode → Type 0
 ModeBy = ByTheNumbers saidMode (λ numbers. numbers .0) (λ k. (k, 0)) (λ k result. result ≡ NoMode k)
+
+-- two tracks and a shift
+abbrev pub TracksBy : (ℕ → Type 0) → Tracks → Type 0
+TracksBy = ByTheNumbers saidTracks (λ numbers. numbers .0) (λ k. (k, 0, 0, 0, 0, pos 0)) (λ k result. result ≡ NotFetched k)
 
 -- an image and an offset
 abbrev pub SpotBy : (ℕ → Type 0) → Spot → Type 0

@@ -48,6 +48,8 @@ pub data Row : Type 0 where
   spare-full : (shape : Shape) (r : ℕ) (table : List ℕ) → Row
   -- spares::shift: refusal, shift
   spare-shift : (shape : Shape) (r : ℕ) (table : List ℕ) (block : ℕ) (figures : ℕ × ℤ) → Row
+  -- reading::tracks: refusal, cylinder and head of the home track, cylinder and head of the track that the block lies on, shift
+  read-tracks : (shape : Shape) (r : ℕ) (table : List ℕ) (block : ℕ) (figures : ℕ × ℕ × ℕ × ℕ × ℕ × ℤ) → Row
   -- spares::address_of: refusal, cylinder, head, sector, angle
   spare-address : (shape : Shape) (r : ℕ) (table : List ℕ) (block : ℕ) (figures : ℕ × ℕ × ℕ × ℕ × ℕ) → Row
   -- spares::sector_of: refusal, sector
@@ -107,6 +109,9 @@ Holds (spare-full shape r table) =
 Holds (spare-shift shape r table block figures) =
     (scratch : List ℕ) → Enough shape r scratch →
     AllowsOnly (Spares.ShiftOf shape r table scratch block) (λ answer. Spares.saidShifted answer ≡ figures)
+Holds (read-tracks shape r table block figures) =
+    (scratch : List ℕ) → Enough shape r scratch →
+    AllowsOnly (Reading.TracksOf shape r table scratch block) (λ answer. Reading.saidTracks answer ≡ figures)
 Holds (spare-address shape r table block figures) =
     (scratch : List ℕ) → Enough shape r scratch →
     AllowsOnly (Spares.AddressOf shape r table scratch block) (λ answer. Shapes.saidLocated answer ≡ figures)
@@ -383,4 +388,16 @@ paperRows =
     ∷ mode-find (modeDamaged 0x200 ++ modeImage 0 0x200 false) 1 (21, 0)
     ∷ mode-find (modeDamaged 0x200 ++ modeImage 1 0x200 false) 2 (21, 0)
     ∷ mode-find (modeDamaged 0x200 ++ take 529 (modeImage 1 0x200 false)) 1 (21, 0)
+    -- beyond the paper, the tracks of a read: block 6 at home, on the spare one cylinder nearer to cylinder 0, and on one in its own cylinder
+    ∷ read-tracks small 2 noneReplaced 6 (0, 1, 0, 1, 0, pos 0)
+    ∷ read-tracks small 2 afterSix 6 (0, 1, 0, 0, 1, negsuc 0)
+    ∷ read-tracks small 2 (eight 0 0 0 0x40000000 0x20000007 0x30000008 0x30000006 0) 6 (0, 1, 0, 1, 1, pos 0)
+    -- block 7 on a spare of its own track, and block 0 on one a cylinder further from cylinder 0
+    ∷ read-tracks small 2 afterSix 7 (0, 1, 0, 1, 0, pos 0)
+    ∷ read-tracks small 2 (eight 0x40000000 0x40000000 0x40000000 0x40000000 0x30000000 0 0 0) 0 (0, 0, 0, 1, 0, pos 1)
+    -- the last block, one past it, a table with a hole, and no spares
+    ∷ read-tracks small 2 afterSix 11 (0, 1, 1, 1, 1, pos 0)
+    ∷ read-tracks small 2 afterSix 12 (5, 0, 0, 0, 0, pos 0)
+    ∷ read-tracks small 2 sevenPastFour 7 (11, 0, 0, 0, 0, pos 0)
+    ∷ read-tracks small 0 afterSix 6 (1, 0, 0, 0, 0, pos 0)
     ∷ []

@@ -26,7 +26,7 @@ pub record LeavesScratch (InRange : Type 0) (shape : Shape) (r : ℕ) (before af
   pub rest-stands : InRange → numbersFor shape r ≤ length before → drop (numbersFor shape r) after ≡ drop (numbersFor shape r) before
 
 pub record Scratches : Type 0 where
-  -- `Scratched` is the second promise of seven calls that are lent a table, `spares::sector_of`, `address_of`, `shift`, `block_on`, `block_at`, `replace` and `census`; so this holds of each of them: the shape and r are looked at before
+  -- `Scratched` is the second promise of eight calls that are lent a table, `spares::sector_of`, `address_of`, `shift`, `block_on`, `block_at`, `replace` and `census`, and `reading::tracks`; so this holds of each of them: the shape and r are looked at before
   pub each-leaves : (shape : Shape) (r : ℕ) (before after : List ℕ) → Scratched shape r before after → LeavesScratch (Shaped shape × Spared shape r) shape r before after
   -- `ReadScratched` is that of the three reads, `reading::judge`, `data` and `spot`: the size, the shape and r are looked at before
   pub reads-leave :

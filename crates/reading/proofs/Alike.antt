@@ -24,7 +24,7 @@ use Rattle.reading.specs.Tracks.{trackOf, sectorIn, bytesIn, imageAt, im
 use Rattle.reading.specs.Faults.{lentFault, blockReadFault}
 use Rattle.reading.specs.Promises.{DataSized}
 use Rattle.reading.proofs.Spots.{spotted, read-enough}
-use Rattle.reading.proofs.Tracks.{track-ptr, image-inside}
+use Rattle.reading.proofs.Seats.{track-ptr, image-inside}
 use Rattle.reading.proofs.Parts.{refused-part, accepted-part, refused-empty, accepted-data}
 
 -- two pairs of images that are as long and hold the same sector image of a block: whatever else they hold may differ

@@ -27,7 +27,7 @@ use Rattle.image.proofs.Exact.{sector-exactly}
 use Rattle.reading.specs.Tracks.{trackOf, sectorIn, bytesIn, imageAt, imageFor, codeFor, headerFor}
 use Rattle.reading.specs.Faults.{otherTracks, lentFault, blockReadFault}
 use Rattle.reading.specs.Judged.{LengthsJudged, LyingJudged, lies, BlockReadJudged}
-use Rattle.reading.proofs.Tracks.{seated, seated-only, header-says}
+use Rattle.reading.proofs.Seats.{seated, seated-only, header-says}
 
 -- a block of a drive is one that a header can carry
 pub block-few : {shape : Shape} {r : ℕ} {t : List ℕ} {b : ℕ} → Sound shape r t → b < driveOf shape r .blocks → b < codeUnit

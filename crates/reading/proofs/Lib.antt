@@ -1,4 +1,4 @@
-pub mod Tracks
+pub mod Seats
 pub mod Exact
 pub mod Spots
 pub mod Parts

@@ -21,7 +21,7 @@ use Rattle.reading.specs.declared.answers.Spot.the-variants.{InHome, InS
 use Rattle.reading.specs.Tracks.{trackOf, startOf, dataStart, imageFor}
 use Rattle.reading.specs.Faults.{blockReadFault}
 use Rattle.reading.specs.Promises.{spotOf, LendsBlock, DataSized, Data, AtSpot, in-home, in-spare, nowhere}
-use Rattle.reading.proofs.Tracks.{image-long, data-inside}
+use Rattle.reading.proofs.Seats.{image-long, data-inside}
 use Rattle.reading.proofs.Spots.{lies-inside, track-long, read-shows, spotted, home-told, spare-told, refused-told}
 
 module _ (size : ℕ) (shape : Shape) (r : ℕ) (t scratch : List ℕ) (b : ℕ) where

@@ -29,7 +29,7 @@ use Rattle.reading.specs.Tracks.{trackOf, sectorIn, bytesIn, startOf, da
 use Rattle.reading.specs.Steps.{seatOf}
 use Rattle.reading.specs.Faults.{lentFault, lyingFault, blockReadFault}
 use Rattle.reading.specs.Promises.{spotOf, SpotSized}
-use Rattle.reading.proofs.Tracks.{sector-below, track-now, track-length, image-inside}
+use Rattle.reading.proofs.Seats.{sector-below, track-now, track-length, image-inside}
 use Rattle.reading.proofs.Exact.{Lent, lent-shows}
 
 -- what a read answers

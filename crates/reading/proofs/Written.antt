@@ -22,7 +22,7 @@ use Rattle.image.proofs.Images.{length-image, written-stands, written-data, wri
 use Rattle.reading.specs.Tracks.{Seated, bytesIn, imageAt, imageFor, headerFor}
 use Rattle.reading.specs.Faults.{lentFault, blockReadFault}
 use Rattle.reading.specs.Promises.{DataSized}
-use Rattle.reading.proofs.Tracks.{seated-only, code-known}
+use Rattle.reading.proofs.Seats.{seated-only, code-known}
 use Rattle.table.proofs.Exact.{sound-obeys}
 use Rattle.reading.proofs.Exact.{block-few, Lent, lent-shows}
 use Rattle.reading.proofs.Spots.{read-lying}

@@ -2,22 +2,56 @@
 use Prim.Native.Nat.{ℕ}
 use mathlib.Core.List.{List}
 use mathlib.Core.Path.{_≡_}
+use lib.IntN.{ℤ, pos}
 use lib.ListN.{take, drop}
 use denote.Ref.{RefT}
 use Rattle.paper.specs.Checks.{_orElse_, answer}
 use Rattle.paper.specs.Promise.{Gives}
 use Rattle.paper.specs.Limits.{dataSizeFault}
 use Rattle.shape.specs.declared.Shape.{Shape}
-use Rattle.layout.specs.Layouts.{driveOf}
+use Rattle.shape.specs.Addresses.{addressAt}
+use Rattle.layout.specs.Layouts.{driveOf, homeSector}
+use Rattle.table.specs.Rules.{blockFault}
+use Rattle.table.specs.Lookup.{liesOn}
 use Rattle.table.specs.Scratch.{scratchAfter}
+use Rattle.arm.specs.Shifts.{shiftOf}
 use Rattle.image.specs.declared.Verdict.{Verdict}
 use Rattle.image.specs.declared.Verdict.the-variants.{Good}
 use Rattle.image.specs.Image.{dataOf}
 use Rattle.image.specs.Promises.{GivesVerdict, Lends, LendsNone}
+use Rattle.reading.specs.declared.answers.Track.{Track}
+use Rattle.reading.specs.declared.answers.Pair.{Pair}
+use Rattle.reading.specs.declared.answers.Tracks.{Tracks}
+use Rattle.reading.specs.declared.answers.Tracks.the-variants.{Fetch, Refused as NotFetched}
 use Rattle.reading.specs.declared.answers.Spot.{Spot}
 use Rattle.reading.specs.declared.answers.Spot.the-variants.{InHome, InSpare, Refused as NotSpotted}
 use Rattle.reading.specs.Tracks.{trackOf, dataStart, imageFor}
 use Rattle.reading.specs.Faults.{blockReadFault}
+
+-- refusal, cylinder and head of the home track, cylinder and head of the track that the block lies on, shift
+abbrev pub saidTracks : Tracks → ℕ × ℕ × ℕ × ℕ × ℕ × ℤ
+saidTracks (Fetch pair) = (0, pair .home .cylinder, pair .home .head, pair .there .cylinder, pair .there .head, pair .shift)
+saidTracks (NotFetched fault) = (fault, 0, 0, 0, 0, pos 0)
+
+abbrev pub GivesTracks : ℕ → Tracks → Tracks → Type 0
+GivesTracks = Gives saidTracks (λ fault. (fault, 0, 0, 0, 0, pos 0)) NotFetched
+
+-- the track of a sector
+abbrev pub trackAt : Shape → ℕ → Track
+trackAt shape s = record { cylinder = addressAt shape s .cylinder; head = addressAt shape s .head }
+
+-- the tracks of a block's home and of the sector that it lies on, and its shift
+abbrev pub pairOf : Shape → ℕ → List ℕ → ℕ → Pair
+pairOf shape r t b =
+    record {
+      home = trackAt shape (homeSector (driveOf shape r) b);
+      there = trackAt shape (liesOn (driveOf shape r) t b);
+      shift = shiftOf (driveOf shape r) t b;
+    }
+
+-- the tracks to fetch for a read of a block; what is left of the scratch is `Scratched` of `table`
+abbrev pub TracksOf : Shape → ℕ → List ℕ → List ℕ → ℕ → Tracks → Type 0
+TracksOf shape r t scratch b = GivesTracks (blockFault shape r t scratch b) (Fetch (pairOf shape r t b))
 
 -- refusal, image (0 that of the home track, 1 the second), offset of the data inside it
 abbrev pub saidSpot : Spot → ℕ × ℕ × ℕ

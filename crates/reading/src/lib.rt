@@ -1,4 +1,4 @@
-// A read of a revectored block from the images of two tracks, for any number of data bytes, by the public calls for the two sizes that a sector has.
+// The two tracks of a revectored block, and a read of it from their images, for any number of data bytes, by the public calls for the two sizes that a sector has.
 ghost use mathlib.Core.Path.{_≡_};
 ghost use Prim.Native.Nat.{_+_, _*_, _^_, _<_, _≤_};
 ghost use lib.ListN.{length};
@@ -11,17 +11,45 @@ ghost use Rattle.table.specs.Steps.{Obeys};
 ghost use Rattle.reading.specs.Tracks.{imageAt};
 ghost use Rattle.reading.specs.Steps.{seatOf};
 ghost use Rattle.reading.specs.Faults.{lentFault};
-ghost use Rattle.reading.specs.Promises.{SpotSized, JudgeSized, DataSized, Judge, Data, Spots, ReadScratched};
+ghost use Rattle.reading.specs.Promises.{TracksOf, SpotSized, JudgeSized, DataSized, Judge, Data, Spots, ReadScratched};
 
 mod answers;
 
+pub use answers::Pair;
 pub use answers::Spot;
+pub use answers::Track;
+pub use answers::Tracks;
 use image::Verdict;
 use layout::Drive;
 use paper::HEADER_SIZE;
 use paper::IMAGE_EXTRA;
 use paper::WRONG_LENGTH;
 use shape::Shape;
+
+// The tracks to fetch for a read of a block. Checks 1, 7, 11, 5.
+pub fn tracks(shape: Shape, r: u32, table: &[u32], scratch: &mut [u32], block: u32) -> Tracks
+    ensures { λ result. ⌜ TracksOf shape r (now (table .entry)) (now (scratch .entry)) block result ⌝ }
+    ensures { λ result. ⌜ Scratched shape r (now (scratch .entry)) (now (scratch .exit)) ⌝ }
+{
+    let fault = table::block_fault(shape, r, table, scratch, block);
+    if fault != 0 {
+        return Tracks::Refused(fault);
+    }
+    let drive = layout::drive_of(shape, r);
+    let home = shape::address_at(shape, layout::home_sector(drive, block));
+    let there = shape::address_at(shape, table::lies_on(drive, table, block));
+    Tracks::Fetch(Pair {
+        home: Track {
+            cylinder: home.cylinder,
+            head: home.head,
+        },
+        there: Track {
+            cylinder: there.cylinder,
+            head: there.head,
+        },
+        shift: arm::cylinders_between(home.cylinder, there.cylinder),
+    })
+}
 
 // Where a block lies: whether on a spare, and on which sector of the track; and the number that the header there must carry.
 struct Seat {

@@ -15,7 +15,7 @@ use Rattle.table.specs.Lookup.{placeOf}
 use Rattle.table.specs.Rules.{blockFault}
 use Rattle.spares.specs.declared.Shifted.{Shifted}
 use Rattle.spares.specs.declared.Shifted.the-variants.{By, Refused}
-use Rattle.spares.specs.Spares.{shiftOf}
+use Rattle.arm.specs.Shifts.{shiftOf}
 
 -- a number for each spare
 abbrev scratch : List ℕ

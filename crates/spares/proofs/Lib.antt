@@ -1,4 +1,3 @@
 pub mod Exact
-pub mod Shifts
 pub mod Accepted
 pub mod Examples

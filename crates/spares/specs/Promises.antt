@@ -16,6 +16,7 @@ use Rattle.layout.specs.Layouts.{driveOf}
 use Rattle.table.specs.Rules.{tableFault, blockFault}
 use Rattle.table.specs.Lookup.{liesOn, lyingOn}
 use Rattle.table.specs.Counting.{censusOf}
+use Rattle.arm.specs.Shifts.{shiftOf}
 use Rattle.replacing.specs.Replacing.{spareFor, movedIn}
 use Rattle.spares.specs.declared.Shifted.{Shifted}
 use Rattle.spares.specs.declared.Shifted.the-variants.{By, Refused as NotShifted}
@@ -23,7 +24,7 @@ use Rattle.spares.specs.declared.Replaced.{Replaced}
 use Rattle.spares.specs.declared.Replaced.the-variants.{Place, Refused as NotReplaced}
 use Rattle.spares.specs.declared.Counted.{Counted}
 use Rattle.spares.specs.declared.Counted.the-variants.{Counts, Refused as NotCounted}
-use Rattle.spares.specs.Spares.{shiftOf, blockOnFault, blockAtFault, replaceFault}
+use Rattle.spares.specs.Spares.{blockOnFault, blockAtFault, replaceFault}
 
 -- refusal, shift
 abbrev pub saidShifted : Shifted → ℕ × ℤ

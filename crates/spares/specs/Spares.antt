@@ -1,25 +1,18 @@
--- Document 01, "Descriptors and spares", and document 02, Q-3 and Q-6: the checks of the calls on a revectored drive, and the shift from home to spare.
+-- Document 01, "Descriptors and spares", and document 02, Q-3 and Q-6: the checks of the calls on a revectored drive.
 use Prim.Native.Nat.{ℕ}
 use mathlib.Core.List.{List}
 use lib.Dec.{leb}
-use lib.IntN.{ℤ, pos, _-ℤ_}
 use lib.ListN.{length}
-use Rattle.paper.specs.Checks.{pick, refuse, _orElse_}
+use Rattle.paper.specs.Checks.{refuse, _orElse_}
 use Rattle.paper.specs.Refusals.{noSuchSector, noSpare}
 use Rattle.paper.specs.Exactly.{When, _andThen_}
 use Rattle.paper.specs.Conditions.{NotBelow}
 use Rattle.shape.specs.declared.Shape.{Shape}
 use Rattle.shape.specs.Shapes.{sizeOf}
 use Rattle.shape.specs.Addresses.{offDriveFault, OffDriveJudged}
-use Rattle.layout.specs.declared.Drive.{Drive}
-use Rattle.layout.specs.Layouts.{driveOf, homeCylinder, spareCylinder}
+use Rattle.layout.specs.Layouts.{driveOf}
 use Rattle.table.specs.Rules.{tableFault, blockFault, TableJudged, BlockJudged}
-use Rattle.table.specs.Lookup.{placeOf, isReplaced}
 use Rattle.replacing.specs.Replacing.{spareFor, NoneFree}
-
--- the cylinder of the spare less that of the home, and 0 for a block at home
-abbrev pub shiftOf : Drive → List ℕ → ℕ → ℤ
-shiftOf drive t b = pick (isReplaced t b) (pos (spareCylinder drive (placeOf t b)) -ℤ pos (homeCylinder drive b)) (pos 0)
 
 -- checks 1, 7, 11, 6 for a sector number
 abbrev pub blockOnFault : Shape → ℕ → List ℕ → List ℕ → ℕ → ℕ

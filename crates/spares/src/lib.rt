@@ -1,15 +1,7 @@
 // The public calls on a revectored drive: where a block lies, how far its spare is from its home, what lies on a sector, replacement, the census, and a first table.
-ghost use mathlib.Core.Path.{_≡_};
-ghost use Prim.Native.Nat.{_<_};
-ghost use lib.IntN.{pos, _-ℤ_};
-ghost use Rattle.paper.specs.Limits.{unitsMost};
-ghost use Rattle.layout.specs.Steps.{Laid};
 ghost use Rattle.table.specs.Scratch.{Scratched};
-ghost use Rattle.table.specs.Steps.{Obeys};
 ghost use Rattle.first_table.specs.Promises.{FirstTable};
-ghost use Rattle.spares.specs.Spares.{shiftOf};
 ghost use Rattle.spares.specs.Promises.{SectorOf, AddressOf, ShiftOf, BlockOn, BlockAt, Replacement, CensusOf};
-use layout::Drive;
 use paper::NO_SPARE;
 use paper::NO_SUCH_SECTOR;
 use paper::Named;
@@ -63,30 +55,6 @@ pub fn address_of(shape: Shape, r: u32, table: &[u32], scratch: &mut [u32], bloc
     ))
 }
 
-// The signed number of cylinders from a home to a spare.
-fn cylinders_between(home: u32, spare: u32) -> i32
-    requires { ⌜ home < unitsMost ⌝ }
-    requires { ⌜ spare < unitsMost ⌝ }
-    ensures { λ result. ⌜ result ≡ pos spare -ℤ pos home ⌝ }
-{
-    spare as i32 - home as i32
-}
-
-// The shift of a block.
-fn shift_of(drive: Drive, table: &[u32], block: u32) -> i32
-    requires { ⌜ Laid drive ⌝ }
-    requires { ⌜ Obeys drive (now table) ⌝ }
-    requires { ⌜ block < drive .blocks ⌝ }
-    ensures { λ result. ⌜ result ≡ shiftOf drive (now (table .entry)) block ⌝ }
-{
-    let place = table::place_of(drive, table, block);
-    if place < table.len() {
-        let home = layout::home_cylinder(drive, block);
-        return cylinders_between(home, layout::spare_cylinder(drive, place as u32));
-    }
-    0
-}
-
 // How far a block's spare is from its home. Checks 1, 7, 11, 5.
 pub fn shift(shape: Shape, r: u32, table: &[u32], scratch: &mut [u32], block: u32) -> Shifted
     ensures { λ result. ⌜ ShiftOf shape r (now (table .entry)) (now (scratch .entry)) block result ⌝ }
@@ -96,7 +64,7 @@ pub fn shift(shape: Shape, r: u32, table: &[u32], scratch: &mut [u32], block: u3
     if fault != 0 {
         return Shifted::Refused(fault);
     }
-    Shifted::By(shift_of(layout::drive_of(shape, r), table, block))
+    Shifted::By(arm::shift_of(layout::drive_of(shape, r), table, block))
 }
 
 // Sector number to block. Checks 1, 7, 11, 6.

@@ -5,7 +5,7 @@ use mathlib.Core.Path.{_∙_, ap}
 use Prim.Native.Nat.{ℕ}
 use mathlib.Core.List.{List}
 use Rattle.image.specs.Image.{contentsFault}
-use Rattle.reading.proofs.Tracks.{image-part}
+use Rattle.reading.proofs.Seats.{image-part}
 use Rattle.reading.proofs.part_fault.Statement.{statement}
 use Rattle.reading.proofs.part_fault.Tie as tie
 

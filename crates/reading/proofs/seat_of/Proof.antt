@@ -8,7 +8,7 @@ use lib.ListN.{length}
 use borrow.Author.Tests.{lt-ltb, le-ltb}
 use Rattle.table.specs.Lookup.{placeOf}
 use Rattle.reading.specs.Tracks.{sectorIn}
-use Rattle.reading.proofs.Tracks.{header-home, header-spare}
+use Rattle.reading.proofs.Seats.{header-home, header-spare}
 use Rattle.reading.proofs.seat_of.Statement.{statement}
 use Rattle.reading.proofs.seat_of.Tie as tie
 

@@ -8,7 +8,7 @@ use Rattle.layout.specs.Layouts.{driveOf}
 use Rattle.table.proofs.Exact.{sound-laid, sound-obeys, block-sound, block-below}
 use Rattle.order.proofs.Signs.{read-again}
 use Rattle.spares.specs.declared.Shifted.the-variants.{By}
-use Rattle.spares.specs.Spares.{shiftOf}
+use Rattle.arm.specs.Shifts.{shiftOf}
 use Rattle.spares.proofs.shift.Statement.{statement}
 use Rattle.spares.proofs.shift.Tie as tie
 

@@ -1,10 +1,10 @@
--- `spares::cylinders_between` meets its contract: both cylinders are small, so their signed difference is exact in 32 bits.
+-- `arm::cylinders_between` meets its contract: both cylinders are small, so their signed difference is exact in 32 bits.
 -- Assumes nothing.
 use borrow.Author.Needs.{needs}
 use mir.Facts.{toZ-ofZ}
-use Rattle.spares.proofs.Shifts.{difference-fits, cylinder-is}
-use Rattle.spares.proofs.cylinders_between.Statement.{statement}
-use Rattle.spares.proofs.cylinders_between.Tie as tie
+use Rattle.arm.proofs.Shifts.{difference-fits, cylinder-is}
+use Rattle.arm.proofs.cylinders_between.Statement.{statement}
+use Rattle.arm.proofs.cylinders_between.Tie as tie
 
 cast-result : tie.Need-cast-result
 cast-result c = search needs

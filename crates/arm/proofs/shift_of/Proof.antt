@@ -1,4 +1,4 @@
--- `spares::shift_of` meets its contract: the place that names the block is a spare's, the difference of the two cylinders is the shift, and where no place names it the block is at home.
+-- `arm::shift_of` meets its contract: the place that names the block is a spare's, the difference of the two cylinders is the shift, and where no place names it the block is at home.
 -- Assumes nothing.
 use borrow.Author.Needs.{needs}
 use mathlib.Core.Path.{_≡_, sym, _∙_}
@@ -12,10 +12,10 @@ use Rattle.paper.specs.Limits.{unitsMost}
 use Rattle.table.specs.Lookup.{placeOf}
 use Rattle.table.proofs.Lookups.{place-spare}
 use Rattle.order.proofs.Signs.{read-again}
-use Rattle.spares.specs.Spares.{shiftOf}
-use Rattle.spares.proofs.Shifts.{home-cylinder-few, spare-cylinder-few}
-use Rattle.spares.proofs.shift_of.Statement.{statement}
-use Rattle.spares.proofs.shift_of.Tie as tie
+use Rattle.arm.specs.Shifts.{shiftOf}
+use Rattle.arm.proofs.Shifts.{home-cylinder-few, spare-cylinder-few}
+use Rattle.arm.proofs.shift_of.Statement.{statement}
+use Rattle.arm.proofs.shift_of.Tie as tie
 
 place-of-requires : tie.Need-place-of-requires
 place-of-requires c κs = search needs

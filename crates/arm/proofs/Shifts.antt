@@ -1,11 +1,11 @@
 -- The shift: a difference of cylinders is exact in 32 bits, 0 at home, leads from the home's cylinder to the spare's, and is less than C to either side.
 -- Assumes nothing.
 use Prim.Native.Nat.{ℕ, zero, suc, _*_, _/_, _<_}
-use mathlib.Core.Path.{_≡_, refl}
+use mathlib.Core.Path.{_≡_, refl, sym, _∙_, ap}
 use mathlib.Core.List.{List}
 use native.Mathlib.Nat.{div-le-self}
 use native.Mathlib.Omega.{arith}
-use lib.IntN.{pos, natAbs, _+ℤ_, _-ℤ_, +ℤ-comm, -ℤ-+ℤ-cancel}
+use lib.IntN.{ℤ, pos, natAbs, _+ℤ_, _-ℤ_, +ℤ-comm, -ℤ-+ℤ-cancel}
 use lib.ListN.{length}
 use mir.Syntax.{w32}
 use mir.Val.{SFits, toZ}
@@ -16,16 +16,23 @@ use Rattle.paper.proofs.Cases.{byBool, byLt}
 use Rattle.paper.proofs.Rows.{tells-lt}
 use Rattle.shape.specs.declared.Shape.{Shape}
 use Rattle.layout.specs.declared.Drive.{Drive}
-use Rattle.layout.specs.Layouts.{driveOf, homeCylinder, spareCylinder}
+use Rattle.shape.specs.Addresses.{addressAt}
+use Rattle.layout.specs.Layouts.{driveOf, homeSector, spareSector, homeCylinder, spareCylinder}
 use Rattle.layout.specs.Steps.{Laid}
-use Rattle.layout.proofs.Sectors.{blocks-few, home-cylinder-below, spare-cylinder-below}
+use Rattle.layout.proofs.Layings.{track-whole}
+use Rattle.layout.proofs.Sectors.{blocks-few, home-track, spare-track, home-cylinder-below, spare-cylinder-below}
 use Rattle.table.specs.Rules.{Sound}
 use Rattle.table.specs.Steps.{Obeys}
-use Rattle.table.specs.Lookup.{placeOf, Replaced, isReplaced}
+use Rattle.table.specs.Lookup.{placeOf, Replaced, isReplaced, liesOn}
 use Rattle.table.proofs.Lookups.{tells-replaced, place-spare}
 use Rattle.table.proofs.Exact.{sound-laid, sound-obeys}
 use Rattle.order.proofs.Signs.{minus-within, minus-below}
-use Rattle.spares.specs.Spares.{shiftOf}
+use Rattle.arm.specs.Shifts.{shiftOf}
+
+-- a number less itself is 0
+difference-none : (a : ℕ) → pos a -ℤ pos a ≡ pos 0
+difference-none zero = refl
+difference-none (suc a) = minus-within (suc a) (suc a) (omega arith) ∙ ap pos (omega arith)
 
 -- numbers below a bound differ by less than the bound, to either side
 pub difference-within : (a b bound : ℕ) → a < bound → b < bound → natAbs (pos a -ℤ pos b) < bound
@@ -82,3 +89,42 @@ module _ (drive : Drive) (t : List ℕ) (b : ℕ) where
 -- the same for a drive and a table that pass
 pub shift-sound : {shape : Shape} {r : ℕ} {t : List ℕ} → Sound shape r t → (b : ℕ) → b < driveOf shape r .blocks → natAbs (shiftOf (driveOf shape r) t b) < shape .cylinders
 shift-sound {shape} {r} {t} sound b below = shift-within (driveOf shape r) t b (sound-laid sound) (sound-obeys sound) below (shape .cylinders) refl
+
+-- the shift is the cylinder of the sector that the block lies on less that of its home
+module _ {shape : Shape} {r : ℕ} {t : List ℕ} (sound : Sound shape r t) (b : ℕ) where
+  pub home-address : addressAt shape (homeSector (driveOf shape r) b) .cylinder ≡ homeCylinder (driveOf shape r) b
+  home-address =
+      ap (λ (long : ℕ). homeSector (driveOf shape r) b / long / shape .heads) (sym (track-whole (sound .spared)))
+      ∙ ap (λ (track : ℕ). track / shape .heads) (home-track (sound-laid sound) b)
+
+  spare-address : (q : ℕ) → addressAt shape (spareSector (driveOf shape r) q) .cylinder ≡ spareCylinder (driveOf shape r) q
+  spare-address q =
+      ap (λ (long : ℕ). spareSector (driveOf shape r) q / long / shape .heads) (sym (track-whole (sound .spared)))
+      ∙ ap (λ (track : ℕ). track / shape .heads) (spare-track (sound-laid sound) q)
+
+  pub shift-between :
+      shiftOf (driveOf shape r) t b
+      ≡ pos (addressAt shape (liesOn (driveOf shape r) t b) .cylinder) -ℤ pos (addressAt shape (homeSector (driveOf shape r) b) .cylinder)
+  shift-between =
+      byBool (isReplaced t b)
+      (λ e. rw e (rw (spare-address (placeOf t b), home-address)))
+      (λ e. rw e (sym (difference-none (addressAt shape (homeSector (driveOf shape r) b) .cylinder))))
+
+  -- so it leads from the one to the other
+  pub shift-reaches :
+      pos (addressAt shape (homeSector (driveOf shape r) b) .cylinder) +ℤ shiftOf (driveOf shape r) t b ≡ pos (addressAt shape (liesOn (driveOf shape r) t b) .cylinder)
+  shift-reaches =
+      let home = addressAt shape (homeSector (driveOf shape r) b) .cylinder in
+      let there = addressAt shape (liesOn (driveOf shape r) t b) .cylinder in
+      ap (λ (shift : ℤ). pos home +ℤ shift) shift-between ∙ (+ℤ-comm (pos home) (pos there -ℤ pos home) ∙ -ℤ-+ℤ-cancel (pos there) (pos home))
+
+  -- both cylinders are few
+  module _ (below : b < driveOf shape r .blocks) where
+    pub home-address-few : addressAt shape (homeSector (driveOf shape r) b) .cylinder < unitsMost
+    home-address-few = rw home-address (home-cylinder-few (sound-laid sound) below)
+
+    pub lying-address-few : addressAt shape (liesOn (driveOf shape r) t b) .cylinder < unitsMost
+    lying-address-few =
+        byBool (isReplaced t b)
+        (λ e. rw e (rw (spare-address (placeOf t b)) (spare-cylinder-few (sound-laid sound) (place-spare (sound-obeys sound) b (tells-lt (placeOf t b) (length t) .holds e)))))
+        (λ e. rw e home-address-few)
