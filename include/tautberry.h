@@ -213,8 +213,17 @@ typedef struct tb_judged {
 
 typedef struct tb_sized {
     uint32_t refusal;
-    uint32_t size; /* TB_DATA_SIZE or TB_WIDE_SIZE: it goes into the calls on images and reads as it is */
+    uint32_t size; /* TB_DATA_SIZE or TB_WIDE_SIZE: it goes as it is into the calls that take a size */
 } tb_sized;
+
+typedef struct tb_tracks {
+    uint32_t refusal;
+    uint32_t home_cylinder; /* of the block's home track */
+    uint32_t home_head;
+    uint32_t cylinder; /* of the track that the block lies on */
+    uint32_t head;
+    int32_t shift; /* cylinders from the first track to the second, negative toward cylinder 0 */
+} tb_tracks;
 
 typedef struct tb_spotted {
     uint32_t refusal;
@@ -401,12 +410,22 @@ tb_sized tb_mode(const uint8_t *images, size_t images_length, uint32_t apart);
 
 /* ---- A read of a block of a revectored drive, from two track images ---- */
 
-/* size is that of the drive's sectors, as for the calls on images. home is the image of the block's home track, and spare the image of its spare's
- * track. For a block at home, spare may be the image of any track. Both are TB_TRACK_LENGTH(size, sectors) bytes long. A block lies in one of them,
- * and no byte of the other is looked at.
+/* A block is read in four steps: tb_read_tracks names its two tracks, the board fetches their images, tb_read_judge judges the block in them, and
+ * tb_read_data says where its data lies. If both are one track, it is fetched once and its image is lent as both.
+ *
+ * size is that of the drive's sectors, as for the calls on images; tb_read_tracks takes none. home is the image of the block's home track, and spare
+ * the image of its spare's track. For a block at home, spare may be the image of any track. Both are TB_TRACK_LENGTH(size, sectors) bytes long. A
+ * block lies in one of them, and no byte of the other is looked at.
  *
  * The header must say the block, and the code that the table says: that of the block's descriptor, or TB_AT_HOME where the block lies at home. So
  * the number that must stand in it is the descriptor itself, or the plain block number. */
+
+/* The tracks to fetch for a read of a block: its home track, and the track that it lies on, which for a block at home is the home track too. The
+ * shift from the first to the second is that of tb_spare_shift.
+ * Checks: TB_OUT_OF_RANGE (shape, r), TB_NO_ROOM (scratch), TB_BAD_TABLE, TB_NO_SUCH_BLOCK. Answers home_cylinder, home_head, cylinder, head and
+ * shift. Writes nothing but scratch. */
+tb_tracks tb_read_tracks(
+    tb_shape shape, uint32_t r, const uint32_t *table, size_t table_length, uint32_t *scratch, size_t scratch_length, uint32_t block);
 
 /* The verdict on a block.
  * Checks: TB_OUT_OF_RANGE (size, shape, r), TB_NO_ROOM (scratch), TB_BAD_TABLE, TB_NO_SUCH_BLOCK, TB_WRONG_LENGTH (either image), TB_NO_ADDRESS,

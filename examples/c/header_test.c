@@ -1,7 +1,8 @@
 /* Holds include/tautberry.h to libboard.a by what the calls do: the size and the fields of each struct, the angle of a sector, each limit at its
  * last number and one beyond, large drives, bad groups in each call that takes a shape, scratch in each call that takes it, blocks replaced until
- * no spare is left, free places before a block and after it, the codes and blocks of headers, sectors of both sizes and numbers that are no size,
- * the mode sector, each refusal number, and NULL for each slice of length 0. It is compiled as C and as C++. It returns 1 if anything differs. */
+ * no spare is left, free places before a block and after it, the tracks of a read, the codes and blocks of headers, sectors of both sizes and
+ * numbers that are no size, the mode sector, each refusal number, and NULL for each slice of length 0. It is compiled as C and as C++. It returns 1
+ * if anything differs. */
 #include <inttypes.h>
 #include <stdio.h>
 #include <string.h>
@@ -101,6 +102,7 @@ static void sizes(void)
     same("sizeof (tb_headed)", sizeof(tb_headed), 12);
     same("sizeof (tb_judged)", sizeof(tb_judged), 4);
     same("sizeof (tb_sized)", sizeof(tb_sized), 8);
+    same("sizeof (tb_tracks)", sizeof(tb_tracks), 24);
     same("sizeof (tb_spotted)", sizeof(tb_spotted), 12);
 
     same("offsetof (tb_shape, cylinders)", offsetof(tb_shape, cylinders), 0);
@@ -120,6 +122,12 @@ static void sizes(void)
     same("offsetof (tb_headed, block)", offsetof(tb_headed, block), 8);
     same("offsetof (tb_sized, refusal)", offsetof(tb_sized, refusal), 0);
     same("offsetof (tb_sized, size)", offsetof(tb_sized, size), 4);
+    same("offsetof (tb_tracks, refusal)", offsetof(tb_tracks, refusal), 0);
+    same("offsetof (tb_tracks, home_cylinder)", offsetof(tb_tracks, home_cylinder), 4);
+    same("offsetof (tb_tracks, home_head)", offsetof(tb_tracks, home_head), 8);
+    same("offsetof (tb_tracks, cylinder)", offsetof(tb_tracks, cylinder), 12);
+    same("offsetof (tb_tracks, head)", offsetof(tb_tracks, head), 16);
+    same("offsetof (tb_tracks, shift)", offsetof(tb_tracks, shift), 20);
 }
 
 /* Each field of each struct, by an answer in which no two numbers are alike. */
@@ -240,6 +248,33 @@ static void fields(void)
     named = tb_spare_block_at(shape, 2, words, 128, scratch, SPARES, 0, 1, 4);
     same("tb_spare_block_at found", named.found, 1);
     same("tb_spare_block_at block", named.block, 6);
+    tb_tracks tracks = tb_read_tracks(shape, 2, words, 128, scratch, SPARES, 6);
+    same("tb_read_tracks refusal", tracks.refusal, TB_ACCEPTED);
+    same("tb_read_tracks home_cylinder", tracks.home_cylinder, 1);
+    same("tb_read_tracks home_head", tracks.home_head, 0);
+    same("tb_read_tracks cylinder", tracks.cylinder, 0);
+    same("tb_read_tracks head", tracks.head, 1);
+    same("tb_read_tracks shift is negative", tracks.shift < 0, 1);
+    same("tb_read_tracks shift is by one", tracks.shift + 1 == 0, 1);
+    /* One spare to a track, and all of them unusable but two: block 281 of track 70 lies on that of track 26, and block 41 of track 10 on that of
+     * track 60. */
+    for (uint32_t place = 0; place < 128; place++) {
+        more_words[place] = place >= 72 ? 0x80000000 : place == 26 ? 0x30000000 + 281 : place == 60 ? 0x30000000 + 41 : 0x40000000;
+    }
+    tracks = tb_read_tracks(larger, 1, more_words, 128, scratch, 72, 281);
+    same("tb_read_tracks refusal, toward cylinder 0", tracks.refusal, TB_ACCEPTED);
+    same("tb_read_tracks home_cylinder, toward cylinder 0", tracks.home_cylinder, 8);
+    same("tb_read_tracks home_head, toward cylinder 0", tracks.home_head, 6);
+    same("tb_read_tracks cylinder, toward cylinder 0", tracks.cylinder, 3);
+    same("tb_read_tracks head, toward cylinder 0", tracks.head, 2);
+    same("tb_read_tracks shift, toward cylinder 0", tracks.shift == -5, 1);
+    tracks = tb_read_tracks(larger, 1, more_words, 128, scratch, 72, 41);
+    same("tb_read_tracks refusal, away from cylinder 0", tracks.refusal, TB_ACCEPTED);
+    same("tb_read_tracks home_cylinder, away from cylinder 0", tracks.home_cylinder, 1);
+    same("tb_read_tracks home_head, away from cylinder 0", tracks.home_head, 2);
+    same("tb_read_tracks cylinder, away from cylinder 0", tracks.cylinder, 7);
+    same("tb_read_tracks head, away from cylinder 0", tracks.head, 4);
+    same("tb_read_tracks shift, away from cylinder 0", tracks.shift == 6, 1);
 
     data[0] = 1;
     for (size_t i = 0; i < 2; i++) {
@@ -504,6 +539,27 @@ static void scratch_left(const char *at_start, const char *behind, uint32_t zero
             (number) == TB_OUT_OF_RANGE || (number) == TB_NO_ROOM ? 0 : (spares)); \
     } while (0)
 
+/* The tracks of a block of a drive whose table is in words: its home track and the one that it lies on, each by its number on the drive. The other
+ * calls say the same of the second one and of the shift. */
+static void tracks_are(tb_shape shape, uint32_t r, uint32_t block, uint32_t home_track, uint32_t track)
+{
+    const uint32_t spares = shape.cylinders * shape.heads * r;
+    const size_t length = TB_TABLE_LENGTH(spares);
+    const uint32_t heads = shape.heads;
+    const int32_t shift = (int32_t)(track / heads) - (int32_t)(home_track / heads);
+    const tb_tracks tracks = tb_read_tracks(shape, r, words, length, scratch, spares, block);
+    same("refusal of tracks", tracks.refusal, TB_ACCEPTED);
+    same("cylinder of a home track", tracks.home_cylinder, home_track / heads);
+    same("head of a home track", tracks.home_head, home_track % heads);
+    same("cylinder of the track of a block", tracks.cylinder, track / heads);
+    same("head of the track of a block", tracks.head, track % heads);
+    same("shift between tracks", tracks.shift == shift, 1);
+    const tb_located located = tb_spare_address(shape, r, words, length, scratch, spares, block);
+    same("cylinder of a block and of its track", located.address.cylinder, tracks.cylinder);
+    same("head of a block and of its track", located.address.head, tracks.head);
+    same("shift of a block and between its tracks", tb_spare_shift(shape, r, words, length, scratch, spares, block).shift == shift, 1);
+}
+
 /* A drive of 880 cylinders, 16 heads and 53 sectors, one of them a spare: 14,080 spares and 732,160 blocks. */
 static void customers_drive(void)
 {
@@ -523,9 +579,15 @@ static void customers_drive(void)
         same("place of a replacement on a large drive", answer.place, place);
         same("descriptor on a large drive", words[place], replaced[i][2]);
         same("sector on a large drive", tb_spare_sector(shape, 1, words, spares, scratch, spares, block).sector, 53 * place + 52);
+        tracks_are(shape, 1, block, block / 52, place);
     }
+    tracks_are(shape, 1, 0, 0, 0);
+    tracks_are(shape, 1, 731899, 14074, 14074);
     SCRATCHED(tb_replaced, tb_spare_replace(shape, 1, words, spares, scratch, spares, 732160), TB_NO_SUCH_BLOCK, spares);
     SCRATCHED(tb_replaced, tb_spare_replace(shape, 1, words, spares, scratch, spares - 1, 0), TB_NO_ROOM, spares);
+    SCRATCHED(tb_tracks, tb_read_tracks(shape, 1, words, spares, scratch, spares, 732160), TB_NO_SUCH_BLOCK, spares);
+    SCRATCHED(tb_tracks, tb_read_tracks(shape, 1, words, spares, scratch, spares - 1, 0), TB_NO_ROOM, spares);
+    SCRATCHED(tb_tracks, tb_read_tracks(shape, 1, words, spares, scratch, spares + 3, 732159), TB_ACCEPTED, spares);
     const tb_counted counted = tb_spare_census(shape, 1, words, spares, scratch, spares);
     same("free on a large drive", counted.free, spares - 8);
     same("primary on a large drive", counted.primary, 3);
@@ -559,9 +621,14 @@ static void largest_drive(void)
     same("the last block", words[spares - 1], 0x20000000 + last);
     SCRATCHED(tb_counted, tb_spare_census(shape, 1, words, spares, scratch, spares - 1), TB_NO_ROOM, spares);
     SCRATCHED(tb_counted, tb_spare_census(shape, 1, words, spares, scratch, spares + 3), TB_ACCEPTED, spares);
+    tracks_are(shape, 1, 5, 0, 0);
+    tracks_are(shape, 1, 5 + 32 * spares, 33288, 33288);
+    tracks_are(shape, 1, last, spares - 1, spares - 1);
+    tracks_are(shape, 1, last - 1, spares - 1, spares - 1);
     /* Each of the three is named once more, on the spare after its own or before it. */
     words[1] = 0x30000005;
     SCRATCHED(tb_counted, tb_spare_census(shape, 1, words, spares, scratch, spares), TB_BAD_TABLE, spares);
+    SCRATCHED(tb_tracks, tb_read_tracks(shape, 1, words, spares, scratch, spares, last), TB_BAD_TABLE, spares);
     words[1] = 0;
     words[33289] = 0x30200005;
     SCRATCHED(tb_counted, tb_spare_census(shape, 1, words, spares, scratch, spares), TB_BAD_TABLE, spares);
@@ -592,6 +659,7 @@ static void in_each_call(tb_shape shape, bool bad)
     REFUSED(tb_replaced, tb_spare_replace(shape, 2, words, 1, scratch, 2 * SPARES, 24), no_table);
     REFUSED(tb_counted, tb_spare_census(shape, 2, words, 1, scratch, 2 * SPARES), no_table);
     REFUSED(tb_written, tb_spare_first(shape, 2, places, TB_LIST_MOST + 1, words, 1), no_list);
+    REFUSED(tb_tracks, tb_read_tracks(shape, 2, words, 1, scratch, 2 * SPARES, 24), no_table);
     REFUSED(tb_judged, tb_read_judge(TB_WIDE_SIZE, shape, 2, words, 1, scratch, 2 * SPARES, 24, home, 1, spare, 1), no_table);
     REFUSED(tb_spotted, tb_read_data(TB_WIDE_SIZE, shape, 2, words, 1, scratch, 2 * SPARES, 24, home, 1, spare, 1), no_table);
     same("the first place of a room, refused", words[0], 0xA5A5A5A5);
@@ -659,6 +727,7 @@ static void replaced_to(uint32_t block, uint32_t old, uint32_t place, uint32_t d
     }
     same("other words that a replacement changed", differing(), 0);
     same("sector of a replaced block", tb_spare_sector(replacing(), 2, words, 128, scratch, SPARES, block).sector, sector);
+    tracks_are(replacing(), 2, block, block / 3, place / 2);
     same("block on the new spare", tb_spare_block(replacing(), 2, words, 128, scratch, SPARES, sector).block, block);
 }
 
@@ -715,6 +784,9 @@ static void replacements(void)
     same("null with no spare left", counted.null, 120);
     same("sector with no spare left", tb_spare_sector(replacing(), 2, words, 128, scratch, SPARES, 7).sector, 4);
     same("shift with no spare left", tb_spare_shift(replacing(), 2, words, 128, scratch, SPARES, 7).shift == -1, 1);
+    for (uint32_t block = 0; block < 12; block++) {
+        tracks_are(replacing(), 2, block, block / 3, block == 7 || block == 0 ? 0 : block == 6 || block == 8 ? 1 : block / 3);
+    }
     for (uint32_t block = 0; block < 12; block++) {
         not_replaced(2, 128, block, TB_NO_SPARE);
     }
@@ -796,6 +868,7 @@ static void scratch_in_each_call(const uint32_t descriptors[8], asked what, give
     SCRATCHED(tb_named, tb_spare_block(shape, r, words, 128, lent, length, what.sector), numbers.of_sector, SPARES);
     SCRATCHED(tb_named, tb_spare_block_at(shape, r, words, 128, lent, length, what.sector / 10, what.sector / 5 % 2, what.sector % 5), numbers.of_sector, SPARES);
     SCRATCHED(tb_counted, tb_spare_census(shape, r, words, 128, lent, length), numbers.of_census, SPARES);
+    SCRATCHED(tb_tracks, tb_read_tracks(shape, r, words, 128, lent, length, what.block), numbers.of_block, SPARES);
     SCRATCHED(tb_judged, tb_read_judge(size, shape, r, words, 128, lent, length, what.block, home, what.home_length, spare, track), numbers.of_read, SPARES);
     SCRATCHED(tb_spotted, tb_read_data(size, shape, r, words, 128, lent, length, what.block, home, what.home_length, spare, track), numbers.of_read, SPARES);
     same("words that calls without a room changed", differing(), 0);
@@ -919,6 +992,9 @@ static void judged_tables(void)
         lay(tables[i].descriptors);
         same("sector of a judged table", tb_spare_sector(replacing(), 2, words, 128, scratch, SPARES, block).sector, good ? sector : 0);
         same("block of a judged table", tb_spare_block(replacing(), 2, words, 128, scratch, SPARES, sector).block, good ? block : 0);
+        if (good) {
+            tracks_are(replacing(), 2, block, block / 3, sector / 5);
+        }
     }
 
     /* A free place before a block, with faults that are refused before it and behind it. */
@@ -977,6 +1053,8 @@ static void one_free_place(tb_shape shape, uint32_t block, uint32_t place, uint3
     SCRATCHED(tb_placed, tb_spare_sector(shape, 1, words, length, scratch, spares, block), number, spares);
     SCRATCHED(tb_counted, tb_spare_census(shape, 1, words, length, scratch, spares), number, spares);
     SCRATCHED(tb_counted, tb_spare_census(shape, 1, words, length, scratch, spares - 1), TB_NO_ROOM, spares);
+    SCRATCHED(tb_tracks, tb_read_tracks(shape, 1, words, length, scratch, spares, block), number, spares);
+    SCRATCHED(tb_tracks, tb_read_tracks(shape, 1, words, length, scratch, spares - 1, block), TB_NO_ROOM, spares);
     if (number != TB_ACCEPTED) {
         SCRATCHED(tb_replaced, tb_spare_replace(shape, 1, words, length, scratch, spares, block), number, spares);
         same("words of a bad table that changed", differing(), 0);
@@ -987,6 +1065,8 @@ static void one_free_place(tb_shape shape, uint32_t block, uint32_t place, uint3
     same("block on its home", tb_spare_block(shape, 1, words, length, scratch, spares, track * shape.sectors + block % homes).found, 0);
     same("sector of its neighbour at home",
          tb_spare_sector(shape, 1, words, length, scratch, spares, neighbour).sector, track * shape.sectors + neighbour % homes);
+    tracks_are(shape, 1, block, track, place);
+    tracks_are(shape, 1, neighbour, track, track);
     same("free places", tb_spare_census(shape, 1, words, length, scratch, spares).free, hole == NONE ? 0 : 1);
     if (hole == NONE) {
         SCRATCHED(tb_replaced, tb_spare_replace(shape, 1, words, length, scratch, spares, block), TB_NO_SPARE, spares);
@@ -995,6 +1075,7 @@ static void one_free_place(tb_shape shape, uint32_t block, uint32_t place, uint3
         more_words[place] = 0x40000000;
         more_words[hole] = 0x30000000 + block;
         same("sector on the free spare", tb_spare_sector(shape, 1, words, length, scratch, spares, block).sector, hole * shape.sectors + homes);
+        tracks_are(shape, 1, block, track, hole);
     }
     same("words that are not as they must be after it", differing(), 0);
 }
@@ -1095,6 +1176,58 @@ static void far_free_places(void)
             shaped(TB_CYLINDERS_MOST, 16, TB_SECTORS_MOST), longest_table[i].block, longest_table[i].place, longest_table[i].hole,
             longest_table[i].number);
     }
+}
+
+/* Tracks of a drive without a replaced block, and of one with three and then one of them replaced again, each in any groups; and the longest ways
+ * between tracks. */
+static void read_tracks(void)
+{
+    const uint32_t none[8] = {0, 0, 0, 0, 0, 0, 0, 0};
+    const uint32_t three[8] = {0, 0, 0, 0x30000006, 0x20000007, 0x30000008, 0, 0};
+    const uint32_t again[8] = {0, 0, 0, 0x40000000, 0x20000007, 0x30000008, 0x30000006, 0};
+    const tb_shape shapes[] = {shaped(2, 2, 5), grouped(2, 2, 5, 1, 2, 4), grouped(2, 2, 5, 2, 1, 0), replacing()};
+
+    for (size_t i = 0; i < sizeof shapes / sizeof shapes[0]; i++) {
+        for (uint32_t block = 0; block < 12; block++) {
+            const uint32_t home_track = block / 3;
+            lay(none);
+            tracks_are(shapes[i], 2, block, home_track, home_track);
+            lay(three);
+            tracks_are(shapes[i], 2, block, home_track, block == 6 ? 1 : home_track);
+            lay(again);
+            tracks_are(shapes[i], 2, block, home_track, block == 6 ? 3 : home_track);
+        }
+        SCRATCHED(tb_tracks, tb_read_tracks(shapes[i], 2, words, 128, scratch, SPARES, 12), TB_NO_SUCH_BLOCK, SPARES);
+        SCRATCHED(tb_tracks, tb_read_tracks(shapes[i], 2, words, 128, scratch, SPARES, 0xFFFFFFFF), TB_NO_SUCH_BLOCK, SPARES);
+    }
+
+    /* The checks in their order: with all faults, and then each time without the first that is left. */
+    lay(three);
+    words[0] = 1;
+    memcpy(more_words, words, sizeof words);
+    SCRATCHED(tb_tracks, tb_read_tracks(shaped(2, 2, 1), 5, words, 127, scratch, SPARES - 1, 12), TB_OUT_OF_RANGE, SPARES);
+    SCRATCHED(tb_tracks, tb_read_tracks(shaped(2, 2, 5), 5, words, 127, scratch, SPARES - 1, 12), TB_OUT_OF_RANGE, SPARES);
+    SCRATCHED(tb_tracks, tb_read_tracks(shaped(2, 2, 5), 2, words, 127, scratch, SPARES - 1, 12), TB_NO_ROOM, SPARES);
+    SCRATCHED(tb_tracks, tb_read_tracks(shaped(2, 2, 5), 2, words, 127, scratch, SPARES, 12), TB_BAD_TABLE, SPARES);
+    SCRATCHED(tb_tracks, tb_read_tracks(shaped(2, 2, 5), 2, words, 128, scratch, SPARES, 12), TB_BAD_TABLE, SPARES);
+    SCRATCHED(tb_tracks, tb_read_tracks(shaped(2, 2, 5), 2, words, 128, scratch, SPARES, 6), TB_BAD_TABLE, SPARES);
+    same("words that the naming of tracks changed", differing(), 0);
+    words[0] = 0;
+    memcpy(more_words, words, sizeof words);
+    SCRATCHED(tb_tracks, tb_read_tracks(shaped(2, 2, 5), 2, words, 128, scratch, SPARES, 12), TB_NO_SUCH_BLOCK, SPARES);
+    SCRATCHED(tb_tracks, tb_read_tracks(shaped(2, 2, 5), 2, words, 128, scratch, SPARES, 6), TB_ACCEPTED, SPARES);
+    SCRATCHED(tb_tracks, tb_read_tracks(shaped(2, 2, 5), 2, words, 128, scratch, SPARES + 3, 6), TB_ACCEPTED, SPARES);
+    same("words that the naming of tracks changed", differing(), 0);
+
+    /* From the first track to the last and back, where every other spare is unusable. */
+    for (uint32_t track = 0; track < TB_CYLINDERS_MOST; track++) {
+        words[track] = track == 0 ? 0x30000000 + TB_CYLINDERS_MOST - 1 : track == TB_CYLINDERS_MOST - 1 ? 0x30000000 : 0x40000000;
+    }
+    tracks_are(shaped(TB_CYLINDERS_MOST, 1, 2), 1, 0, 0, TB_CYLINDERS_MOST - 1);
+    tracks_are(shaped(TB_CYLINDERS_MOST, 1, 2), 1, TB_CYLINDERS_MOST - 1, TB_CYLINDERS_MOST - 1, 0);
+    tracks_are(shaped(TB_CYLINDERS_MOST / TB_HEADS_MOST, TB_HEADS_MOST, 2), 1, 0, 0, TB_CYLINDERS_MOST - 1);
+    tracks_are(shaped(TB_CYLINDERS_MOST / TB_HEADS_MOST, TB_HEADS_MOST, 2), 1, TB_CYLINDERS_MOST - 1, TB_CYLINDERS_MOST - 1, 0);
+    tracks_are(shaped(TB_CYLINDERS_MOST / TB_HEADS_MOST, TB_HEADS_MOST, 2), 1, TB_HEADS_MOST, TB_HEADS_MOST, TB_HEADS_MOST);
 }
 
 /* The codes, and code and number of words. The macros serve where a constant is asked for, too. */
@@ -1600,6 +1733,8 @@ static void nothing_lent(void)
     same("tb_spare_census scratch", tb_spare_census(shape, 2, words, 128, NULL, 0).refusal, TB_NO_ROOM);
     same("tb_spare_first list", tb_spare_first(shape, 2, NULL, 0, words, 128).length, 128);
     same("tb_spare_first room", tb_spare_first(shape, 2, NULL, 0, NULL, 0).refusal, TB_NO_ROOM);
+    same("tb_read_tracks table", tb_read_tracks(shape, 2, NULL, 0, scratch, SPARES, 0).refusal, TB_BAD_TABLE);
+    same("tb_read_tracks scratch", tb_read_tracks(shape, 2, words, 128, NULL, 0, 0).refusal, TB_NO_ROOM);
     for (size_t i = 0; i < 2; i++) {
         const uint32_t size = both[i];
         const size_t track = TB_TRACK_LENGTH(size, 5);
@@ -1638,6 +1773,7 @@ int main(void)
     judged_tables();
     free_places();
     far_free_places();
+    read_tracks();
     words_of_codes();
     headers();
     for (size_t i = 0; i < 2; i++) {

@@ -1,6 +1,6 @@
 /* The day of a bad block on a small revectored drive: the size of its sectors found in its mode sector, a first table, three replacements, the old
- * image moved to the spare and refused, the block written there with its code and read back from two track images, and the block replaced again
- * when its spare goes bad too. It prints what it sees, and returns 1 if anything is not as it must be. */
+ * image moved to the spare and refused, the block written there with its code and read back from the two tracks that are named for it, and the block
+ * replaced again when its spare goes bad too. It prints what it sees, and returns 1 if anything is not as it must be. */
 #include <inttypes.h>
 #include <stdio.h>
 #include <string.h>
@@ -28,7 +28,7 @@ static const size_t scratch_length = sizeof scratch / sizeof scratch[0];
  * room for sectors of either size. */
 static uint32_t size;
 static size_t image_length, track_length;
-static uint8_t tracks[TRACKS][TB_TRACK_LENGTH(TB_WIDE_SIZE, SECTORS)];
+static uint8_t disc[CYLINDERS][HEADS][TB_TRACK_LENGTH(TB_WIDE_SIZE, SECTORS)];
 
 /* The XBN area: three copies of the format table, two sectors each. Its sectors always have TB_DATA_SIZE bytes of data. */
 enum { COPIES = 3, APART = 2 };
@@ -52,10 +52,17 @@ static void fill(uint8_t data[TB_WIDE_SIZE], const char *text)
     memcpy(data, text, strlen(text));
 }
 
-/* The image of a sector of a track. */
-static uint8_t *image_at(uint32_t track, uint32_t sector)
+/* The image of a sector. */
+static uint8_t *image_at(uint32_t cylinder, uint32_t head, uint32_t sector)
 {
-    return &tracks[track][sector * image_length];
+    return &disc[cylinder][head][sector * image_length];
+}
+
+/* Fetches the image of a track. */
+static const uint8_t *fetch(uint32_t cylinder, uint32_t head)
+{
+    printf("  the track of cylinder %" PRIu32 ", head %" PRIu32 " is fetched\n", cylinder, head);
+    return disc[cylinder][head];
 }
 
 /* Lays the XBN area of a drive with sectors of TB_WIDE_SIZE. Of its first copy the mode sector is forced. */
@@ -90,9 +97,10 @@ static void write_drive(const char *text)
     fill(data, text);
     for (uint32_t sector = 0; sector < TRACKS * SECTORS; sector++) {
         tb_named lying = tb_spare_block(shape, r, table, table_length, scratch, scratch_length, sector);
-        uint8_t *image = image_at(sector / SECTORS, sector % SECTORS);
+        tb_located located = tb_shape_address(shape, sector);
+        uint8_t *image = image_at(located.address.cylinder, located.address.head, located.address.sector);
         tb_written written = tb_image_write(size, lying.block, TB_AT_HOME, data, size, lying.found == 0, image, image_length);
-        must(lying.refusal == TB_ACCEPTED && written.refusal == TB_ACCEPTED, "every sector of the drive can be written");
+        must(lying.refusal == TB_ACCEPTED && located.refusal == TB_ACCEPTED && written.refusal == TB_ACCEPTED, "every sector of the drive can be written");
     }
 }
 
@@ -134,12 +142,20 @@ static void show_header(const uint8_t *image, uint32_t code, uint32_t block)
     must(headed.refusal == TB_ACCEPTED && headed.code == code && headed.block == block, "the code and the block of a header");
 }
 
-/* Reads a block from the images of its home track and of the track that it lies on now. */
+/* Reads a block: asks for its tracks, fetches them, judges the block in their images, and takes its data. */
 static uint32_t read_block(uint32_t block, const char *text)
 {
-    tb_located now = tb_spare_address(shape, r, table, table_length, scratch, scratch_length, block);
-    const uint8_t *home = tracks[block / HOMES_OF_TRACK];
-    const uint8_t *spare = tracks[now.address.cylinder * HEADS + now.address.head];
+    tb_tracks tracks = tb_read_tracks(shape, r, table, table_length, scratch, scratch_length, block);
+    must(tracks.refusal == TB_ACCEPTED, "the tracks of a block of the drive are named");
+    if (tracks.refusal != TB_ACCEPTED) {
+        return tracks.refusal;
+    }
+    const uint8_t *home = fetch(tracks.home_cylinder, tracks.home_head);
+    const uint8_t *spare = home;
+    if (tracks.cylinder != tracks.home_cylinder || tracks.head != tracks.home_head) {
+        printf("  the arm moves by %+" PRId32 "\n", tracks.shift);
+        spare = fetch(tracks.cylinder, tracks.head);
+    }
     tb_judged judged = tb_read_judge(size, shape, r, table, table_length, scratch, scratch_length, block, home, track_length, spare, track_length);
     tb_spotted spotted = tb_read_data(size, shape, r, table, table_length, scratch, scratch_length, block, home, track_length, spare, track_length);
     must(judged.refusal == spotted.refusal, "verdict and data refuse alike");
@@ -188,8 +204,8 @@ int main(void)
     must(read_block(6, "") == TB_OTHER_BLOCK, "a spare that was not written is refused");
 
     puts("Its old image is moved there as it is, and says that the block is at home:");
-    uint8_t *image = image_at(1, 4);
-    memcpy(image, image_at(2, 0), image_length);
+    uint8_t *image = image_at(0, 1, 4);
+    memcpy(image, image_at(1, 0, 0), image_length);
     show_header(image, TB_AT_HOME, 6);
     must(read_block(6, "") == TB_OTHER_BLOCK, "an image that says another code is refused");
 
@@ -223,7 +239,7 @@ int main(void)
 
     puts("It is written on its new spare:");
     fill(data, "Wednesday's log");
-    written = tb_image_write(size, 6, TB_CODE_OF(table[6]), data, size, false, image_at(3, 3), image_length);
+    written = tb_image_write(size, 6, TB_CODE_OF(table[6]), data, size, false, image_at(1, 1, 3), image_length);
     must(written.refusal == TB_ACCEPTED && read_block(6, "Wednesday's log") == TB_ACCEPTED, "block 6 reads well from its new spare");
 
     puts(off ? "Something is off." : "All as it must be.");

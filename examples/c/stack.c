@@ -215,6 +215,7 @@ static void image_write(void) { refusal = tb_image_write(size, block, code, data
 static void image_header(void) { refusal = tb_image_header(size, image, image_length).refusal; }
 static void image_judge(void) { refusal = tb_image_judge(size, image, image_length, block, code).refusal; }
 static void mode(void) { refusal = tb_mode(area, area_length, apart).refusal; }
+static void read_tracks(void) { refusal = tb_read_tracks(shape, r, table, table_length, scratch, scratch_length, block).refusal; }
 static void read_judge(void) { refusal = tb_read_judge(size, shape, r, table, table_length, scratch, scratch_length, block, home, home_length, spare, spare_length).refusal; }
 static void read_data(void) { refusal = tb_read_data(size, shape, r, table, table_length, scratch, scratch_length, block, home, home_length, spare, spare_length).refusal; }
 
@@ -254,6 +255,7 @@ static const struct {
     {"tb_image_header", image_header, NO_HEADER},
     {"tb_image_judge", image_judge, NO_DATA},
     {"tb_mode", mode, NO(OUT_OF_RANGE) | NO(NO_MODE)},
+    {"tb_read_tracks", read_tracks, NO_TABLE | NO(NO_SUCH_BLOCK)},
     {"tb_read_judge", read_judge, NO_TABLE | NO(NO_SUCH_BLOCK) | NO_DATA},
     {"tb_read_data", read_data, NO_TABLE | NO(NO_SUCH_BLOCK) | NO_DATA},
 };

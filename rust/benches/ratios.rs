@@ -12,8 +12,8 @@ use std::process::exit;
 use std::time::{Duration, Instant};
 
 use tautberry::{
-    format, image, image_length, mode, page, page_length, spares, table_length, Cursor, Refusal,
-    Shape, AT_HOME, AT_PRIMARY, DATA_SIZE, ELSEWHERE, UNITS_MOST, WIDE_SIZE,
+    format, image, image_length, mode, page, page_length, reading, spares, table_length, Cursor,
+    Refusal, Shape, AT_HOME, AT_PRIMARY, DATA_SIZE, ELSEWHERE, UNITS_MOST, WIDE_SIZE,
 };
 
 #[path = "../plain/mod.rs"]
@@ -37,6 +37,7 @@ fn main() {
     );
     steps();
     look_ups();
+    tracks();
     long_look_ups();
     checks();
     verdicts(DATA_SIZE);
@@ -196,6 +197,37 @@ fn compare_on_table(
     compare(job, unit, asked.len() as u64, library, plain);
 }
 
+/// Times the naming of the tracks of these blocks in a table; each checks the whole table, too.
+fn compare_tracks(job: &str, (shape, r, _): Drive, table: &[u32], asked: &[u32]) {
+    let scratch = || vec![0; (shape.cylinders * shape.heads * r) as usize];
+    let (mut our_scratch, mut plain_scratch) = (scratch(), scratch());
+    // One number of all five, so that they are all used.
+    let joined = |(home, there, shift): (plain::Track, plain::Track, i32)| {
+        home.0 + home.1 + 3 * there.0 + 5 * there.1 + 7 * shift.unsigned_abs()
+    };
+    let library = || {
+        let mut name = |block: &u32| {
+            let scratch = black_box(&mut our_scratch);
+            let answer = reading::tracks(shape, r, black_box(table), scratch, *block);
+            let numbers = answer.map(|tracks| {
+                let (home, there) = (tracks.home, tracks.there);
+                ((home.cylinder, home.head), (there.cylinder, there.head), tracks.shift)
+            });
+            numbers.map(joined).map_err(Refusal::number)
+        };
+        sum(asked.iter().map(&mut name), 0)
+    };
+    let plain_shape = plain::Shape::from(shape);
+    let plain = || {
+        let mut name = |block: &u32| {
+            let scratch = black_box(&mut plain_scratch);
+            plain::read_tracks(plain_shape, r, black_box(table), scratch, *block).map(joined)
+        };
+        sum(asked.iter().map(&mut name), 0)
+    };
+    compare(job, "block", asked.len() as u64, library, plain);
+}
+
 /// The sum of what was answered; every call must have given this number, 0 for accepted.
 fn sum(answers: impl Iterator<Item = Result<u32, u32>>, number: u32) -> u64 {
     let answered = answers.map(|answer| {
@@ -205,7 +237,13 @@ fn sum(answers: impl Iterator<Item = Result<u32, u32>>, number: u32) -> u64 {
     answered.sum()
 }
 
-/// Look-ups of blocks at home and on spares all over the drive.
+/// Blocks at home and on spares all over a drive.
+fn all_over((shape, r, _): Drive) -> Vec<u32> {
+    let blocks = shape.cylinders * shape.heads * (shape.sectors - r);
+    (0..512).map(|ask| ask * 8_009 % blocks).collect()
+}
+
+/// Look-ups of blocks all over the drive.
 fn look_ups() {
     let jobs = [
         "look-up, 1,016 of 1,024 spares used",
@@ -213,10 +251,19 @@ fn look_ups() {
         "look-up, 65,528 of 65,536 spares used",
     ];
     for (job, drive) in jobs.into_iter().zip(DRIVES) {
-        let (shape, r, _) = drive;
-        let blocks = shape.cylinders * shape.heads * (shape.sectors - r);
-        let asked: Vec<u32> = (0..512).map(|ask| ask * 8_009 % blocks).collect();
-        compare_on_table((job, "look-up"), drive, &nearly_full(drive), &asked, 0);
+        compare_on_table((job, "look-up"), drive, &nearly_full(drive), &all_over(drive), 0);
+    }
+}
+
+/// The tracks to fetch for reads of the same blocks.
+fn tracks() {
+    let jobs = [
+        "tracks, 1,016 of 1,024 spares used",
+        "tracks, 14,072 of 14,080 spares used",
+        "tracks, 65,528 of 65,536 spares used",
+    ];
+    for (job, drive) in jobs.into_iter().zip(DRIVES) {
+        compare_tracks(job, drive, &nearly_full(drive), &all_over(drive));
     }
 }
 

@@ -117,6 +117,7 @@ static void make(uint32_t call, const uint32_t *n, const struct slice *s)
         CASE(IMAGE_HEADER, tb_headed, tb_image_header(n[0], BYTES(0)))
         CASE(IMAGE_JUDGE, tb_judged, tb_image_judge(n[0], BYTES(0), n[1], n[2]))
         CASE(MODE, tb_sized, tb_mode(BYTES(0), n[0]))
+        CASE(READ_TRACKS, tb_tracks, tb_read_tracks(shape, m[0], WORDS(0), WORDS(1), m[1]))
         CASE(READ_JUDGE, tb_judged, tb_read_judge(m[2], shape, m[0], WORDS(0), WORDS(1), m[1], BYTES(2), BYTES(3)))
         CASE(READ_DATA, tb_spotted, tb_read_data(m[2], shape, m[0], WORDS(0), WORDS(1), m[1], BYTES(2), BYTES(3)))
     default: fail("far side: no such call\n");

@@ -295,6 +295,14 @@ tb_sized tb_mode(const uint8_t *images, size_t images_length, uint32_t apart)
     RETURN(tb_sized, MODE);
 }
 
+tb_tracks tb_read_tracks(tb_shape shape, uint32_t r, const uint32_t *table, size_t table_length,
+                         uint32_t *scratch, size_t scratch_length, uint32_t block)
+{
+    uint32_t numbers[] = {SHAPE, r, block};
+    struct slice slices[] = {READ(table, table_length), ROOM(scratch, scratch_length)};
+    RETURN(tb_tracks, READ_TRACKS);
+}
+
 /* The size goes last, since the far side takes the shape from the first numbers. */
 tb_judged tb_read_judge(uint32_t size, tb_shape shape, uint32_t r, const uint32_t *table, size_t table_length,
                         uint32_t *scratch, size_t scratch_length, uint32_t block, const uint8_t *home,

@@ -30,6 +30,7 @@ enum call {
     IMAGE_HEADER,
     IMAGE_JUDGE,
     MODE,
+    READ_TRACKS,
     READ_JUDGE,
     READ_DATA
 };

@@ -211,6 +211,30 @@ pub fn shift(shape: Shape, r: u32, table: &[u32], scratch: &mut [u32], block: u3
     Ok(to as i32 - from as i32)
 }
 
+/// A track by its cylinder and head.
+pub type Track = (u32, u32);
+
+/// The track of a number.
+fn reached(shape: Shape, track: u32) -> Track {
+    (track / shape.h, track % shape.h)
+}
+
+/// The tracks of a read: the one with the block's home, of which a track has l, and the one that the block lies
+/// on, where spare q is on track q / r. Then the cylinders from the first to the second.
+pub fn tracks(
+    shape: Shape,
+    r: u32,
+    table: &[u32],
+    scratch: &mut [u32],
+    block: u32,
+) -> Answer<(Track, Track, i32)> {
+    let drive = checked_block(shape, r, table, scratch, block)?;
+    let with_home = block / drive.l;
+    let lies_on = drive.place_of(table, block).map_or(with_home, |q| q / drive.r);
+    let (home, there) = (reached(shape, with_home), reached(shape, lies_on));
+    Ok((home, there, there.0 as i32 - home.0 as i32))
+}
+
 /// The block that lies on a sector, looked for among all blocks.
 fn named(drive: Drive, table: &[u32], sector: u32) -> Option<u32> {
     let mut lies: Vec<u32> = (0..drive.blocks()).map(|block| drive.home(block)).collect();

@@ -104,6 +104,7 @@ impl From<tautberry::Shape> for Shape {
 
 /// A checked revectored drive.
 struct Drive {
+    heads: u32,
     sectors: u32,
     spares_of_track: u32,
     homes_of_track: u32,
@@ -125,6 +126,7 @@ fn check_drive(shape: Shape, r: u32) -> Answer<Drive> {
     let tracks = shape.cylinders * shape.heads;
     refuse(tracks * r > SPARES_MOST, 1)?;
     Ok(Drive {
+        heads: shape.heads,
         sectors: shape.sectors,
         spares_of_track: r,
         homes_of_track: shape.sectors - r,
@@ -251,6 +253,23 @@ fn outward(block: &[u32], offset: usize, passes: impl Fn(&u32) -> bool) -> Optio
     None
 }
 
+/// Checks the drive, its table and the block, and leaves zeros in the scratch.
+fn check_block(
+    shape: Shape,
+    r: u32,
+    table: &[u32],
+    scratch: &mut [u32],
+    block: u32,
+) -> Answer<Drive> {
+    let drive = check_drive(shape, r)?;
+    let scratch = scratch.get_mut(..drive.spares as usize).ok_or(7u32)?;
+    let checked = check_table(&drive, table, scratch);
+    scratch.fill(0);
+    checked?;
+    refuse(block >= drive.blocks, 5)?;
+    Ok(drive)
+}
+
 /// The sector that a block of a revectored drive lies on.
 pub fn spare_sector(
     shape: Shape,
@@ -259,12 +278,7 @@ pub fn spare_sector(
     scratch: &mut [u32],
     block: u32,
 ) -> Answer<u32> {
-    let drive = check_drive(shape, r)?;
-    let scratch = scratch.get_mut(..drive.spares as usize).ok_or(7u32)?;
-    let checked = check_table(&drive, table, scratch);
-    scratch.fill(0);
-    checked?;
-    refuse(block >= drive.blocks, 5)?;
+    let drive = check_block(shape, r, table, scratch, block)?;
     let (track, sector) = match place_of(&drive, table, block) {
         Some(place) => {
             let spare = place as u32;
@@ -273,6 +287,25 @@ pub fn spare_sector(
         None => (block / drive.homes_of_track, block % drive.homes_of_track),
     };
     Ok(track * drive.sectors + sector)
+}
+
+/// A track by its cylinder and head.
+pub type Track = (u32, u32);
+
+/// The home track of a block, the track that it lies on, and the cylinders from the first to the second.
+pub fn read_tracks(
+    shape: Shape,
+    r: u32,
+    table: &[u32],
+    scratch: &mut [u32],
+    block: u32,
+) -> Answer<(Track, Track, i32)> {
+    let drive = check_block(shape, r, table, scratch, block)?;
+    let home = block / drive.homes_of_track;
+    let there = place_of(&drive, table, block).map_or(home, |place| place as u32 / r);
+    let at = |track: u32| (track / drive.heads, track % drive.heads);
+    let (home, there) = (at(home), at(there));
+    Ok((home, there, there.0 as i32 - home.0 as i32))
 }
 
 fn data_code(data: &[u8]) -> u16 {

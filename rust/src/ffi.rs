@@ -97,6 +97,16 @@ pub struct Sized {
 }
 
 #[repr(C)]
+pub struct Tracks {
+    pub refusal: u32,
+    pub home_cylinder: u32,
+    pub home_head: u32,
+    pub cylinder: u32,
+    pub head: u32,
+    pub shift: i32,
+}
+
+#[repr(C)]
 pub struct Spotted {
     pub refusal: u32,
     pub image: u32,
@@ -254,6 +264,15 @@ extern "C" {
 
     pub fn tb_mode(images: *const u8, images_length: usize, apart: u32) -> Sized;
 
+    pub fn tb_read_tracks(
+        shape: Shape,
+        r: u32,
+        table: *const u32,
+        table_length: usize,
+        scratch: *mut u32,
+        scratch_length: usize,
+        block: u32,
+    ) -> Tracks;
     pub fn tb_read_judge(
         size: u32,
         shape: Shape,

@@ -8,8 +8,8 @@ use crate::ffi;
 use crate::refusal::{answered, Refusal};
 
 /// The size of the first copy that says one: [`DATA_SIZE`](crate::DATA_SIZE) or
-/// [`WIDE_SIZE`](crate::WIDE_SIZE). It goes into the calls of [`image`](crate::image) and
-/// [`reading`](crate::reading) as it is.
+/// [`WIDE_SIZE`](crate::WIDE_SIZE). It goes as it is into the calls of [`image`](crate::image) and
+/// [`reading`](crate::reading) that take a size.
 ///
 /// `images` are the sector images of the XBN area one after another from XBN 0 on, 530 bytes each, as many as
 /// were read. Copies begin at XBN 0, `apart`, 2 × `apart` and so on. A copy says its size where its first

@@ -1,7 +1,11 @@
 //! A read of a revectored block from the image of its home track and that of its spare's track.
 //!
+//! [`tracks`] names the two tracks. Once their images are fetched, [`judge`] judges the block in them, and
+//! [`data`] hands back its data. If both are one track, its image may be lent as both.
+//!
 //! `size` is that of the drive's sectors, as in [`image`](crate::image). Any other than the two is
-//! [`OutOfRange`](Refusal::OutOfRange), before all else, and leaves all of `scratch` as it was.
+//! [`OutOfRange`](Refusal::OutOfRange), before all else, and leaves all of `scratch` as it was. [`tracks`]
+//! takes no size.
 //!
 //! A block lies in one image, and no byte of the other is looked at. For a block at home the second image may
 //! be any of the right length. The header must say the block, and the code that the table says: that of the
@@ -15,9 +19,72 @@ use crate::ffi;
 use crate::refusal::{answered, Refusal};
 use crate::shape::Shape;
 
+/// A track of the drive.
+#[derive(Clone, Copy, Debug, PartialEq, Eq, Hash)]
+pub struct Track {
+    pub cylinder: u32,
+    pub head: u32,
+}
+
+/// The tracks to fetch for a read of a block.
+#[derive(Clone, Copy, Debug, PartialEq, Eq, Hash)]
+pub struct Tracks {
+    /// The block's home track.
+    pub home: Track,
+    /// The track that the block lies on, which for a block at home is the home track too.
+    pub there: Track,
+    /// The cylinders from the first to the second, negative toward cylinder 0, as
+    /// [`shift`](crate::spares::shift) answers them.
+    pub shift: i32,
+}
+
+/// The tracks to fetch for a read of `block`.
+///
+/// Checks: those of [`sector_of`](crate::spares::sector_of).
+///
+/// ```
+/// use tautberry::reading::{self, Track};
+/// use tautberry::{spares, Shape};
+///
+/// let shape = Shape::ungrouped(2, 2, 5);
+/// let (mut table, mut scratch) = ([0; 128], [0; 8]);
+/// spares::first_table(shape, 2, &[], &mut table)?;
+/// for block in [7, 8, 6] {
+///     spares::replace(shape, 2, &mut table, &mut scratch, block)?;
+/// }
+/// let tracks = reading::tracks(shape, 2, &table, &mut scratch, 6)?;
+/// assert_eq!(tracks.home, Track { cylinder: 1, head: 0 });
+/// assert_eq!(tracks.there, Track { cylinder: 0, head: 1 });
+/// assert_eq!(tracks.shift, -1);
+/// # Ok::<(), tautberry::Refusal>(())
+/// ```
+pub fn tracks(
+    shape: Shape,
+    r: u32,
+    table: &[u32],
+    scratch: &mut [u32],
+    block: u32,
+) -> Result<Tracks, Refusal> {
+    // SAFETY: pointers and lengths are those of live slices, and scratch overlaps nothing.
+    let answer = unsafe {
+        ffi::tb_read_tracks(
+            shape,
+            r,
+            table.as_ptr(),
+            table.len(),
+            scratch.as_mut_ptr(),
+            scratch.len(),
+            block,
+        )
+    };
+    let home = Track { cylinder: answer.home_cylinder, head: answer.home_head };
+    let there = Track { cylinder: answer.cylinder, head: answer.head };
+    answered(answer.refusal, Tracks { home, there, shift: answer.shift })
+}
+
 /// One of the two track images that a read is lent.
 #[derive(Clone, Copy, Debug, PartialEq, Eq, Hash)]
-pub enum Track {
+pub enum Image {
     Home,
     Spare,
 }
@@ -25,7 +92,7 @@ pub enum Track {
 /// Where a block's data lie: the image, and the offset of the `size` bytes in it.
 #[derive(Clone, Copy, Debug, PartialEq, Eq, Hash)]
 pub struct Spot {
-    pub track: Track,
+    pub image: Image,
     pub offset: u32,
 }
 
@@ -97,11 +164,11 @@ pub fn spot(
             spare.len(),
         )
     };
-    let track = match answer.image {
-        0 => Track::Home,
-        _ => Track::Spare,
+    let image = match answer.image {
+        0 => Image::Home,
+        _ => Image::Spare,
     };
-    answered(answer.refusal, Spot { track, offset: answer.offset })
+    answered(answer.refusal, Spot { image, offset: answer.offset })
 }
 
 /// The `size` bytes of data of a good image of `block`, where they lie in `home` or in `spare`. They
@@ -134,9 +201,9 @@ pub fn data<'a>(
     spare: &'a [u8],
 ) -> Result<&'a [u8], Refusal> {
     let spot = spot(size, shape, r, table, scratch, block, home, spare)?;
-    let image = match spot.track {
-        Track::Home => home,
-        Track::Spare => spare,
+    let image = match spot.image {
+        Image::Home => home,
+        Image::Spare => spare,
     };
     let start = spot.offset as usize;
     Ok(&image[start..start + size as usize])

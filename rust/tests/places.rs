@@ -1,8 +1,9 @@
 //! Where the parts lie that the data calls hand back, and what they belong to.
 
 use tautberry::image::{self, Head};
-use tautberry::{image_length, mode, reading, spares, track_length, Shape};
-use tautberry::{AT_HOME, AT_PRIMARY, DATA_SIZE, WIDE_SIZE};
+use tautberry::reading::{self, Track};
+use tautberry::{image_length, mode, spares, track_length, Shape};
+use tautberry::{AT_HOME, AT_PRIMARY, DATA_SIZE, ELSEWHERE, WIDE_SIZE};
 
 const SHAPE: Shape = Shape::ungrouped(2, 2, 5);
 const SPARES: u32 = 2;
@@ -66,6 +67,38 @@ fn one_image_serves_as_both() {
     for size in SIZES {
         let both = track(size, 7, AT_PRIMARY, 3);
         assert!(lies_at(data(size, 7, &both, &both), &both, size, 3));
+    }
+}
+
+/// The images of the tracks that are named hold the block: of the four tracks of the drive each other is noise.
+#[test]
+fn data_lie_in_the_tracks_that_are_named() {
+    let (mut table, mut scratch) = table_and_scratch();
+    for (block, place) in [(8, 5), (6, 3)] {
+        assert_eq!(spares::replace(SHAPE, SPARES, &mut table, &mut scratch, block), Ok(place));
+    }
+    // The block and its code, the track and the sector that it lies on, and whether in the second image.
+    let rows = [
+        (1, AT_HOME, (0, 0), 1, false),
+        (11, AT_HOME, (1, 1), 2, false),
+        (7, AT_PRIMARY, (1, 0), 3, true),
+        (8, ELSEWHERE, (1, 0), 4, true),
+        (6, ELSEWHERE, (0, 1), 4, true),
+    ];
+    for (size, (block, code, (cylinder, head), sector, in_spare)) in
+        SIZES.into_iter().flat_map(|size| rows.map(|row| (size, row)))
+    {
+        let tracks = reading::tracks(SHAPE, SPARES, &table, &mut scratch, block);
+        let tracks = tracks.expect("a block of the drive");
+        assert_eq!(tracks.there, Track { cylinder, head }, "block {block}");
+        let fetched = |from: Track| match from {
+            from if from == tracks.there => track(size, block, code, sector),
+            _ => noise(size),
+        };
+        let (home, spare) = (fetched(tracks.home), fetched(tracks.there));
+        let part = reading::data(size, SHAPE, SPARES, &table, &mut scratch, block, &home, &spare);
+        let whole = if in_spare { &spare } else { &home };
+        assert!(lies_at(part.expect("a good image"), whole, size, sector), "block {block}");
     }
 }
 

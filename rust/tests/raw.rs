@@ -251,8 +251,8 @@ fn refused_spares_answer_zeros() {
     ];
     for (by_block, by_sector, r, mut table, lent, asked) in cases {
         let (before, at, len) = (table.clone(), table.as_mut_ptr(), table.len());
-        // Scratch for each of the seven calls.
-        let mut scratch = [SCRATCH; 7];
+        // Scratch for each of the eight calls.
+        let mut scratch = [SCRATCH; 8];
         let to = scratch.each_mut().map(|numbers| numbers.as_mut_ptr());
         // SAFETY: the pointers and lengths are those of live slices, and no scratch overlaps the table.
         unsafe {
@@ -272,8 +272,10 @@ fn refused_spares_answer_zeros() {
             if by_block != 5 {
                 refused("tb_spare_census", by_block, count);
             }
+            let tracks = tb_read_tracks(SHAPE, r, at, len, to[7], lent, asked);
+            refused("tb_read_tracks", by_block, tracks);
         }
-        assert_eq!((table, scratch), (before, [left(by_block); 7]), "{by_block}");
+        assert_eq!((table, scratch), (before, [left(by_block); 8]), "{by_block}");
     }
     // Block 7 lies on a spare, block 0 at home.
     for block in [7, 0] {
@@ -322,6 +324,37 @@ fn a_replacement_answers_its_place() {
     replace(7, 3, &expected);
 }
 
+/// The home track comes before the track that the block lies on, the cylinder before the head, and the shift
+/// last.
+#[test]
+fn tracks_answer_home_then_there() {
+    // C 9, H 8, S 5, r 1: block 281 is at home on track 70 and lies on the spare of track 26, block 41 on track
+    // 10 and on the spare of track 60. Every other spare is unusable.
+    let shape = Shape { groups: 4, tracks: 2, offset: 3, ..Shape::ungrouped(9, 8, 5) };
+    let mut table = vec![0x4000_0000; 128];
+    (table[26], table[60]) = (0x3000_0000 + 281, 0x3000_0000 + 41);
+    table[72..].fill(0x8000_0000);
+    let before = table.clone();
+    let rows = [
+        (281, [0, 8, 6, 3, 2, -5]),
+        (41, [0, 1, 2, 7, 4, 6]),
+        (282, [0, 8, 6, 8, 6, 0]),
+        (107, [0, 3, 2, 3, 2, 0]),
+    ];
+    for (block, expected) in rows {
+        let mut scratch = [u32::MAX; 75];
+        let (at, len) = (table.as_ptr(), table.len());
+        // SAFETY: the pointers and lengths are those of live slices that do not overlap.
+        let answer = unsafe {
+            tb_read_tracks(shape, 1, at, len, scratch.as_mut_ptr(), scratch.len(), block)
+        };
+        assert_eq!(numbers(answer), expected.map(|number: i32| number as u32), "block {block}");
+        assert!(scratch[..72].iter().all(|number| *number == 0), "block {block}");
+        assert_eq!(scratch[72..], [u32::MAX; 3], "block {block}");
+    }
+    assert_eq!(table, before);
+}
+
 /// Every call that takes a shape, where the groups are at fault and nothing else is.
 #[test]
 fn bad_groups_answer_zeros() {
@@ -367,6 +400,7 @@ fn bad_groups_answer_zeros() {
                     "tb_spare_first",
                     numbers(tb_spare_first(shape, R, list, 0, room.as_mut_ptr(), room.len())),
                 ),
+                ("tb_read_tracks", numbers(tb_read_tracks(shape, R, at, len, to, lent, 9))),
                 (
                     "tb_read_judge",
                     numbers(tb_read_judge(
@@ -670,6 +704,7 @@ fn null_tables_and_lists() {
         refused("tb_spare_block_at", 11, on);
         refused("tb_spare_replace", 11, tb_spare_replace(SHAPE, R, null_mut(), 0, to, lent, 3));
         refused("tb_spare_census", 11, tb_spare_census(SHAPE, R, null(), 0, to, lent));
+        refused("tb_read_tracks", 11, tb_read_tracks(SHAPE, R, null(), 0, to, lent, 3));
         refused("tb_spare_first", 7, tb_spare_first(SHAPE, R, null(), 0, null_mut(), 0));
         let made = tb_spare_first(SHAPE, R, null(), 0, room.as_mut_ptr(), room.len());
         assert_eq!(numbers(made), [0, 128]);
@@ -697,6 +732,7 @@ fn null_scratch() {
             refused("tb_spare_block_at", number, on);
             refused("tb_spare_replace", number, tb_spare_replace(shape, R, at, len, no, 0, 3));
             refused("tb_spare_census", number, tb_spare_census(shape, R, at, len, no, 0));
+            refused("tb_read_tracks", number, tb_read_tracks(shape, R, at, len, no, 0, 3));
             let judged =
                 tb_read_judge(size, shape, R, at, len, no, 0, 3, image, bytes, image, bytes);
             refused("tb_read_judge", number, judged);

@@ -1,10 +1,11 @@
 // The day of a block on a small drive: the drive comes online and says the size of its sectors, the gauge log of a vacuum turntable is written, moved to a spare, read back and refused, moved to another spare, and at night a scan changes the map of a drive that skips.
-ghost use Prim.Native.Nat.{_+_, _≤_};
 use format::Formatted;
 use image::AT_HOME;
 use mode::Mode;
 use paper::Placed;
 use reading::Spot;
+use reading::Track;
+use reading::Tracks;
 use shape::Shape;
 use skip::Cursor;
 use skip::Job;
@@ -17,6 +18,20 @@ const APART: u32 = 1;
 
 // The block of the gauge log.
 const GAUGE: u32 = 6;
+
+// Cylinders and heads of the drive of the gauge log, and all its sectors.
+const CYLINDERS: u32 = 2;
+
+const HEADS: u32 = 2;
+
+const SECTORS: u32 = 20;
+
+// Bytes of a sector's image, of a track's, and of the whole drive.
+const SECTOR: usize = 594;
+
+const TRACK: usize = 2_970;
+
+const BYTES: usize = 11_880;
 
 // Spares at the end of each track.
 const SPARES: u32 = 2;
@@ -33,8 +48,8 @@ const UNITS: u32 = 20;
 // The drive of the gauge log.
 fn drive() -> Shape {
     Shape {
-        cylinders: 2,
-        heads: 2,
+        cylinders: CYLINDERS,
+        heads: HEADS,
         sectors: 5,
         groups: 2,
         tracks: 1,
@@ -118,29 +133,55 @@ fn tell_place(words: &[u8], table: &[u32]) {
     );
 }
 
-// The image of a track, with a reading of the gauge in the sector that starts at a byte, and with the code that tells where the gauge log is.
-fn track_with(size: u32, reading: &[u8; 13], start: usize, code: u32) -> [u8; 2_970]
-    requires { ⌜ start + 594 ≤ 2970 ⌝ }
-{
+// The sector that the gauge log lies on; where that is refused, one that the drive does not have.
+fn sector_now(table: &[u32]) -> u32 {
+    match spares::sector_of(drive(), SPARES, table, &mut [0u32; NUMBERS], GAUGE) {
+        Placed::At(sector) => sector,
+        Placed::Refused(_) => SECTORS,
+    }
+}
+
+// Writes the image of a sector to the drive, where the drive has such a sector.
+fn put_sector(bytes: &mut [u8; BYTES], sector: u32, image: &[u8; SECTOR]) {
+    if sector < SECTORS {
+        image::put_bytes(bytes, sector as usize * SECTOR, image);
+    }
+}
+
+// The image of a sector of the drive; where the drive has no such sector, zeros.
+fn sector_at(bytes: &[u8; BYTES], sector: u32) -> [u8; SECTOR] {
+    let mut image = [0u8; SECTOR];
+    if sector < SECTORS {
+        let whole = &bytes[..];
+        let start = sector as usize * SECTOR;
+        image::put_bytes(&mut image, 0, &whole[start..start + SECTOR]);
+    }
+    image
+}
+
+// The image of a track of the drive; where the drive has no such track, an empty part.
+fn track_at(bytes: &[u8; BYTES], track: Track) -> &[u8] {
+    let whole = &bytes[..];
+    if CYLINDERS <= track.cylinder {
+        return &whole[0..0];
+    }
+    if HEADS <= track.head {
+        return &whole[0..0];
+    }
+    let start = (track.cylinder * HEADS + track.head) as usize * TRACK;
+    &whole[start..start + TRACK]
+}
+
+// Writes a reading of the gauge to the sector that the gauge log lies on, with the code that tells where that is.
+fn write_gauge(size: u32, table: &[u32], bytes: &mut [u8; BYTES], reading: &[u8; 13], code: u32) {
     let mut data = [0u8; 576];
     image::put_bytes(&mut data, 0, reading);
-    let mut image = [0u8; 594];
+    let mut image = [0u8; SECTOR];
     image::write(size, GAUGE, code, &data, false, &mut image);
-    let mut track = [0u8; 2_970];
-    image::put_bytes(&mut track, start, &image);
+    put_sector(bytes, sector_now(table), &image);
     telling::text(b"The gauge is written: ");
     telling::line(reading);
     telling::answers::headed(b"The sector's header says: ", image::header(size, &image));
-    track
-}
-
-// The image of the spare's track, with the sector from home in it as it is.
-fn track_with_old(home: &[u8; 2_970]) -> [u8; 2_970] {
-    let whole = &home[..];
-    let mut track = [0u8; 2_970];
-    image::put_bytes(&mut track, 2_376, &whole[0..594]);
-    telling::line(b"The old sector is copied to the spare as it is.");
-    track
 }
 
 // Writes where the bytes of the gauge begin and what they say.
@@ -150,8 +191,8 @@ fn tell_part(words: &[u8], offset: u32, part: &[u8]) {
     telling::line(comparing::first_bytes(part, READING));
 }
 
-// Reads the gauge.
-fn tell_read<'a>(size: u32, table: &[u32], home: &'a [u8], second: &'a [u8]) {
+// Reads the gauge from the images of its two tracks.
+fn tell_data<'a>(size: u32, table: &[u32], home: &'a [u8], second: &'a [u8]) {
     let part = reading::data(
         size,
         drive(),
@@ -178,6 +219,21 @@ fn tell_read<'a>(size: u32, table: &[u32], home: &'a [u8], second: &'a [u8]) {
             refused(b"The read is refused, ", fault);
             telling::count_line(b"Bytes handed back: ", part.len());
         }
+    }
+}
+
+// Reads the gauge: asks for its two tracks, fetches them from the drive, and reads from their images.
+fn tell_read(size: u32, table: &[u32], bytes: &[u8; BYTES]) {
+    let answer = reading::tracks(drive(), SPARES, table, &mut [0u32; NUMBERS], GAUGE);
+    telling::answers::fetched(b"To fetch: ", answer);
+    match answer {
+        Tracks::Fetch(pair) => tell_data(
+            size,
+            table,
+            track_at(bytes, pair.home),
+            track_at(bytes, pair.there),
+        ),
+        Tracks::Refused(_) => {}
     }
 }
 
@@ -242,14 +298,13 @@ fn tell_drive(size: u32, shape: Shape) {
 }
 
 // The gauge log at home.
-fn morning(size: u32, table: &[u32]) -> [u8; 2_970] {
+fn morning(size: u32, table: &[u32], bytes: &mut [u8; BYTES]) {
     telling::line(b"Morning: the pump runs");
     telling::number(b"The gauge log is block ", GAUGE);
     tell_place(b". It", table);
-    let home = track_with(size, b"vacuum 82 kPa", 0, AT_HOME);
-    tell_read(size, table, &home, &home);
+    write_gauge(size, table, bytes, b"vacuum 82 kPa", AT_HOME);
+    tell_read(size, table, bytes);
     telling::end();
-    home
 }
 
 // The track of the gauge log goes bad, and its blocks are replaced. The code of the gauge log there is handed back.
@@ -266,22 +321,43 @@ fn noon(table: &mut [u32]) -> u32 {
     code
 }
 
-// The gauge log on its spare, while its home still holds the morning's reading; then the spare goes bad, and the gauge log moves again.
-fn afternoon(size: u32, table: &mut [u32], home: &[u8; 2_970], code: u32) {
-    telling::line(b"Afternoon: the pump slows down");
-    tell_read(size, table, home, &track_with_old(home));
-    let mut second = track_with(size, b"vacuum 79 kPa", 2_376, code);
-    tell_read(size, table, home, &second);
-    let old = image::data(size, comparing::first_bytes(home, 594), GAUGE, AT_HOME);
+// The old sector of the gauge log is copied to its spare, which is no way to write it there.
+fn copy_old(size: u32, table: &[u32], bytes: &mut [u8; BYTES], home: u32) {
+    let old = sector_at(bytes, home);
+    put_sector(bytes, sector_now(table), &old);
+    telling::line(b"The old sector is copied to the spare as it is.");
+    tell_read(size, table, bytes);
+}
+
+// Writes what the old sector of the gauge log says.
+fn tell_old(size: u32, bytes: &[u8; BYTES], home: u32) {
+    let old = sector_at(bytes, home);
     telling::text(b"Its old sector is still good, and still says: ");
-    telling::line(comparing::first_bytes(old, READING));
-    second[2_392] = second[2_392] ^ 1;
+    telling::line(comparing::first_bytes(image::data(size, &old, GAUGE, AT_HOME), READING));
+}
+
+// One bit of the data turns over on the sector that the gauge log lies on.
+fn turn_bit(table: &[u32], bytes: &mut [u8; BYTES]) {
+    let sector = sector_now(table);
+    let mut image = sector_at(bytes, sector);
+    image[16] = image[16] ^ 1;
+    put_sector(bytes, sector, &image);
     telling::line(b"The spare goes bad: one bit turns over.");
-    tell_read(size, table, home, &second);
+}
+
+// The gauge log on its spare, while its home still holds the morning's reading; then the spare goes bad, and the gauge log moves again.
+fn afternoon(size: u32, table: &mut [u32], bytes: &mut [u8; BYTES], home: u32, code: u32) {
+    telling::line(b"Afternoon: the pump slows down");
+    copy_old(size, table, bytes, home);
+    write_gauge(size, table, bytes, b"vacuum 79 kPa", code);
+    tell_read(size, table, bytes);
+    tell_old(size, bytes, home);
+    turn_bit(table, bytes);
+    tell_read(size, table, bytes);
     let again = tell_replacement(GAUGE, b", the gauge log,", table);
     tell_place(b"The gauge log now", table);
-    let third = track_with(size, b"vacuum 78 kPa", 1_782, again);
-    tell_read(size, table, home, &third);
+    write_gauge(size, table, bytes, b"vacuum 78 kPa", again);
+    tell_read(size, table, bytes);
     telling::end();
 }
 
@@ -340,9 +416,11 @@ fn day(size: u32) {
     tell_drive(size, drive());
     tell_spares(&table);
     telling::end();
-    let home = morning(size, &table);
+    let mut bytes = [0u8; BYTES];
+    let home = sector_now(&table);
+    morning(size, &table, &mut bytes);
     let code = noon(&mut table);
-    afternoon(size, &mut table, &home, code);
+    afternoon(size, &mut table, &mut bytes, home, code);
     telling::line(b"Evening: the spares are counted");
     tell_spares(&table);
     telling::end();

@@ -67,9 +67,14 @@ use Rattle.image.specs.declared.Verdict.the-variants.{Good, Refused as NotGood}
 use Rattle.mode.specs.declared.Mode.{Mode}
 use Rattle.mode.specs.declared.Mode.the-variants.{Of as ModeOf, Refused as NoMode}
 use Rattle.mode.specs.Modes.{xbnImage, firstWord, sizeIn, modeOf}
-use Rattle.reading.specs.Tracks.{bytesIn, imageAt, imageFor}
+use Rattle.reading.specs.Tracks.{bytesIn, imageAt, imageFor, codeFor}
 use Rattle.reading.specs.Faults.{lentFault}
+use Rattle.reading.specs.Promises.{pairOf}
+use Rattle.reading.specs.declared.answers.Tracks.{Tracks}
+use Rattle.reading.specs.declared.answers.Tracks.the-variants.{Fetch, Refused as NotFetched}
 use Rattle.demands.specs.Inputs.{few, eight}
+use Rattle.demands.specs.Ledgers.{Contents}
+use Rattle.demands.proofs.Putting.{put, imageMade}
 
 -- demand 3's law over any map from blocks to units: each new block lies where you arrive by skipping the named blocks in the old numbering and following the old map
 abbrev pub Composes : ((ℕ → Bool) → ℕ → ℕ → ℕ) → Type 0
@@ -285,11 +290,14 @@ truncatedShift shape r t scratch b =
     answer (spareBlockFault shape r t scratch b) NotShifted
     (By (pick (isReplaced t b) (pos (spareCylinder (driveOf shape r) (placeOf t b) - homeCylinder (driveOf shape r) b)) (pos 0)))
 
--- spares::shift: a difference of 32 bits without a sign
+-- a difference of 32 bits without a sign
+abbrev pub unsignedShift : Shape → ℕ → List ℕ → ℕ → ℕ
+unsignedShift shape r t b =
+    pick (isReplaced t b) ((2 ^ 32 + spareCylinder (driveOf shape r) (placeOf t b) - homeCylinder (driveOf shape r) b) % 2 ^ 32) 0
+
+-- spares::shift: answers it
 abbrev pub wrappedShift : Shape → ℕ → List ℕ → List ℕ → ℕ → Shifted
-wrappedShift shape r t scratch b =
-    answer (spareBlockFault shape r t scratch b) NotShifted
-    (By (pick (isReplaced t b) (pos ((2 ^ 32 + spareCylinder (driveOf shape r) (placeOf t b) - homeCylinder (driveOf shape r) b) % 2 ^ 32)) (pos 0)))
+wrappedShift shape r t scratch b = answer (spareBlockFault shape r t scratch b) NotShifted (By (pos (unsignedShift shape r t b)))
 
 -- Boards for scratch: what each leaves of it.
 
@@ -438,6 +446,25 @@ readsHome size shape r t scratch b home spare =
     orElse contentsFault size (homeImage size shape r b (home .now)) b))
     (λ fault. partAt home 0 [])
     (partAt home (bytesIn size (b % driveOf shape r .l) + headerSize) (dataOf size (homeImage size shape r b (home .now))))
+
+-- Boards for a drive in time.
+
+-- the cylinder that the arm comes to with such a shift: that of the home and the shift, and no further than the last cylinder
+abbrev pub armAt : Shape → ℕ → List ℕ → ℕ → ℕ
+armAt shape r t b =
+    let cylinder = homeCylinder (driveOf shape r) b + unsignedShift shape r t b in
+    pick (ltb cylinder (shape .cylinders)) cylinder (shape .cylinders - 1)
+
+-- reading::tracks: names the track there; this is the board of the incident
+abbrev pub losesSign : Shape → ℕ → List ℕ → List ℕ → ℕ → Tracks
+losesSign shape r t scratch b =
+    let pair = pairOf shape r t b in
+    answer (spareBlockFault shape r t scratch b) NotFetched
+    (Fetch (record { home = pair .home; there = record { cylinder = armAt shape r t b; head = pair .there .head }; shift = pos (unsignedShift shape r t b) }))
+
+-- of a block that was replaced, puts the image on its home
+abbrev pub putsHome : ℕ → Shape → ℕ → List ℕ → ℕ → List ℕ → Contents → Contents
+putsHome size shape r t b bytes = put (homeSector (driveOf shape r) b) (imageMade size b (codeFor t b) bytes false)
 
 -- Boards for the mode sector.
 

@@ -17,7 +17,6 @@ use Rattle.paper.proofs.Cases.{byBool, byFault}
 use Rattle.paper.proofs.Chain.{orElse-first, orElse-next}
 use Rattle.paper.proofs.Kept.{accepts, gives-number}
 use Rattle.paper.proofs.Rows.{data-size-passes}
-use Rattle.words.specs.Coded.{codeUnit}
 use Rattle.words.specs.Words.{Bytes}
 use Rattle.shape.specs.declared.Shape.{Shape}
 use Rattle.shape.specs.declared.Address.{Address}
@@ -47,6 +46,7 @@ use Rattle.reading.specs.declared.answers.Tracks.{Tracks}
 use Rattle.reading.specs.declared.answers.Tracks.the-variants.{Fetch, Refused as NotFetched}
 use Rattle.reading.proofs.Exact.{Lent, block-few, lent-passes}
 use Rattle.reading.proofs.Parts.{data-refused, data-accepted}
+use Rattle.reading.proofs.Spots.{read-shows}
 use Rattle.reading.proofs.Seats.{seated, sector-lies, header-says}
 use Rattle.reading.proofs.Sized.{data-sized}
 use Rattle.reading.proofs.Written.{good-read, forced-read, good-part, forced-part}
@@ -121,7 +121,7 @@ module _ (size : ℕ) (shape : Shape) (r : ℕ) (t : List ℕ) (held : Contents)
   pub fetched-below : b < drive .blocks
   fetched-below = named-below shape r t (fetched .asked) b (fetched .pair) (fetched .named)
 
-  fetched-pair : fetched .pair ≡ pairOf shape r t b
+  pub fetched-pair : fetched .pair ≡ pairOf shape r t b
   fetched-pair = named-pair shape r t (fetched .asked) b (fetched .pair) (fetched .named)
 
   -- they are whole
@@ -206,34 +206,39 @@ module _
               every-part scratch (λ part lent. forced-part size shape r t scratch b bytes long are-bytes home spare part lent (lends scratch enough) seat (image-seen ∙ stands));
         }
 
--- the other way round: where a read passes, the image on the block's sector is good, with the block and the code that the table says
-module _ (size : ℕ) (shape : Shape) (r : ℕ) (t : List ℕ) (held : Contents) (whole : Whole size held) (b : ℕ) (home spare : List ℕ) (fetched : Fetched shape r t held b home spare) (scratch : List ℕ) where
-  lying-passes : blockReadFault size shape r t scratch b home spare ≡ 0 → contentsFault size (held (liesOn (driveOf shape r) t b)) (headerFor t b) ≡ 0
-  unfolding blockReadFault
-  lying-passes fits = rw (fetched-image size shape r t held b home spare whole fetched) at (orElse-next (lentFault size shape r t scratch b home spare) _ fits)
+-- the other way round, whatever tracks are lent: where a read passes, the image that it looks into is good, with the block and the code that the table says
+module _ (size : ℕ) (shape : Shape) (r : ℕ) (t scratch : List ℕ) (b : ℕ) (image : List ℕ) (long : length image ≡ size + imageExtra) where
+  module _ (home spare : List ℕ) (seen : imageFor size (driveOf shape r) t b home spare ≡ image) where
+    lying-passes : blockReadFault size shape r t scratch b home spare ≡ 0 → contentsFault size image (headerFor t b) ≡ 0
+    unfolding blockReadFault
+    lying-passes fits = rw seen at (orElse-next (lentFault size shape r t scratch b home spare) _ fits)
 
-  pub passing-good : (dataSizeFault size orElse blockReadFault size shape r t scratch b home spare) ≡ 0 → JudgeImage size (held (liesOn (driveOf shape r) t b)) b (codeFor t b) Good
-  passing-good passes =
-      let few : b < codeUnit = block-few (fetched-sound size shape r t held b home spare whole fetched) (fetched-below size shape r t held b home spare whole fetched) in
-      let none : imageFault size (held (liesOn (driveOf shape r) t b)) b (codeFor t b) ≡ 0 =
-      image-pair (held (liesOn (driveOf shape r) t b)) size b (codeFor t b) (whole (liesOn (driveOf shape r) t b))
-      ∙ (pair-says (held (liesOn (driveOf shape r) t b)) size b (codeFor t b) (headerFor t b) (header-says t b few) ∙ lying-passes (orElse-next (dataSizeFault size) _ passes)) in
-      accepts (λ k. refl) (rw (orElse-first (dataSizeFault size) _ passes) none) refl
+    pub passing-good : (dataSizeFault size orElse blockReadFault size shape r t scratch b home spare) ≡ 0 → JudgeImage size image b (codeFor t b) Good
+    passing-good passes =
+        let fits : blockReadFault size shape r t scratch b home spare ≡ 0 = orElse-next (dataSizeFault size) _ passes in
+        let lent = read-shows size shape r t scratch b home spare fits in
+        let none : imageFault size image b (codeFor t b) ≡ 0 =
+        image-pair image size b (codeFor t b) long
+        ∙ (pair-says image size b (codeFor t b) (headerFor t b) (header-says t b (block-few (lent .sound) (lent .below))) ∙ lying-passes fits) in
+        accepts (λ k. refl) (rw (orElse-first (dataSizeFault size) _ passes) none) refl
 
--- so a part that is not empty is the data of that image
-module _ (size : ℕ) (shape : Shape) (r : ℕ) (t : List ℕ) (held : Contents) (whole : Whole size held) (b : ℕ) (home spare : RefT (List ℕ)) (fetched : Fetched shape r t held b (home .now) (spare .now)) where
-  pub part-good :
-      (scratch : List ℕ) (part : RefT (List ℕ)) → Data size shape r t scratch b home spare part → (part .now ≡ [] → ⊥) →
-      GoodImage size b (codeFor t b) (held (liesOn (driveOf shape r) t b)) (part .now)
-  unfolding dataOf
-  part-good scratch part lent some =
-      byFault (dataSizeFault size orElse blockReadFault size shape r t scratch b (home .now) (spare .now))
-      (λ passes.
-      record {
-        good = passing-good size shape r t held whole b (home .now) (spare .now) fetched scratch passes;
-        data-is = data-accepted size shape r t scratch b home spare part lent passes .holds ∙ ap (dataOf size) (fetched-image size shape r t held b (home .now) (spare .now) whole fetched);
-      })
-      (λ refused. absurd (some (data-refused size shape r t scratch b home spare part lent refused .holds)))
+  -- so a part that is not empty is the data of that image
+  module _ (home spare part : RefT (List ℕ)) (seen : imageFor size (driveOf shape r) t b (home .now) (spare .now) ≡ image) (lent : Data size shape r t scratch b home spare part) where
+    pub part-good : (part .now ≡ [] → ⊥) → GoodImage size b (codeFor t b) image (part .now)
+    unfolding dataOf
+    part-good some =
+        byFault (dataSizeFault size orElse blockReadFault size shape r t scratch b (home .now) (spare .now))
+        (λ passes.
+        record {
+          good = passing-good (home .now) (spare .now) seen passes;
+          data-is = data-accepted size shape r t scratch b home spare part lent passes .holds ∙ ap (dataOf size) seen;
+        })
+        (λ refused. absurd (some (data-refused size shape r t scratch b home spare part lent refused .holds)))
+
+    -- and where no good image of the block is there, it is empty
+    pub part-none : (JudgeImage size image b (codeFor t b) Good → ⊥) → part .now ≡ []
+    part-none none =
+        data-refused size shape r t scratch b home spare part lent (λ passes. none (passing-good (home .now) (spare .now) seen passes)) .holds
 
 -- the tracks that are named, and the other calls
 module _ (shape : Shape) (r : ℕ) (t scratch : List ℕ) (b : ℕ) (pair : Pair) (named : TracksOf shape r t scratch b (Fetch pair)) where

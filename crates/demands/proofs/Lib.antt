@@ -27,4 +27,5 @@ pub mod Determined
 pub mod Boards
 pub mod WrongBoards
 pub mod WrongSizes
+pub mod WrongDrives
 pub mod Readings

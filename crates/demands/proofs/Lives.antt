@@ -2,15 +2,15 @@
 -- Assumes nothing.
 use Prim.Native.Nat.{ℕ, _≤_}
 use mathlib.Core.Path.{_≡_, refl, sym, _∙_}
-use mathlib.Core.Bool.{Bool, true, false, not}
+use mathlib.Core.Bool.{true≢false, Bool, true, false, not}
 use mathlib.Core.Logic.{inl, inr}
 use mathlib.Core.List.{List, [], _∷_}
 use native.Mathlib.Omega.{arith}
 use lib.ListN.{length, take}
 use denote.Ref.{RefT}
 use borrow.Author.Tests.{lt-leb}
-use Rattle.paper.specs.Checks.{_orElse_}
-use Rattle.paper.specs.Limits.{Size, dataSizeFault}
+use Rattle.paper.specs.Checks.{_orElse_, answer}
+use Rattle.paper.specs.Limits.{headerSize, Size, dataSizeFault}
 use Rattle.paper.specs.Refusals.{otherBlock, forcedError}
 use Rattle.paper.specs.declared.Placed.the-variants.{At}
 use Rattle.paper.proofs.Cases.{byLt, byEq, byFault}
@@ -30,10 +30,10 @@ use Rattle.format.specs.Nights.{ScanNight}
 use Rattle.format.specs.Promises.{Formats}
 use Rattle.format.specs.declared.Formatted.the-variants.{Done}
 use Rattle.image.specs.Header.{atHome}
-use Rattle.image.specs.Image.{imageFault}
+use Rattle.image.specs.Image.{dataOf, imageFault}
 use Rattle.image.specs.Promises.{Judge, Data}
 use Rattle.image.specs.declared.Verdict.the-variants.{Good, Refused as NotGood}
-use Rattle.image.proofs.Lent.{data-refused}
+use Rattle.image.proofs.Lent.{partAt, part-some, data-refused}
 use Rattle.demands.specs.Demand1.{WrittenImage}
 use Rattle.demands.specs.Demand3.{Night, Way}
 use Rattle.demands.specs.Ledgers.{Contents, Puts, Ledger, LastWritten, latest, earlier}
@@ -47,6 +47,11 @@ use Rattle.demands.proofs.ThereAndBack.{each-again}
 goods-most : (bad : ℕ → Bool) (s : ℕ) → goodsBefore bad s ≤ s
 unfolding goodsBefore
 goods-most bad s = count-le (λ t. not (bad t)) s
+
+-- a block lies on sector s
+record Mapped (n : ℕ) (a : List ℕ) (s : ℕ) : Type 0 where
+  block : ℕ
+  lies-on : SectorOf n a block (At s)
 
 -- block b is answered, on no later sector than s
 record Before (n : ℕ) (a : List ℕ) (b s : ℕ) : Type 0 where
@@ -86,6 +91,15 @@ night-before {n} {p} {g} {space} {option} {d} {g'} {new} {next} night b s answer
     answered-before n (listOf space p g) b s (way .old)
     (omega (arith, goods-most (isIn d) (way .old), answered-lies (blocks n (listOf space p g)) d b (way .old) (way .skips) .before))
     (way .follows)
+
+-- and a sector that a new block lies on had an old block
+night-mapped :
+    {n : ℕ} {p g : List ℕ} {space option : ℕ} {d g' new : List ℕ} {next : ℕ} → Night n p g space option d g' new next →
+    (s : ℕ) → Mapped n (listOf next p g') s → Mapped n (listOf space p g) s
+night-mapped {n} {p} {g} {space} {option} {d} {g'} {new} {next} night s mapped =
+    let does = demand3 .one-night n p g space option d g' new next night in
+    let way : Way n (listOf space p g) d (mapped .block) s = does .came (mapped .block) s (rw (does .in-use) at (mapped .lies-on)) in
+    record { block = way .old; lies-on = way .follows }
 
 -- a scan night of a life is a night of demand 3
 its-night :
@@ -170,17 +184,18 @@ module _ {size n : ℕ} {p g₀ : List ℕ} {space₀ : ℕ} {held₀ : Contents
       record { sector = first .sector; lies-on = first .lies-on; no-later = omega arith }
 
   -- of a drive that began without good images
-  module _ (none : NoneGood size held₀) where
-    -- every good image is kept so through the life
+  module _ (none : NoneGood size n (listOf space₀ p g₀) held₀) where
+    -- every good image on a sector that a block lies on is kept so through the life
     life-keeps :
         {ledger : Ledger} {g : List ℕ} {space : ℕ} {held : Contents} → Life ScanNight size n p g₀ space₀ held₀ ledger g space held →
-        (s b now : ℕ) → Judge size (held s) b atHome Good → SectorOf n (listOf space p g) b (At now) → Kept size ledger (held s) b s now
-    life-keeps begun s b now good answered = absurd (none s b good)
-    life-keeps (wrote life c bytes forced after writes) s b now good answered =
-        write-keeps writes s b now good answered (λ before. life-keeps life s b now before answered)
-    life-keeps (formatted life option pair d grown list grownLong listLong next grownAfter listAfter accepted) s b now good answered =
-        let that = night-before (its-night pair d grown list grownLong listLong next grownAfter listAfter accepted) b now answered in
-        let before = life-keeps life s b (that .sector) good (that .lies-on) in
+        (s b now : ℕ) → Mapped n (listOf space p g) s → Judge size (held s) b atHome Good → SectorOf n (listOf space p g) b (At now) → Kept size ledger (held s) b s now
+    life-keeps begun s b now mapped good answered = absurd (none (mapped .block) s (mapped .lies-on) b good)
+    life-keeps (wrote life c bytes forced after writes) s b now mapped good answered =
+        write-keeps writes s b now good answered (λ before. life-keeps life s b now mapped before answered)
+    life-keeps (formatted life option pair d grown list grownLong listLong next grownAfter listAfter accepted) s b now mapped good answered =
+        let night = its-night pair d grown list grownLong listLong next grownAfter listAfter accepted in
+        let that = night-before night b now answered in
+        let before = life-keeps life s b (that .sector) (night-mapped night s mapped) good (that .lies-on) in
         record { no-later = omega arith; is-last = λ same. before .is-last (omega arith) }
 
     -- what is handed back of the sector that a block lies on
@@ -192,7 +207,7 @@ module _ {size n : ℕ} {p g₀ : List ℕ} {space₀ : ℕ} {held₀ : Contents
         byFault (dataSizeFault size orElse imageFault size (image .now) b atHome)
         (λ passes.
         let good : Judge size (image .now) b atHome Good = accepts (λ k. refl) passes refl in
-        last-handed size b image part is lent (life-keeps life s b s (rw is at good) answered .is-last refl))
+        last-handed size b image part is lent (life-keeps life s b s (record { block = b; lies-on = answered }) (rw is at good) answered .is-last refl))
         (λ refused. absurd (some (data-refused size image b atHome part lent refused .holds)))
 
 -- N 10, P empty: where block 5 lies while G is empty, and once sector 5 is in G
@@ -248,7 +263,14 @@ module _ (size : ℕ) (sized : Size size) where
             4 (inr (omega arith)) [] [] [] 0 0 1 [] [] clears;
         last = latest;
         lies-on = older-sector;
-        hands-older = λ image part is lent. each-again .written-good-gives size 5 atHome older image (rw is (made-5 older older-long are-older)) part lent .holds;
+        hands-older = λ image is.
+            let fault = dataSizeFault size orElse imageFault size (image .now) 5 atHome in
+            let bytes = dataOf size (image .now) in
+            record {
+              some = answer fault (λ number. partAt image 0 []) (partAt image headerSize bytes);
+              allowed = part-some image 0 [] image headerSize bytes fault;
+              every = λ part lent. each-again .written-good-gives size 5 atHome older image (rw is (made-5 older older-long are-older)) part lent .holds;
+            };
       }
 
 pub lives : Lives
@@ -258,5 +280,9 @@ lives =
           let start = life-before life b now answered in
           omega (arith, start .no-later, one-sector n (listOf space₀ p g₀) b first (start .sector) before (start .lies-on));
       last-write = λ size n p g₀ space₀ held₀ ledger g space held none life. last-write none life;
+      forced-begins = λ size n a held forced c s placed b good.
+          let on = forced c s placed in
+          let block : b ≡ c = good-block size b c (on .bytes) (held s) true (on .written) good in
+          true≢false (good-mark size c (on .bytes) (held s) true (on .written) (rw block at good));
       shrunk-falls-back = falls-back;
     }

@@ -1,7 +1,7 @@
 -- The board puts an image on a sector: the one that `image::write` makes in a room of zeros.
 -- Assumes nothing.
 use Prim.Native.Nat.{ℕ, _+_, _<_}
-use mathlib.Core.Path.{_≡_, refl}
+use mathlib.Core.Path.{_≡_, refl, _∙_, ap}
 use mathlib.Core.Bool.{Bool}
 use mathlib.Core.List.{List}
 use native.Mathlib.Omega.{arith}
@@ -10,16 +10,19 @@ use lib.ListN.{length, take, replicate, length-replicate}
 use borrow.Author.Tests.{eq-eqb, ne-eqb}
 use Rattle.paper.specs.Checks.{pick}
 use Rattle.paper.specs.Limits.{imageExtra, Size}
+use Rattle.paper.proofs.Cases.{byBool}
 use Rattle.paper.proofs.Kept.{fills-accepts}
 use Rattle.paper.proofs.Rows.{data-size-passes}
-use Rattle.words.specs.Coded.{codeUnit}
+use Rattle.words.specs.Coded.{codeUnit, wordOf}
 use Rattle.words.specs.Words.{Bytes}
 use Rattle.image.specs.Header.{Known}
 use Rattle.image.specs.Image.{writeFault}
 use Rattle.image.specs.Promises.{imaged}
 use Rattle.image.proofs.Exact.{write-passes}
+use Rattle.image.proofs.Images.{length-image}
 use Rattle.demands.specs.Demand1.{WrittenImage}
-use Rattle.demands.specs.Ledgers.{Contents, Puts}
+use Rattle.demands.specs.Ledgers.{Contents, Whole, Puts}
+use Rattle.demands.proofs.ThereAndBack.{image-is}
 
 -- an image on a sector, and every other sector as it was
 abbrev pub put : ℕ → List ℕ → Contents → Contents
@@ -46,3 +49,10 @@ module _ (size : ℕ) (sized : Size size) (block code : ℕ) (few : block < code
 
   pub puts : (s : ℕ) (held : Contents) → Puts size block code bytes forced s held (put s (imageMade size block code bytes forced) held)
   puts s held = record { written = rw (eq-eqb s s refl) made; others-stand = λ other apart. rw (ne-eqb other s apart) }
+
+  -- it is whole, and so are all images with it
+  made-long : length (imageMade size block code bytes forced) ≡ size + imageExtra
+  made-long = ap length (image-is made) ∙ (length-image (wordOf code block) bytes forced ∙ ap (λ (n : ℕ). n + imageExtra) long)
+
+  pub puts-whole : (s : ℕ) (held : Contents) → Whole size held → Whole size (put s (imageMade size block code bytes forced) held)
+  puts-whole s held whole other = byBool (eqb other s) (λ e. rw e made-long) (λ e. rw e (whole other))

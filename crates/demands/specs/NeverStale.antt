@@ -45,7 +45,7 @@ pub record WritesBlock (size : ℕ) (shape : Shape) (r : ℕ) (t : List ℕ) (b 
   pub lies-on : SectorOf shape r t asked b (At sector)
   pub puts : Puts size b (codeFor t b) bytes forced sector before after
 
--- a run of steps on a drive of this size, shape and r, from any table and any contents on: its ledger, its table and what its sectors hold. A step changes what the promise of its call says and what the board puts on a sector
+-- a run of steps on a drive of this size, shape and r, from any table and any contents on: its ledger, its table and what its sectors hold. A step changes what the promise of its call says and what the board puts on a sector. Every other call, accepted or refused, is lent neither the table nor a sector to write, and is no step; a first table begins another run
 pub data Run (size : ℕ) (shape : Shape) (r : ℕ) (t₀ : List ℕ) (held₀ : Contents) : Ledger → List ℕ → Contents → Type 0 where
   begun : Run size shape r t₀ held₀ [] t₀ held₀
   -- a write of a block
@@ -69,7 +69,7 @@ pub data Run (size : ℕ) (shape : Shape) (r : ℕ) (t₀ : List ℕ) (held₀ :
       {ledger : Ledger} {t : List ℕ} {held : Contents} → Run size shape r t₀ held₀ ledger t held →
       (asked-size b code : ℕ) (bytes : List ℕ) (forced : Bool) (room : List ℕ) (fault : ℕ) (after : List ℕ) →
       Write asked-size b code bytes forced room (NotWritten fault) after → Run size shape r t₀ held₀ ledger t held
-  -- a refused replacement, with whatever shape, r, scratch and block: the table is what the call leaves of it. No other call is lent a table to write
+  -- a refused replacement, with whatever shape, r, scratch and block: the table is what the call leaves of it
   not-replaced :
       {ledger : Ledger} {t : List ℕ} {held : Contents} → Run size shape r t₀ held₀ ledger t held →
       (asked : Shape) (asked-r : ℕ) (scratch : List ℕ) (b fault : ℕ) (after : List ℕ) → Replacement asked asked-r t scratch b (NotReplaced fault) after →
@@ -116,12 +116,12 @@ pub record Answers (size : ℕ) (shape : Shape) (r : ℕ) (t : List ℕ) (b : �
       (scratch : List ℕ) → Enough shape r scratch → (asked : List ℕ) (s : ℕ) → SectorOf shape r t asked b (At s) →
       (track : RefT (List ℕ)) → LiesIn t b home spare track → AllowsOnly (Data size shape r t scratch b home spare) (Lends track (dataAt size shape s) bytes)
 
--- an image is good, its header says this block and this code, and these bytes are its data
+-- an image is good with this block and this code in its header, and these bytes are its data
 pub record GoodImage (size block code : ℕ) (image bytes : List ℕ) : Type 0 where
   pub good : JudgeImage size image block code Good
   pub data-is : bytes ≡ take size (drop headerSize image)
 
--- two runs on the paper's small drive. In the first, block 6 is replaced and written on spare 4, its primary. Then the drive begins anew: a first table is written over the old one. In the second run block 6 is written at home. It is replaced again, and its spare is not written: a read hands back the older data
+-- two runs on the paper's small drive. In the first, block 6 is replaced and written on spare 4, its primary. Then the drive begins anew: a first table is written over the old one. In the second run block 6 is written at home. It is replaced again, and its spare is not written: a read hands back the older data, whatever the newer is
 pub record UnwrittenSpare (size : ℕ) (held₀ : Contents) (older newer : List ℕ) : Type 0 where
   pub first-ledger : Ledger
   pub first-table : List ℕ

@@ -15,6 +15,7 @@ use paper::Named;
 use paper::Placed;
 use paper::Written;
 use reading::Spot;
+use reading::Tracks;
 use shape::Located;
 use skip::Cursor;
 use skip::Job;
@@ -254,6 +255,22 @@ pub fn spotted(words: &[u8], answer: Spot) {
         Spot::InHome(offset) => number(b"home image, byte ", offset),
         Spot::InSpare(offset) => number(b"second image, byte ", offset),
         Spot::Refused(fault) => refused(fault),
+    }
+    end();
+}
+
+// Writes the cylinder and the head of a block's home track, those of the track that it lies on, and how many cylinders it is moved, with the sign. Only other crates call this.
+pub fn fetched(words: &[u8], answer: Tracks) {
+    text(words);
+    match answer {
+        Tracks::Fetch(pair) => {
+            number(b"cylinder ", pair.home.cylinder);
+            number(b", head ", pair.home.head);
+            number(b" and cylinder ", pair.there.cylinder);
+            number(b", head ", pair.there.head);
+            signed(b", shift ", pair.shift);
+        }
+        Tracks::Refused(fault) => refused(fault),
     }
     end();
 }

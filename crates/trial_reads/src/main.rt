@@ -1,4 +1,4 @@
-// Reads at each of the two sizes: of blocks with each code in the header; of a replaced block through two track images of which the home's is out of date, and each of them damaged in turn; and with wrong groups. Then reads from the images of one size at the other, and at sizes that no sector has.
+// Reads at each of the two sizes: of blocks with each code in the header; of a replaced block through two track images of which the home's is out of date, and each of them damaged in turn; and with wrong groups. Then reads from the images of one size at the other, and at sizes that no sector has. Last the tracks that are to be fetched for a read.
 ghost use Prim.Native.Nat.{_≤_};
 use image::AT_HOME;
 use shape::Shape;
@@ -471,11 +471,59 @@ fn try_sizes<'a>(table: &[u32], home: &'a [u8], spare: &'a [u8]) {
     try_wrong(4_294_967_295);
 }
 
+// Asks for the two tracks of a block of a drive.
+fn try_tracks(shape: Shape, r: u32, table: &[u32], scratch: &mut [u32], block: u32) {
+    telling::number(b"  r ", r);
+    telling::count(b", scratch of ", scratch.len());
+    telling::number(b", block ", block);
+    telling::answers::fetched(b": ", reading::tracks(shape, r, table, scratch, block));
+}
+
+// Asks for those of a block of the paper's drive.
+fn try_pair(table: &[u32], block: u32) {
+    try_tracks(drive(), 2, table, &mut [1u32; 8], block);
+}
+
+// Two blocks at home, the second the last of all; one on a spare of another cylinder, and one on a spare of its own track; and one that the drive does not have.
+fn try_pairs(table: &[u32]) {
+    telling::line(b"the tracks to fetch");
+    try_pair(table, 9);
+    try_pair(table, 11);
+    try_pair(table, BLOCK);
+    try_pair(table, 7);
+    try_pair(table, 12);
+}
+
+// No spares, scratch that is a number too short, and fewer spares than the table has; and too many cylinders. Each is refused before the block, which no such drive has.
+fn try_unfetched(table: &[u32]) {
+    try_tracks(drive(), 0, table, &mut [1u32; 7], 20);
+    try_tracks(drive(), 2, table, &mut [1u32; 7], 20);
+    try_tracks(drive(), 1, table, &mut [1u32; 7], 20);
+    telling::line(b"4097 cylinders");
+    try_tracks(
+        telling::shapes::ungrouped(4_097, 2, 5),
+        2,
+        table,
+        &mut [1u32; 7],
+        24_582,
+    );
+}
+
+// More blocks are replaced, until one lies on the other head and one on the cylinder after its own.
+fn try_away(table: &mut [u32]) {
+    try_replace(table, 3);
+    try_replace(table, 4);
+    try_replace(table, 5);
+    try_replace(table, 0);
+    try_pair(table, 4);
+    try_pair(table, 0);
+}
+
 fn main() {
     let two = table_of_two();
     try_codes(PLAIN, &two);
     try_codes(WIDE, &two);
-    let table = paper_table(two);
+    let mut table = paper_table(two);
     try_at(PLAIN, &table);
     try_at(WIDE, &table);
     try_other(&table);
@@ -484,4 +532,7 @@ fn main() {
         whole(PLAIN, &home_track(PLAIN, BLOCK)),
         whole(PLAIN, &spare_track(PLAIN, BLOCK, false)),
     );
+    try_pairs(&table);
+    try_unfetched(&table);
+    try_away(&mut table);
 }

@@ -161,7 +161,7 @@ impl Draw {
     }
 
     /// Breaks a rule of the table, if it can; a second fault may hide the first.
-    fn damage_table(&mut self, table: &mut Vec<u32>, drive: Drive) {
+    pub fn damage_table(&mut self, table: &mut Vec<u32>, drive: Drive) {
         if table.is_empty() {
             return;
         }

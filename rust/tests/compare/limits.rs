@@ -1,8 +1,8 @@
 //! The limits, each at its last accepted number and at the first refused.
 
 use tautberry::{
-    format, image, mode, page, shape as shapes, skip, skipped, spares, Cursor, Refusal, CODE_UNIT,
-    LIST_MOST, PAGE_MOST, SPARES_MOST, UNITS_MOST,
+    format, image, mode, page, reading, shape as shapes, skip, skipped, spares, Cursor, Refusal,
+    CODE_UNIT, LIST_MOST, PAGE_MOST, SPARES_MOST, UNITS_MOST,
 };
 
 use crate::drawn_images::{CODES, SIZES};
@@ -13,6 +13,7 @@ use crate::model::image::copy;
 use crate::model::spares::{drive, empty_table, search_order, word, FREE, PRIMARY, UNUSABLE};
 use crate::model::{self, skipping};
 use crate::nights::formatted;
+use crate::reads::named;
 use crate::shape_calls::{every_call_gives, every_table_call_gives, is_lent_a_table, Rest};
 use crate::skipping::{numbers, same_addresses};
 
@@ -274,6 +275,43 @@ fn the_longest_shifts() {
         let model = model::spares::shift(paper(drive_shape), 1, &table, &mut theirs, block);
         assert_eq!(model, Ok(shift));
         assert_eq!(ours, theirs);
+
+        let (mut ours, mut theirs) = (vec![1; 4_096], vec![1; 4_096]);
+        let expected = ((block, 0), (block.wrapping_add_signed(shift), 0), shift);
+        let library = reading::tracks(drive_shape, 1, &table, &mut ours, block).map(named);
+        assert_eq!(library, Ok(expected));
+        let model = model::spares::tracks(paper(drive_shape), 1, &table, &mut theirs, block);
+        assert_eq!(model, Ok(expected));
+        assert_eq!(ours, theirs);
+    }
+}
+
+/// The tracks at both ends of the largest drives: from the first track to the last and back, and at home.
+#[test]
+fn the_first_track_and_the_last() {
+    for (drive_shape, r) in [(shape(4_096, 16, 64), 1), (shape(1_024, 64, 2), 1)] {
+        let drive = drive(paper(drive_shape), r).expect("65,536 spares");
+        let mut table = vec![word(UNUSABLE, 0); 65_536];
+        let (last, last_place) = (drive.blocks() - 1, drive.spares() - 1);
+        table[0] = descriptor(drive, 0, last);
+        table[last_place as usize] = descriptor(drive, last_place, 0);
+        let first_track = (0, 0);
+        let last_track = (drive_shape.cylinders - 1, drive_shape.heads - 1);
+        let second_track = (0, 1);
+        let shift = drive_shape.cylinders as i32 - 1;
+        let rows = [
+            (0, (first_track, last_track, shift)),
+            (last, (last_track, first_track, -shift)),
+            (drive.l, (second_track, second_track, 0)),
+        ];
+        for (block, expected) in rows {
+            let (mut ours, mut theirs) = (vec![1; 65_536], vec![1; 65_536]);
+            let library = reading::tracks(drive_shape, r, &table, &mut ours, block).map(named);
+            assert_eq!(library, Ok(expected), "block {block}");
+            let model = model::spares::tracks(paper(drive_shape), r, &table, &mut theirs, block);
+            assert_eq!(model, Ok(expected), "block {block}");
+            assert!(ours == theirs, "block {block}");
+        }
     }
 }
 

@@ -25,6 +25,7 @@ mod drawn_tables;
 
 mod images;
 mod limits;
+mod lives;
 mod modes;
 mod nights;
 mod order;

@@ -381,6 +381,14 @@ fn spares_in_order() {
         &by_block,
     );
     ask_tables(
+        "reading::tracks",
+        &|drive, r, table, lent, block| number(reading::tracks(drive, r, table, lent, block)),
+        &|drive, r, table, lent, block| {
+            paper_number(model::spares::tracks(drive, r, table, lent, block))
+        },
+        &by_block,
+    );
+    ask_tables(
         "spares::replace",
         &|drive, r, table, lent, block| {
             number(spares::replace(drive, r, &mut table.to_vec(), lent, block))

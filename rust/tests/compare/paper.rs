@@ -1,15 +1,17 @@
 //! The paper's own numbers, asked of the library and of the model.
 
 use tautberry::image::{self, Head};
-use tautberry::reading::{self, Track};
+use tautberry::reading::{self, Image};
 use tautberry::{format, mode, page, shape as shapes, skip, skipped, spares, Refusal, Shape};
 
 use crate::drawn_images::{other_size, NO_SIZES, SIZES};
 use crate::drawn_nights::Drawn;
 use crate::drawn_shapes::{grouped, paper, shape, CUSTOMERS};
 use crate::model::image::{bytes, copy, data_code, image_length, Read};
+use crate::model::spares::Track;
 use crate::model::{self, skipping};
 use crate::nights::formatted;
+use crate::reads::named;
 use crate::shape_calls::{every_call_gives, every_table_call_gives, Rest};
 use crate::skipping::numbers;
 
@@ -183,6 +185,18 @@ fn lies_on(drive: Drive, table: &[u32], block: u32, sector: u32, shift: i32) {
     assert!(ours == theirs, "block {block}");
 }
 
+/// Library and model must name these tracks for a read of the block, its home track and the one that it lies on
+/// by cylinder and head, and this shift, and leave the same scratch.
+fn is_fetched_from(drive: Drive, table: &[u32], block: u32, expected: (Track, Track, i32)) {
+    let (shape, r) = drive;
+    let (mut ours, mut theirs) = (scratch(drive), scratch(drive));
+    let library = reading::tracks(shape, r, table, &mut ours, block).map(named);
+    assert_eq!(library, Ok(expected), "block {block}");
+    let model = model::spares::tracks(paper(shape), r, table, &mut theirs, block);
+    assert_eq!(model, Ok(expected), "block {block}");
+    assert!(ours == theirs, "block {block}");
+}
+
 /// Library and model must count so many descriptors of code 0, 2, 3, 4 and 8, and leave the same scratch.
 fn counts(drive: Drive, table: &[u32], expected: [u32; 5]) {
     let (shape, r) = drive;
@@ -208,6 +222,50 @@ fn three_replacements() {
     let words = [0, 0, 0, 0x4000_0000, 0x2000_0007, 0x3000_0008, 0x3000_0006, 0];
     assert_eq!(table, table_of(words));
     lies_on(EIGHT_SPARES, &table, 6, 18, 0);
+}
+
+/// The tracks of blocks at home, on the primary spare, on the other spare of the home track, on another cylinder,
+/// and under another head of the own one, where block 6 is replaced again.
+#[test]
+fn the_tracks_of_a_read() {
+    let mut table = table_of([0; 8]);
+    let homes = [(0, 0), (0, 1), (1, 0), (1, 1)];
+    let at_home = |table: &[u32], blocks: &[u32]| {
+        for block in blocks {
+            let home = homes[*block as usize / 3];
+            is_fetched_from(EIGHT_SPARES, table, *block, (home, home, 0));
+        }
+    };
+    at_home(&table, &[0, 1, 2, 3, 4, 5, 6, 7, 8, 9, 10, 11]);
+    for (block, place) in [(7, 4), (8, 5), (6, 3)] {
+        replaces(EIGHT_SPARES, &mut table, block, Ok(place));
+    }
+    at_home(&table, &[0, 1, 2, 3, 4, 5, 9, 10, 11]);
+    is_fetched_from(EIGHT_SPARES, &table, 7, ((1, 0), (1, 0), 0));
+    is_fetched_from(EIGHT_SPARES, &table, 8, ((1, 0), (1, 0), 0));
+    is_fetched_from(EIGHT_SPARES, &table, 6, ((1, 0), (0, 1), -1));
+    replaces(EIGHT_SPARES, &mut table, 6, Ok(6));
+    is_fetched_from(EIGHT_SPARES, &table, 6, ((1, 0), (1, 1), 0));
+
+    let drive = THREE_TABLE_BLOCKS;
+    let table = table_of_260(&[(256, 0x3000_0000), (5, 0x3000_0190)]);
+    is_fetched_from(drive, &table, 0, ((0, 0), (256, 0), 256));
+    is_fetched_from(drive, &table, 400, ((200, 0), (5, 0), -195));
+    is_fetched_from(drive, &table, 519, ((259, 0), (259, 0), 0));
+}
+
+/// Groups and offset change no track.
+#[test]
+fn the_tracks_of_a_grouped_drive() {
+    let mut words = [0; 8];
+    words[3..6].copy_from_slice(&[0x3000_0006, 0x2000_0007, 0x3000_0008]);
+    let table = table_of(words);
+    for groups in [(1, 2, 4), (2, 1, 0), (2, 1, 3)] {
+        let drive = (grouped(EIGHT_SPARES.0, groups), 2);
+        is_fetched_from(drive, &table, 6, ((1, 0), (0, 1), -1));
+        is_fetched_from(drive, &table, 8, ((1, 0), (1, 0), 0));
+        is_fetched_from(drive, &table, 11, ((1, 1), (1, 1), 0));
+    }
 }
 
 /// One block is replaced five times, until no spare is left to any block.
@@ -394,6 +452,9 @@ fn replacements_on_the_customers_drive() {
     lies_on(CUSTOMERS, &table, 732_157, 14_077 * 53 + 52, 0);
     lies_on(CUSTOMERS, &table, 6_605, 126 * 53 + 52, 0);
     lies_on(CUSTOMERS, &table, 6_658, 130 * 53 + 52, 0);
+    is_fetched_from(CUSTOMERS, &table, 732_157, ((879, 15), (879, 13), 0));
+    is_fetched_from(CUSTOMERS, &table, 6_605, ((7, 15), (7, 14), 0));
+    is_fetched_from(CUSTOMERS, &table, 6_656, ((8, 0), (8, 0), 0));
     counts(CUSTOMERS, &table, [14_072, 3, 5, 0, 0]);
 }
 
@@ -706,7 +767,7 @@ fn reads_so(
     assert_eq!(judged.map_err(Refusal::number), answer.map(|_| ()), "{case}");
     assert_eq!(model::image::judge_read(read, second), answer.map(|_| ()), "{case}");
     let lies = reading::spot(size, shape, r, &table, third, block, home, spare);
-    let lies = lies.map(|spot| (u32::from(spot.track == Track::Spare), spot.offset));
+    let lies = lies.map(|spot| (u32::from(spot.image == Image::Spare), spot.offset));
     assert_eq!(lies.map_err(Refusal::number), answer, "{case}");
     assert_eq!(model::image::spot(read, fourth), answer, "{case}");
     let part = reading::data(size, shape, r, &table, fifth, block, home, spare);

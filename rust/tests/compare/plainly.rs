@@ -53,6 +53,23 @@ fn plain_spare_sector() {
 }
 
 #[test]
+fn plain_read_tracks() {
+    let mut tally = Tally::of("plain::read_tracks");
+    for seed in tally.seeds(24_000) {
+        let mut draw = Draw::of(seed);
+        let tabled = draw.any_tabled();
+        let block = draw.block_of(&tabled);
+        let (shape, r, table) = (tabled.shape, tabled.r, &tabled.table);
+        let mut scratch = tabled.scratch();
+        let lent = scratch.library.lent();
+        let plain = plain::read_tracks(plain::Shape::from(shape), r, table, lent, block);
+        let model = model::spares::tracks(paper(shape), r, table, scratch.model.lent(), block);
+        tally.same_numbers_on_table(seed, (&tabled, Some(block)), &scratch, plain, model);
+    }
+    tally.saw(&[0, 1, 5, 7, 11]);
+}
+
+#[test]
 fn plain_judge() {
     judges_like_the_model("plain::judge", SEEDS, plain::judge);
 }

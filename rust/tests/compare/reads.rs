@@ -2,7 +2,7 @@
 
 use std::fmt::Debug;
 
-use tautberry::reading::{self, Track};
+use tautberry::reading::{self, Image, Track, Tracks};
 use tautberry::Refusal;
 
 use crate::draw::{Draw, Scratch};
@@ -11,11 +11,12 @@ use crate::drawn_shapes::paper;
 use crate::drawn_tables::Tabled;
 use crate::model;
 use crate::model::image::{image_length, Read, HOME};
-use crate::model::spares::{allocated, Drive, ELSEWHERE, PRIMARY};
+use crate::model::spares::{self, allocated, Drive, ELSEWHERE, PRIMARY};
 use crate::order::number;
 use crate::tally::Tally;
 
 const SEEDS: u64 = 36_000;
+const TRACKS_SEEDS: u64 = 24_000;
 
 /// A drive with the size of its sectors and its table, a block, and two track images.
 struct Drawn {
@@ -79,7 +80,7 @@ impl Drawn {
 }
 
 /// The code that a block has at its place, if it has one, or at home.
-fn code_at(drive: Drive, place: Option<u32>, block: u32) -> u32 {
+pub fn code_at(drive: Drive, place: Option<u32>, block: u32) -> u32 {
     match place {
         None => HOME,
         Some(place) if place as usize == drive.primary(block) => PRIMARY,
@@ -121,6 +122,40 @@ fn any_read(draw: &mut Draw) -> Drawn {
     Drawn { size, tabled, block, home, spare }
 }
 
+/// The tracks of a read by cylinder and head, and the shift, as the model has them.
+pub fn named(tracks: Tracks) -> (spares::Track, spares::Track, i32) {
+    let numbers = |Track { cylinder, head }: Track| (cylinder, head);
+    (numbers(tracks.home), numbers(tracks.there), tracks.shift)
+}
+
+#[test]
+fn reading_tracks() {
+    let mut tally = Tally::of("reading::tracks");
+    // On another cylinder toward 0 and away from it, under another head of the same one, and on a spare of
+    // the home track.
+    let (mut toward, mut away, mut beside, mut same) = (0, 0, 0, 0);
+    for seed in tally.seeds(TRACKS_SEEDS) {
+        let mut draw = Draw::of(seed);
+        let tabled = draw.any_tabled();
+        let block = draw.block_of(&tabled);
+        let (shape, r, table) = (tabled.shape, tabled.r, &tabled.table);
+        let mut scratch = tabled.scratch();
+        let library = reading::tracks(shape, r, table, scratch.library.lent(), block).map(named);
+        if let Ok((home, there, shift)) = library {
+            let on_spare = tabled.drive.place_of(table, block).is_some();
+            toward += u32::from(shift < 0);
+            away += u32::from(shift > 0);
+            beside += u32::from(shift == 0 && there != home);
+            same += u32::from(on_spare && there == home);
+        }
+        let model = spares::tracks(paper(shape), r, table, scratch.model.lent(), block);
+        tally.same_on_table(seed, (&tabled, Some(block)), &scratch, library, model);
+    }
+    tally.saw(&[0, 1, 5, 7, 11]);
+    let seen = [toward, away, beside, same];
+    assert!(seen.iter().all(|count| *count > 200), "toward, away, beside, same: {seen:?}");
+}
+
 #[test]
 fn reading_judge() {
     let mut tally = Tally::of("reading::judge");
@@ -150,9 +185,9 @@ fn reading_spot_and_data() {
         let lent = scratch.library.lent();
         let library = reading::spot(size, shape, r, table, lent, *block, home, spare);
         let library = library.map(|spot| {
-            let image = match spot.track {
-                Track::Home => 0,
-                Track::Spare => 1,
+            let image = match spot.image {
+                Image::Home => 0,
+                Image::Spare => 1,
             };
             (image, spot.offset)
         });

@@ -89,7 +89,7 @@ fn ask(drive: Shape, rest: &Rest) -> Vec<Given> {
     let (size, r, asked) = (*size, *r, *asked);
     let paper = paper(drive);
     let read = Read { size, shape: paper, r, table, block: asked, home, spare };
-    let calls: [(&'static str, Ask, Ask); 15] = [
+    let calls: [(&'static str, Ask, Ask); 16] = [
         ("shape::sector_of", &|_| number(shapes::sector_of(drive, asked, asked, asked)), &|_| {
             paper_number(model::shape::sector_of(paper, (asked, asked, asked)))
         }),
@@ -144,6 +144,11 @@ fn ask(drive: Shape, rest: &Rest) -> Vec<Given> {
             &|_| paper_number(model::spares::first_table(paper, r, list, &mut vec![0; *room])),
         ),
         (
+            "reading::tracks",
+            &|lent| number(reading::tracks(drive, r, table, lent, asked)),
+            &|lent| paper_number(model::spares::tracks(paper, r, table, lent, asked)),
+        ),
+        (
             "reading::judge",
             &|lent| number(reading::judge(size, drive, r, table, lent, asked, home, spare)),
             &|lent| paper_number(model::image::judge_read(read, lent)),
@@ -178,12 +183,12 @@ pub fn every_call_gives(drive: Shape, rest: &Rest, expected: impl Fn(&str) -> u3
 
 /// Whether a call reads a sector, and so takes its size.
 pub fn reads(call: &str) -> bool {
-    call.starts_with("reading::")
+    call.starts_with("reading::") && call != "reading::tracks"
 }
 
 /// Whether a call is lent a table, and so takes scratch.
 pub fn is_lent_a_table(call: &str) -> bool {
-    reads(call) || call.starts_with("spares::") && call != "spares::first_table"
+    call.starts_with("reading::") || call.starts_with("spares::") && call != "spares::first_table"
 }
 
 /// Every call that is lent a table must give the number that is expected of it, and leave this of the

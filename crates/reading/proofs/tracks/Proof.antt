@@ -3,9 +3,10 @@
 use borrow.Author.Needs.{needs}
 use mathlib.Core.Path.{_≡_, sym, _∙_, ap, refl}
 use lib.IntN.{pos, _-ℤ_}
+use native.Mathlib.Omega.{arith}
 use denote.Ref.{now}
-use Rattle.shape.specs.declared.Address.{Address}
 use Rattle.paper.proofs.Kept.{refuses, accepts}
+use Rattle.shape.specs.declared.Address.{Address}
 use Rattle.shape.specs.Addresses.{addressAt}
 use Rattle.layout.specs.Layouts.{driveOf, homeSector}
 use Rattle.table.specs.Lookup.{liesOn}
@@ -61,7 +62,9 @@ cylinders-between-requires c κs =
     let sound = block-sound (a .shape) (a .r) (now (a .table)) (now (a .scratch)) (a .block) none in
     let home : c .before .before .address-at .result ≡ addressAt (a .shape) (homeSector (driveOf (a .shape) (a .r)) (a .block)) = c .before .before .address-at .ensures ∙ rw (c .before .before .before .home-sector .ensures, c .before .before .before .before .drive-of .ensures) in
     let there : c .address-at2 .result ≡ addressAt (a .shape) (liesOn (driveOf (a .shape) (a .r)) (now (a .table)) (a .block)) = c .address-at2 .ensures ∙ rw (c .before .lies-on .ensures, c .before .before .before .before .drive-of .ensures) in
-    rw (home, there) (home-address-few sound (a .block) (block-below (a .shape) (a .r) (now (a .table)) (now (a .scratch)) (a .block) none), lying-address-few sound (a .block) (block-below (a .shape) (a .r) (now (a .table)) (now (a .scratch)) (a .block) none))
+    let home-few = home-address-few sound (a .block) (block-below (a .shape) (a .r) (now (a .table)) (now (a .scratch)) (a .block) none) in
+    let there-few = lying-address-few sound (a .block) (block-below (a .shape) (a .r) (now (a .table)) (now (a .scratch)) (a .block) none) in
+    rw (home, there) (omega (arith, home-few, there-few), omega (arith, home-few, there-few))
 
 same-length-2 : tie.Need-same-length-2
 same-length-2 c = search needs
