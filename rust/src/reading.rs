@@ -19,9 +19,9 @@ use crate::ffi;
 use crate::refusal::{answered, Refusal};
 use crate::shape::Shape;
 
-/// A track of the drive.
+/// A track of the drive, by its cylinder and head.
 #[derive(Clone, Copy, Debug, PartialEq, Eq, Hash)]
-pub struct Track {
+pub struct TrackAddress {
     pub cylinder: u32,
     pub head: u32,
 }
@@ -30,9 +30,9 @@ pub struct Track {
 #[derive(Clone, Copy, Debug, PartialEq, Eq, Hash)]
 pub struct Tracks {
     /// The block's home track.
-    pub home: Track,
+    pub home: TrackAddress,
     /// The track that the block lies on, which for a block at home is the home track too.
-    pub there: Track,
+    pub there: TrackAddress,
     /// The cylinders from the first to the second, negative toward cylinder 0, as
     /// [`shift`](crate::spares::shift) answers them.
     pub shift: i32,
@@ -43,7 +43,7 @@ pub struct Tracks {
 /// Checks: those of [`sector_of`](crate::spares::sector_of).
 ///
 /// ```
-/// use tautberry::reading::{self, Track};
+/// use tautberry::reading::{self, TrackAddress};
 /// use tautberry::{spares, Shape};
 ///
 /// let shape = Shape::ungrouped(2, 2, 5);
@@ -53,8 +53,8 @@ pub struct Tracks {
 ///     spares::replace(shape, 2, &mut table, &mut scratch, block)?;
 /// }
 /// let tracks = reading::tracks(shape, 2, &table, &mut scratch, 6)?;
-/// assert_eq!(tracks.home, Track { cylinder: 1, head: 0 });
-/// assert_eq!(tracks.there, Track { cylinder: 0, head: 1 });
+/// assert_eq!(tracks.home, TrackAddress { cylinder: 1, head: 0 });
+/// assert_eq!(tracks.there, TrackAddress { cylinder: 0, head: 1 });
 /// assert_eq!(tracks.shift, -1);
 /// # Ok::<(), tautberry::Refusal>(())
 /// ```
@@ -77,14 +77,14 @@ pub fn tracks(
             block,
         )
     };
-    let home = Track { cylinder: answer.home_cylinder, head: answer.home_head };
-    let there = Track { cylinder: answer.cylinder, head: answer.head };
+    let home = TrackAddress { cylinder: answer.home_cylinder, head: answer.home_head };
+    let there = TrackAddress { cylinder: answer.cylinder, head: answer.head };
     answered(answer.refusal, Tracks { home, there, shift: answer.shift })
 }
 
 /// One of the two track images that a read is lent.
 #[derive(Clone, Copy, Debug, PartialEq, Eq, Hash)]
-pub enum Image {
+pub enum Track {
     Home,
     Spare,
 }
@@ -92,7 +92,7 @@ pub enum Image {
 /// Where a block's data lie: the image, and the offset of the `size` bytes in it.
 #[derive(Clone, Copy, Debug, PartialEq, Eq, Hash)]
 pub struct Spot {
-    pub image: Image,
+    pub track: Track,
     pub offset: u32,
 }
 
@@ -164,11 +164,11 @@ pub fn spot(
             spare.len(),
         )
     };
-    let image = match answer.image {
-        0 => Image::Home,
-        _ => Image::Spare,
+    let track = match answer.image {
+        0 => Track::Home,
+        _ => Track::Spare,
     };
-    answered(answer.refusal, Spot { image, offset: answer.offset })
+    answered(answer.refusal, Spot { track, offset: answer.offset })
 }
 
 /// The `size` bytes of data of a good image of `block`, where they lie in `home` or in `spare`. They
@@ -201,9 +201,9 @@ pub fn data<'a>(
     spare: &'a [u8],
 ) -> Result<&'a [u8], Refusal> {
     let spot = spot(size, shape, r, table, scratch, block, home, spare)?;
-    let image = match spot.image {
-        Image::Home => home,
-        Image::Spare => spare,
+    let image = match spot.track {
+        Track::Home => home,
+        Track::Spare => spare,
     };
     let start = spot.offset as usize;
     Ok(&image[start..start + size as usize])

@@ -1,7 +1,7 @@
 //! Where the parts lie that the data calls hand back, and what they belong to.
 
 use tautberry::image::{self, Head};
-use tautberry::reading::{self, Track};
+use tautberry::reading::{self, TrackAddress};
 use tautberry::{image_length, mode, spares, track_length, Shape};
 use tautberry::{AT_HOME, AT_PRIMARY, DATA_SIZE, ELSEWHERE, WIDE_SIZE};
 
@@ -90,8 +90,8 @@ fn data_lie_in_the_tracks_that_are_named() {
     {
         let tracks = reading::tracks(SHAPE, SPARES, &table, &mut scratch, block);
         let tracks = tracks.expect("a block of the drive");
-        assert_eq!(tracks.there, Track { cylinder, head }, "block {block}");
-        let fetched = |from: Track| match from {
+        assert_eq!(tracks.there, TrackAddress { cylinder, head }, "block {block}");
+        let fetched = |from: TrackAddress| match from {
             from if from == tracks.there => track(size, block, code, sector),
             _ => noise(size),
         };

@@ -133,9 +133,9 @@ fn tell_place(words: &[u8], table: &[u32]) {
     );
 }
 
-// The sector that the gauge log lies on; where that is refused, one that the drive does not have.
-fn sector_now(table: &[u32]) -> u32 {
-    match spares::sector_of(drive(), SPARES, table, &mut [0u32; NUMBERS], GAUGE) {
+// The sector that a block lies on; where that is refused, one that the drive does not have.
+fn sector_now(table: &[u32], block: u32) -> u32 {
+    match spares::sector_of(drive(), SPARES, table, &mut [0u32; NUMBERS], block) {
         Placed::At(sector) => sector,
         Placed::Refused(_) => SECTORS,
     }
@@ -178,10 +178,18 @@ fn write_gauge(size: u32, table: &[u32], bytes: &mut [u8; BYTES], reading: &[u8;
     image::put_bytes(&mut data, 0, reading);
     let mut image = [0u8; SECTOR];
     image::write(size, GAUGE, code, &data, false, &mut image);
-    put_sector(bytes, sector_now(table), &image);
+    put_sector(bytes, sector_now(table, GAUGE), &image);
     telling::text(b"The gauge is written: ");
     telling::line(reading);
     telling::answers::headed(b"The sector's header says: ", image::header(size, &image));
+}
+
+// Writes a block whose data is lost on the spare that it has gone to, as forced, so that no older image is taken for it.
+fn write_lost(size: u32, table: &[u32], bytes: &mut [u8; BYTES], block: u32, code: u32) {
+    let mut image = [0u8; SECTOR];
+    image::write(size, block, code, &[0u8; 576], true, &mut image);
+    put_sector(bytes, sector_now(table, block), &image);
+    telling::line(b"Its data is lost, and it is written there as forced.");
 }
 
 // Writes where the bytes of the gauge begin and what they say.
@@ -308,10 +316,12 @@ fn morning(size: u32, table: &[u32], bytes: &mut [u8; BYTES]) {
 }
 
 // The track of the gauge log goes bad, and its blocks are replaced. The code of the gauge log there is handed back.
-fn noon(table: &mut [u32]) -> u32 {
+fn noon(size: u32, table: &mut [u32], bytes: &mut [u8; BYTES]) -> u32 {
     telling::line(b"Noon: the track goes bad");
-    tell_replacement(7, b", a sound recording,", table);
-    tell_replacement(8, b", a sound recording,", table);
+    let seven = tell_replacement(7, b", a sound recording,", table);
+    write_lost(size, table, bytes, 7, seven);
+    let eight = tell_replacement(8, b", a sound recording,", table);
+    write_lost(size, table, bytes, 8, eight);
     let code = tell_replacement(GAUGE, b", the gauge log,", table);
     tell_place(b"The gauge log now", table);
     telling::line(
@@ -324,7 +334,7 @@ fn noon(table: &mut [u32]) -> u32 {
 // The old sector of the gauge log is copied to its spare, which is no way to write it there.
 fn copy_old(size: u32, table: &[u32], bytes: &mut [u8; BYTES], home: u32) {
     let old = sector_at(bytes, home);
-    put_sector(bytes, sector_now(table), &old);
+    put_sector(bytes, sector_now(table, GAUGE), &old);
     telling::line(b"The old sector is copied to the spare as it is.");
     tell_read(size, table, bytes);
 }
@@ -338,7 +348,7 @@ fn tell_old(size: u32, bytes: &[u8; BYTES], home: u32) {
 
 // One bit of the data turns over on the sector that the gauge log lies on.
 fn turn_bit(table: &[u32], bytes: &mut [u8; BYTES]) {
-    let sector = sector_now(table);
+    let sector = sector_now(table, GAUGE);
     let mut image = sector_at(bytes, sector);
     image[16] = image[16] ^ 1;
     put_sector(bytes, sector, &image);
@@ -417,9 +427,9 @@ fn day(size: u32) {
     tell_spares(&table);
     telling::end();
     let mut bytes = [0u8; BYTES];
-    let home = sector_now(&table);
+    let home = sector_now(&table, GAUGE);
     morning(size, &table, &mut bytes);
-    let code = noon(&mut table);
+    let code = noon(size, &mut table, &mut bytes);
     afternoon(size, &mut table, &mut bytes, home, code);
     telling::line(b"Evening: the spares are counted");
     tell_spares(&table);

@@ -39,7 +39,7 @@ use Rattle.image.specs.Promises.{Judge as JudgeImage}
 use Rattle.image.proofs.Exact.{image-pair, pair-says}
 use Rattle.reading.specs.Tracks.{Seated, bytesIn, imageAt, imageFor, sectorIn, trackOf, codeFor, headerFor}
 use Rattle.reading.specs.Faults.{lentFault, blockReadFault}
-use Rattle.reading.specs.Promises.{TracksOf, trackAt, pairOf, DataSized, Data}
+use Rattle.reading.specs.Promises.{TracksOf, trackAt, pairOf, Data}
 use Rattle.reading.specs.declared.answers.Track.{Track}
 use Rattle.reading.specs.declared.answers.Pair.{Pair}
 use Rattle.reading.specs.declared.answers.Tracks.{Tracks}
@@ -48,9 +48,7 @@ use Rattle.reading.proofs.Exact.{Lent, block-few, lent-passes}
 use Rattle.reading.proofs.Parts.{data-refused, data-accepted}
 use Rattle.reading.proofs.Spots.{read-shows}
 use Rattle.reading.proofs.Seats.{seated, sector-lies, header-says}
-use Rattle.reading.proofs.Sized.{data-sized}
 use Rattle.reading.proofs.Written.{good-read, forced-read, good-part, forced-part}
-use Rattle.demands.specs.Relations.{AllowsOnly}
 use Rattle.demands.specs.Incident.{Refuses}
 use Rattle.demands.specs.Ledgers.{Contents, Whole}
 use Rattle.demands.specs.NeverStale.{imagesFrom, trackImage, Fetched, Leads, Answers, GoodImage}
@@ -170,12 +168,6 @@ module _
     abbrev image-seen : imageFor size (driveOf shape r) t b (home .now) (spare .now) ≡ held (liesOn (driveOf shape r) t b)
     image-seen = fetched-image size shape r t held b (home .now) (spare .now) whole fetched
 
-    -- what every part is that the read for any number of data bytes allows, every part is that the public one allows
-    every-part :
-        (scratch : List ℕ) {Figures : RefT (List ℕ) → Type 0} → ((part : RefT (List ℕ)) → DataSized size shape r t scratch b home spare part → Figures part) →
-        AllowsOnly (Data size shape r t scratch b home spare) Figures
-    every-part scratch every = rw (data-sized size shape r t scratch b sized home spare) (allows-part size shape r t scratch b home spare every)
-
     module _ (scratch : List ℕ) (enough : Enough shape r scratch) where
       lends : lentFault size shape r t scratch b (home .now) (spare .now) ≡ 0
       lends = lent-passes size shape r t scratch b (home .now) (spare .now) (fetched-lent size shape r t held b (home .now) (spare .now) whole fetched) enough
@@ -188,7 +180,7 @@ module _
         record {
           accepted = λ scratch enough. allows (λ k. refl) (rw (data-size-passes sized, passes scratch enough));
           bytes-lent = λ scratch enough asked s placed track lies.
-              every-part scratch
+              allows-part size shape r t scratch b sized home spare
               (λ part lent.
               record {
                 holds = good-part size shape r t scratch b bytes long are-bytes home spare part lent (lends scratch enough) seat (image-seen ∙ stands);
@@ -203,7 +195,7 @@ module _
           refused = λ scratch enough.
               allows (λ k. refl) (rw (data-size-passes sized, forced-read size shape r t scratch b bytes long are-bytes (lends scratch enough) seat (image-seen ∙ stands)));
           none-lent = λ scratch enough.
-              every-part scratch (λ part lent. forced-part size shape r t scratch b bytes long are-bytes home spare part lent (lends scratch enough) seat (image-seen ∙ stands));
+              allows-part size shape r t scratch b sized home spare (λ part lent. forced-part size shape r t scratch b bytes long are-bytes home spare part lent (lends scratch enough) seat (image-seen ∙ stands));
         }
 
 -- the other way round, whatever tracks are lent: where a read passes, the image that it looks into is good, with the block and the code that the table says

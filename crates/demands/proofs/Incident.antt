@@ -65,20 +65,21 @@ use Rattle.demands.specs.Incident.{spareStart, spareData, imageFrom, Who
 use Rattle.demands.proofs.Demand2Revectored.{taken-below, taken-after, replacement-moves}
 use Rattle.demands.proofs.Examples.{allows, allows-where}
 
--- a read allows what holds of every part that it hands back, and nothing else
+-- a read allows what holds of every part that the read for any number of data bytes hands back, and nothing else
 pub allows-part :
-    (size : ℕ) (shape : Shape) (r : ℕ) (t scratch : List ℕ) (b : ℕ) (home spare : RefT (List ℕ)) {Figures : RefT (List ℕ) → Type 0} →
-    ((part : RefT (List ℕ)) → DataSized size shape r t scratch b home spare part → Figures part) → AllowsOnly (DataSized size shape r t scratch b home spare) Figures
-allows-part size shape r t scratch b home spare every =
+    (size : ℕ) (shape : Shape) (r : ℕ) (t scratch : List ℕ) (b : ℕ) → Size size → (home spare : RefT (List ℕ)) {Figures : RefT (List ℕ) → Type 0} →
+    ((part : RefT (List ℕ)) → DataSized size shape r t scratch b home spare part → Figures part) → AllowsOnly (Data size shape r t scratch b home spare) Figures
+allows-part size shape r t scratch b sized home spare every =
     let fault = blockReadFault size shape r t scratch b (home .now) (spare .now) in
     let track = trackOf t b home spare in
     let start = dataStart size (driveOf shape r) t b in
     let bytes = dataOf size (imageFor size (driveOf shape r) t b (home .now) (spare .now)) in
-    record {
+    rw (data-sized size shape r t scratch b sized home spare)
+    (record {
       some = answer fault (λ number. partAt home 0 []) (partAt track start bytes);
       allowed = part-some home 0 [] track start bytes fault;
       every = every;
-    }
+    })
 
 -- a drive and a table that pass, a block of theirs, and a place that names it
 module _
@@ -213,12 +214,6 @@ module _
           moved-empty part given-part =
               other-part size shape r t scratch b bytes b forced own-fits own-other home spare part given-part passes (on-spare q in-table named) moved-held
 
-    -- what every part is that the read for any number of data bytes allows, every part is that the public one allows
-    every-part :
-        (scratch : List ℕ) (home spare : RefT (List ℕ)) {Figures : RefT (List ℕ) → Type 0} →
-        ((part : RefT (List ℕ)) → DataSized size shape r t scratch b home spare part → Figures part) → AllowsOnly (Data size shape r t scratch b home spare) Figures
-    every-part scratch home spare every = rw (data-sized size shape r t scratch b sized home spare) (allows-part size shape r t scratch b home spare every)
-
     -- where a place names the block, reads are safe, and the shift is the difference of the cylinders
     pub named-safe : Safe size shape r t b q (pos (spareCylinder (driveOf shape r) q) -ℤ pos (homeCylinder (driveOf shape r) b))
     named-safe =
@@ -231,7 +226,7 @@ module _
               (λ answer given-spot none.
               let passes : blockReadFault size shape r t scratch b home spare ≡ 0 = sym (gives-number given-spot (λ said. said .0) (λ k. refl) (spot-says (isReplaced t b) (dataStart size (driveOf shape r) t b))) ∙ none in
               given-spot .says ∙ rw (passes, is-replaced, its-sector)));
-          lends = λ scratch home spare. every-part scratch home spare (part-filled scratch home spare);
+          lends = λ scratch home spare. allows-part size shape r t scratch b sized home spare (part-filled scratch home spare);
           same-part = λ scratch again-scratch enough enough′ home other spare part again long first second.
               part-unread scratch again-scratch enough enough′ home other spare part again long (part-of size shape r t scratch b sized home spare part first) (part-of size shape r t again-scratch b sized other spare again second);
           same-verdict = λ scratch again-scratch enough enough′ home other spare verdict again long first second.
@@ -240,12 +235,12 @@ module _
           gives-back = λ home spare bytes whole whole′ long h stands.
               record {
                 accepted = λ scratch enough. allows (λ k. refl) (rw (data-size-passes sized, read-passes home spare bytes whole whole′ scratch enough long h stands));
-                bytes-lent = λ scratch enough. every-part scratch home spare (data-lent home spare bytes whole whole′ scratch enough long h stands);
+                bytes-lent = λ scratch enough. allows-part size shape r t scratch b sized home spare (data-lent home spare bytes whole whole′ scratch enough long h stands);
               };
           refuses-moved = λ home spare bytes forced whole whole′ stands.
               record {
                 refused = λ scratch enough. allows (λ k. refl) (rw (data-size-passes sized, moved-refused home spare bytes whole whole′ scratch enough forced stands));
-                none-lent = λ scratch enough. every-part scratch home spare (moved-empty home spare bytes whole whole′ scratch enough forced stands);
+                none-lent = λ scratch enough. allows-part size shape r t scratch b sized home spare (moved-empty home spare bytes whole whole′ scratch enough forced stands);
               };
         }
 

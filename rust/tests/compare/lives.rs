@@ -8,7 +8,7 @@
 use std::collections::BTreeMap;
 use std::ops::Range;
 
-use tautberry::reading::{self, Track, Tracks};
+use tautberry::reading::{self, TrackAddress, Tracks};
 use tautberry::{code_of, image, spares, Refusal, Shape, AT_HOME, AT_PRIMARY, CODE_UNIT};
 
 use crate::draw::{Draw, Room, Scratch};
@@ -298,7 +298,7 @@ impl Life {
     }
 
     /// The image of a track: those of its sectors one after another.
-    fn fetched(&self, Track { cylinder, head }: Track) -> Vec<u8> {
+    fn fetched(&self, TrackAddress { cylinder, head }: TrackAddress) -> Vec<u8> {
         let first = (cylinder * self.shape.heads + head) * self.shape.sectors;
         let last = first + self.shape.sectors - 1;
         self.library.sectors[self.image(first).start..self.image(last).end].to_vec()
@@ -458,7 +458,7 @@ impl Life {
     fn refused_on_table(&mut self, draw: &mut Draw, tallies: &mut Tallies) {
         let seed = self.seed;
         let Faulty { size, shape, r, table, scratch, block, number: expected } = draw.faulty(self);
-        let any_track = |draw: &mut Draw| Track {
+        let any_track = |draw: &mut Draw| TrackAddress {
             cylinder: draw.below(self.shape.cylinders),
             head: draw.below(self.shape.heads),
         };

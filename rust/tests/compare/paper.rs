@@ -1,14 +1,13 @@
 //! The paper's own numbers, asked of the library and of the model.
 
 use tautberry::image::{self, Head};
-use tautberry::reading::{self, Image};
+use tautberry::reading::{self, Track};
 use tautberry::{format, mode, page, shape as shapes, skip, skipped, spares, Refusal, Shape};
 
 use crate::drawn_images::{other_size, NO_SIZES, SIZES};
 use crate::drawn_nights::Drawn;
 use crate::drawn_shapes::{grouped, paper, shape, CUSTOMERS};
 use crate::model::image::{bytes, copy, data_code, image_length, Read};
-use crate::model::spares::Track;
 use crate::model::{self, skipping};
 use crate::nights::formatted;
 use crate::reads::named;
@@ -187,7 +186,12 @@ fn lies_on(drive: Drive, table: &[u32], block: u32, sector: u32, shift: i32) {
 
 /// Library and model must name these tracks for a read of the block, its home track and the one that it lies on
 /// by cylinder and head, and this shift, and leave the same scratch.
-fn is_fetched_from(drive: Drive, table: &[u32], block: u32, expected: (Track, Track, i32)) {
+fn is_fetched_from(
+    drive: Drive,
+    table: &[u32],
+    block: u32,
+    expected: (model::spares::Track, model::spares::Track, i32),
+) {
     let (shape, r) = drive;
     let (mut ours, mut theirs) = (scratch(drive), scratch(drive));
     let library = reading::tracks(shape, r, table, &mut ours, block).map(named);
@@ -767,7 +771,7 @@ fn reads_so(
     assert_eq!(judged.map_err(Refusal::number), answer.map(|_| ()), "{case}");
     assert_eq!(model::image::judge_read(read, second), answer.map(|_| ()), "{case}");
     let lies = reading::spot(size, shape, r, &table, third, block, home, spare);
-    let lies = lies.map(|spot| (u32::from(spot.image == Image::Spare), spot.offset));
+    let lies = lies.map(|spot| (u32::from(spot.track == Track::Spare), spot.offset));
     assert_eq!(lies.map_err(Refusal::number), answer, "{case}");
     assert_eq!(model::image::spot(read, fourth), answer, "{case}");
     let part = reading::data(size, shape, r, &table, fifth, block, home, spare);

@@ -2,7 +2,7 @@
 
 use std::fmt::Debug;
 
-use tautberry::reading::{self, Image, Track, Tracks};
+use tautberry::reading::{self, Track, TrackAddress, Tracks};
 use tautberry::Refusal;
 
 use crate::draw::{Draw, Scratch};
@@ -124,7 +124,7 @@ fn any_read(draw: &mut Draw) -> Drawn {
 
 /// The tracks of a read by cylinder and head, and the shift, as the model has them.
 pub fn named(tracks: Tracks) -> (spares::Track, spares::Track, i32) {
-    let numbers = |Track { cylinder, head }: Track| (cylinder, head);
+    let numbers = |TrackAddress { cylinder, head }: TrackAddress| (cylinder, head);
     (numbers(tracks.home), numbers(tracks.there), tracks.shift)
 }
 
@@ -185,9 +185,9 @@ fn reading_spot_and_data() {
         let lent = scratch.library.lent();
         let library = reading::spot(size, shape, r, table, lent, *block, home, spare);
         let library = library.map(|spot| {
-            let image = match spot.image {
-                Image::Home => 0,
-                Image::Spare => 1,
+            let image = match spot.track {
+                Track::Home => 0,
+                Track::Spare => 1,
             };
             (image, spot.offset)
         });
