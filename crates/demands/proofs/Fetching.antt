@@ -89,12 +89,12 @@ module _ (size : ℕ) (held : Contents) (whole : Whole size held) where
         let back : first + s % shape .sectors ≡ s = omega (arith, there-and-back shaped inside) in
         image-among first (shape .sectors) (s % shape .sectors) (mod-lt s some) ∙ ap held back
 
--- the tracks that are named are those of the definition
 -- the pair of an answer
 abbrev pairIn : Tracks → Pair
 pairIn (Fetch pair) = pair
 pairIn (NotFetched fault) = record { home = record { cylinder = 0; head = 0 }; there = record { cylinder = 0; head = 0 }; shift = pos 0 }
 
+-- tracks that are named pass the check, and are those of the definition
 module _ (shape : Shape) (r : ℕ) (t asked : List ℕ) (b : ℕ) (pair : Pair) (named : TracksOf shape r t asked b (Fetch pair)) where
   pub named-passes : blockFault shape r t asked b ≡ 0
   named-passes = sym (gives-number named (λ said. said .0) (λ k. refl) refl)
