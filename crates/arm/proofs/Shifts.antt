@@ -5,7 +5,7 @@ use mathlib.Core.Path.{_≡_, refl, sym, _∙_, ap}
 use mathlib.Core.List.{List}
 use native.Mathlib.Nat.{div-le-self}
 use native.Mathlib.Omega.{arith}
-use lib.IntN.{ℤ, pos, natAbs, _+ℤ_, _-ℤ_, +ℤ-comm, -ℤ-+ℤ-cancel}
+use lib.IntN.{ℤ, pos, natAbs, _+ℤ_, _-ℤ_, +ℤ-comm, +ℤ-invr, -ℤ-+ℤ-cancel}
 use lib.ListN.{length}
 use mir.Syntax.{w32}
 use mir.Val.{SFits, toZ}
@@ -28,11 +28,6 @@ use Rattle.table.proofs.Lookups.{tells-replaced, place-spare}
 use Rattle.table.proofs.Exact.{sound-laid, sound-obeys}
 use Rattle.order.proofs.Signs.{minus-within, minus-below}
 use Rattle.arm.specs.Shifts.{shiftOf}
-
--- a number less itself is 0
-difference-none : (a : ℕ) → pos a -ℤ pos a ≡ pos 0
-difference-none zero = refl
-difference-none (suc a) = minus-within (suc a) (suc a) (omega arith) ∙ ap pos (omega arith)
 
 -- numbers below a bound differ by less than the bound, to either side
 pub difference-within : (a b bound : ℕ) → a < bound → b < bound → natAbs (pos a -ℤ pos b) < bound
@@ -108,7 +103,7 @@ module _ {shape : Shape} {r : ℕ} {t : List ℕ} (sound : Sound shape r t) (b :
   shift-between =
       byBool (isReplaced t b)
       (λ e. rw e (rw (spare-address (placeOf t b), home-address)))
-      (λ e. rw e (sym (difference-none (addressAt shape (homeSector (driveOf shape r) b) .cylinder))))
+      (λ e. rw e (sym (+ℤ-invr (pos (addressAt shape (homeSector (driveOf shape r) b) .cylinder)))))
 
   -- so it leads from the one to the other
   pub shift-reaches :

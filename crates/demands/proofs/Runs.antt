@@ -3,23 +3,22 @@
 use Prim.Native.Nat.{ℕ, _<_}
 use mathlib.Core.Path.{_≡_, sym, _∙_, ap}
 use mathlib.Core.Bool.{Bool}
-use mathlib.Core.Logic.{⊎-elim}
 use mathlib.Core.List.{List, _∷_}
 use native.Mathlib.Omega.{arith}
 use lib.ListN.{length, getD}
 use Rattle.paper.specs.Limits.{Size}
 use Rattle.paper.proofs.Cases.{byBool, byEq}
-use Rattle.paper.proofs.Rows.{tells-false}
 use Rattle.words.specs.Words.{Bytes}
 use Rattle.shape.specs.declared.Shape.{Shape}
 use Rattle.layout.specs.Layouts.{driveOf}
-use Rattle.layout.specs.Descriptors.{Names, names, free, codeOf, numberOf, unusable}
-use Rattle.layout.proofs.Words.{tells-names}
+use Rattle.layout.specs.Descriptors.{Names}
+use Rattle.layout.proofs.Sectors.{home-no-spare}
 use Rattle.table.specs.Rules.{Sound}
-use Rattle.table.specs.Lookup.{Replaced, isReplaced, liesOn}
+use Rattle.table.specs.Lookup.{Replaced, placeOf, isReplaced, liesOn}
 use Rattle.table.proofs.Lookups.{tells-replaced, lies-apart}
 use Rattle.table.proofs.Exact.{sound-laid, sound-obeys}
 use Rattle.replacing.specs.Replacing.{Moved}
+use Rattle.replacing.proofs.Moves.{allocated-not-free}
 use Rattle.spares.specs.declared.Replaced.the-variants.{Place}
 use Rattle.spares.specs.Promises.{Replacement}
 use Rattle.image.specs.Image.{imageOf}
@@ -40,6 +39,14 @@ pub record Standing (size : ℕ) (shape : Shape) (r : ℕ) (t : List ℕ) (held 
   pub long : length bytes ≡ size
   pub are-bytes : Bytes bytes
   pub stands : held (liesOn (driveOf shape r) t b) ≡ imageOf (headerFor t b) bytes forced
+
+-- it stands on under another table and in other contents, if the image is where that table says
+stands-on :
+    {size : ℕ} {shape : Shape} {r : ℕ} {t after : List ℕ} {held later : Contents} {b : ℕ} {bytes : List ℕ} {forced : Bool} →
+    Standing size shape r t held b bytes forced → Sound shape r after → later (liesOn (driveOf shape r) after b) ≡ imageOf (headerFor after b) bytes forced →
+    Standing size shape r after later b bytes forced
+stands-on standing sound there =
+    record { sized = standing .sized; sound = sound; below = standing .below; long = standing .long; are-bytes = standing .are-bytes; stands = there }
 
 module _ (size : ℕ) (shape : Shape) (r : ℕ) where
   module _ (t : List ℕ) (b : ℕ) (bytes : List ℕ) (forced : Bool) (before after : Contents) (writes : WritesBlock size shape r t b bytes forced before after) where
@@ -75,16 +82,8 @@ module _ (size : ℕ) (shape : Shape) (r : ℕ) where
     -- and what stands for another block stands on
     others-stand : (a : ℕ) (kept : List ℕ) (bad : Bool) → (a ≡ b → ⊥) → Standing size shape r t before a kept bad → Standing size shape r t after a kept bad
     others-stand a kept bad other standing =
-        record {
-          sized = standing .sized;
-          sound = standing .sound;
-          below = standing .below;
-          long = standing .long;
-          are-bytes = standing .are-bytes;
-          stands =
-              writes .puts .others-stand (liesOn (driveOf shape r) t a) (λ same. other (lies-apart (sound-laid (standing .sound)) t a b (same ∙ sector-is)))
-              ∙ standing .stands;
-        }
+        stands-on standing (standing .sound)
+        (writes .puts .others-stand (liesOn (driveOf shape r) t a) (λ same. other (lies-apart (sound-laid (standing .sound)) t a b (same ∙ sector-is))) ∙ standing .stands)
 
   -- a replacement leaves the header of every other block as it was
   module _ (t scratch : List ℕ) (b q : ℕ) (after : List ℕ) (step : Replacement shape r t scratch b (Place q) after) where
@@ -94,27 +93,8 @@ module _ (size : ℕ) (shape : Shape) (r : ℕ) where
     still-named : (a p : ℕ) → (a ≡ b → ⊥) → Names (getD t p 0) a → getD after p 0 ≡ getD t p 0
     still-named a p other named =
         moves .others-stand p
-        (λ same.
-        let was-free : codeOf (getD t p 0) ≡ free = rw same (moves .was-free) in
-        ⊎-elim (λ primary. omega (arith, was-free, primary)) (λ elsewhere. omega (arith, was-free, elsewhere)) (named .0))
+        (λ same. allocated-not-free _ (named .0) (rw same (moves .was-free)))
         (λ names-b. other (sym (named .1) ∙ names-b .1))
-
-    newly-named : (a : ℕ) → (a ≡ b → ⊥) → Replaced after a → Replaced t a
-    newly-named a other there =
-        let p = there .place in
-        byEq p q
-        (λ same. absurd (other (sym (there .named .1) ∙ (ap (λ (k : ℕ). numberOf (getD after k 0)) same ∙ moves .names-block .1))))
-        (λ else.
-        byBool (names (getD t p 0) b)
-        (λ old.
-        let killed : codeOf (getD after p 0) ≡ unusable = rw (moves .old-unusable p (tells-names (getD t p 0) b .holds old)) (omega arith) in
-        ⊎-elim (λ primary. absurd (omega (arith, killed, primary))) (λ elsewhere. absurd (omega (arith, killed, elsewhere))) (there .named .0))
-        (λ unnamed.
-        record {
-          place = p;
-          in-table = rw (moves .same-length) at (there .in-table);
-          named = rw (moves .others-stand p else (tells-false (tells-names (getD t p 0) b) unnamed)) at (there .named);
-        }))
 
     same-header : (a : ℕ) → (a ≡ b → ⊥) → headerFor after a ≡ headerFor t a
     same-header a other =
@@ -125,20 +105,16 @@ module _ (size : ℕ) (shape : Shape) (r : ℕ) where
         header-named after a (sound-obeys (taken-after shape r t scratch b q after step)) (there .place) (rw (moves .same-length) (there .in-table)) (rw same (there .named))
         ∙ (same ∙ sym (header-named t a (sound-obeys (taken-sound shape r t scratch b q after step)) (there .place) (there .in-table) (there .named))))
         (λ e.
-        header-home after a (byBool (isReplaced after a) (λ now. absurd (tells-false (tells-replaced t a) e (newly-named a other (tells-replaced after a .holds now)))) (λ none. none))
+        header-home after a
+        (byBool (isReplaced after a)
+        (λ now. absurd (home-no-spare (sound-laid (taken-sound shape r t scratch b q after step)) a (placeOf after a) (sym (rw (now, e) at (moves .others-lie a other)))))
+        (λ none. none))
         ∙ sym (header-home t a e))
 
     -- so what stands for another block stands on
     moved-stands : (held : Contents) (a : ℕ) (kept : List ℕ) (bad : Bool) → (a ≡ b → ⊥) → Standing size shape r t held a kept bad → Standing size shape r after held a kept bad
     moved-stands held a kept bad other standing =
-        record {
-          sized = standing .sized;
-          sound = taken-after shape r t scratch b q after step;
-          below = standing .below;
-          long = standing .long;
-          are-bytes = standing .are-bytes;
-          stands = rw (moves .others-lie a other, same-header a other) (standing .stands);
-        }
+        stands-on standing (taken-after shape r t scratch b q after step) (rw (moves .others-lie a other, same-header a other) (standing .stands))
 
 -- a ledger in which something was written has a line
 some-line : {b : ℕ} {bytes : List ℕ} {forced : Bool} {ledger : Ledger} → LastWritten b bytes forced ledger → 0 < length ledger

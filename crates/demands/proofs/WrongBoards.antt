@@ -527,7 +527,7 @@ zeroTwice = eight 0x20000000 0x30000000 0 0 0 0 0 0
 abbrev ones : List ℕ
 ones = replicate 11 1
 
-small-shaped : Shaped small
+pub small-shaped : Shaped small
 small-shaped = shape-shows small refl
 
 small-spared : Spared small 2

@@ -21,8 +21,6 @@ use Rattle.shape.specs.declared.Address.{Address}
 use Rattle.shape.specs.declared.Located.the-variants.{At as LocatedAt}
 use Rattle.layout.specs.Layouts.{driveOf}
 use Rattle.order.specs.Order.{outward}
-use Rattle.shape.specs.Shapes.{Shaped}
-use Rattle.shape.proofs.Exact.{shape-shows}
 use Rattle.table.specs.Lookup.{placeOf}
 use Rattle.spares.specs.declared.Replaced.the-variants.{Place}
 use Rattle.spares.specs.Promises.{SectorOf, AddressOf, Replacement}
@@ -45,6 +43,7 @@ use Rattle.demands.proofs.ThereAndBack.{image-is}
 use Rattle.demands.proofs.Fetching.{image-on, fetched-lent, fetched-pair, part-good, part-none, tracks-lead}
 use Rattle.demands.proofs.Runs.{run-whole}
 use Rattle.demands.proofs.NeverStale.{never-stale}
+use Rattle.demands.proofs.WrongBoards.{small-shaped}
 
 -- what is computed of block 6
 goes-to-3 : Replacement small 2 afterEight eightZeros 6 (Place 3) afterSix
@@ -62,9 +61,6 @@ lies-on-spare = accepts (λ k. refl) refl refl
 codes : (codeFor afterEight 6 ≡ 0) × (codeFor afterSix 6 ≡ 3)
 unfolding codeFor placeOf firstBelow
 codes = (refl, refl)
-
-small-shaped : Shaped small
-small-shaped = shape-shows small refl
 
 -- the incident: the shift of −1 is kept without its sign, and the arm is driven to the last cylinder
 abbrev farEnd : Pair

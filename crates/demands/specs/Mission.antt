@@ -29,5 +29,5 @@ pub record Mission : Type 0 where
   pub angles : Angles
   -- Q-10. A sector has 512 data bytes or 576, and any other size is refused 1, before all else, as demand 1 says. Data, an image or a track of the one size is refused 14 at the other. The mode sector says the size of a drive: it is answered exactly where some copy of the format table says it and no earlier copy says any; 21 exactly where none does, and 1 exactly where copies lie no sector apart.
   pub sizes : Sizes
-  -- Beyond the paper. On a revectored drive that is written and replaced through the calls, no read is ever stale: lent the tracks that `reading::tracks` names, it answers exactly what was last written to the block, good data in place and a forced block with 17. Whatever a drive holds, a read answers only the data of a good image that carries the block's number and code and stands on the sector that the block lies on. Its limits are said: a spare that is not written at once, and on a skipped drive a list that shrinks.
+  -- Beyond the paper. On a revectored drive that is written and replaced through the calls, each replaced block written on its spare at once, no read is ever stale: lent the tracks that `reading::tracks` names, it answers exactly what was last written to the block, good data in place and a forced block with 17. Whatever a drive holds, a read answers only the data of a good image that carries the block's number and code and stands on the sector that the block lies on. Its limits are said: a spare that is not written at once, and on a skipped drive a list that shrinks.
   pub never-stale : NeverStale

@@ -35,7 +35,7 @@ use Rattle.replacing.proofs.Replacements.{code-few, spare-free, spare-f
 use Rattle.replacing.proofs.Censuses.{free-less, others-counted}
 
 -- an allocated word is neither free nor unusable
-allocated-not-free : (w : ℕ) → Allocated w → codeOf w ≡ free → ⊥
+pub allocated-not-free : (w : ℕ) → Allocated w → codeOf w ≡ free → ⊥
 allocated-not-free w allocated e = ⊎-elim (λ x. omega arith) (λ x. omega arith) allocated
 
 allocated-not-unusable : (w : ℕ) → Allocated w → codeOf w ≡ unusable → ⊥
