@@ -12,8 +12,9 @@ use std::process::exit;
 use std::time::{Duration, Instant};
 
 use tautberry::{
-    format, image, image_length, mode, page, page_length, reading, spares, table_length, Cursor,
-    Refusal, Shape, AT_HOME, AT_PRIMARY, DATA_SIZE, ELSEWHERE, UNITS_MOST, WIDE_SIZE,
+    format, image, image_length, mode, page, page_length, reading, skip, spares, table_length,
+    Cursor, Refusal, Shape, AT_HOME, AT_PRIMARY, DATA_SIZE, ELSEWHERE, LIST_MOST, UNITS_MOST,
+    WIDE_SIZE,
 };
 
 #[path = "../plain/mod.rs"]
@@ -35,6 +36,7 @@ fn main() {
         "{:<45} {:>11} {:>7} {:>11} {:>7} {:>6}  per",
         "job", "library", "spread", "plain", "spread", "ratio"
     );
+    translations();
     steps();
     look_ups();
     tracks();
@@ -95,6 +97,27 @@ fn nanoseconds(time: Duration, units: u64) -> f64 {
 /// A list of 4,096 entries in runs of four, spread over the space.
 fn long_list() -> Vec<u32> {
     (0..ENTRIES as u32).map(|entry| entry / 4 * 1_000 + entry % 4).collect()
+}
+
+/// Translations of the first and of the last block over the longest list; each checks the whole list.
+fn translations() {
+    let list: Vec<u32> = (0..LIST_MOST as u32).map(|entry| entry * 256).collect();
+    let last = UNITS_MOST - LIST_MOST as u32 - 1;
+    let asked = 512;
+    for (job, block) in [("first block, list of 65,536", 0), ("last block, list of 65,536", last)] {
+        let library = || {
+            let translate = |_| {
+                let answer = skip::sector_of(UNITS_MOST, black_box(&list), black_box(block));
+                answer.map_err(Refusal::number)
+            };
+            sum((0..asked).map(translate), 0)
+        };
+        let plain = || {
+            let translate = |_| plain::sector_of(UNITS_MOST, black_box(&list), black_box(block));
+            sum((0..asked).map(translate), 0)
+        };
+        compare(job, "block", asked, library, plain);
+    }
 }
 
 /// A job of 4,096 steps along a long list; each step checks the whole list and the cursor.

@@ -42,6 +42,22 @@ fn check_space(n: u32, list: &[u32]) -> Answer<()> {
     check_list(n, list)
 }
 
+/// The sector that a block of a skipped drive lies on.
+pub fn sector_of(n: u32, list: &[u32], block: u32) -> Answer<u32> {
+    check_space(n, list)?;
+    refuse(block >= n - list.len() as u32, 5)?;
+    let (mut least, mut most) = (0, list.len());
+    while least < most {
+        let middle = least + (most - least) / 2;
+        if list[middle] > block + middle as u32 {
+            most = middle;
+        } else {
+            least = middle + 1;
+        }
+    }
+    Ok(block + least as u32)
+}
+
 /// The job cursor: the next block, and the entries below the sector of the block before.
 #[derive(Clone, Copy, Debug, PartialEq, Eq)]
 pub struct Cursor {

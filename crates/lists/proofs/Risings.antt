@@ -4,7 +4,7 @@ use Prim.Native.Nat.{ℕ, zero, suc, _+_, _<_, _≤_}
 use mathlib.Core.Path.{refl}
 use mathlib.Core.List.{List, [], _∷_}
 use native.Mathlib.Omega.{arith}
-use lib.ListN.{length, getD, drop}
+use lib.ListN.{length, getD}
 use Rattle.lists.specs.Proper.{Rising, Rises, Inside}
 
 -- every entry is above x
@@ -37,12 +37,6 @@ inside-tail n x a inside i h = inside (suc i) (omega arith)
 
 pub above-weaker : (x y : ℕ) (a : List ℕ) → x ≤ y → Above y a → Above x a
 above-weaker x y a h above i l = omega (arith, above i l)
-
--- what is left of a rising list rises
-pub rising-drop : (a : List ℕ) (i : ℕ) → Rising a → Rising (drop i a)
-rising-drop a zero rising = rising
-rising-drop [] (suc i) rising = rising
-rising-drop (x ∷ a) (suc i) rising = rising-drop a i (rising-tail x a rising)
 
 -- entries rise by one at least from place to place
 pub rising-gap : (x : ℕ) (a : List ℕ) → Rising (x ∷ a) → (i : ℕ) → i < suc (length a) → x + i ≤ getD (x ∷ a) i 0

@@ -1,7 +1,7 @@
--- What the loops along a list cite: the walk and the count from a place on, and when a block passes just so many entries.
+-- What the searches in a list cite: what one entry tells of how many a block passes and of how many lie below a sector, and when a block passes just so many entries.
 -- Assumes nothing.
 use Prim.Native.Nat.{ℕ, zero, suc, _+_, _-_, _<_, _≤_}
-use mathlib.Core.Path.{_≡_, sym, _∙_}
+use mathlib.Core.Path.{_≡_, sym}
 use mathlib.Core.Bool.{true, false, not}
 use mathlib.Core.List.{List, [], _∷_}
 use native.Mathlib.Omega.{arith}
@@ -9,9 +9,8 @@ use lib.Dec.{leb, ltb, eqb}
 use lib.ListN.{length, getD, drop}
 use borrow.Author.Tests.{eq-eqb, ne-eqb, le-leb, lt-leb, leb-true, leb-false, lt-ltb, le-ltb}
 use Rattle.paper.proofs.Cases.{byLt, byEq}
-use Rattle.seek.proofs.Drops.{drop-next, drop-past}
 use Rattle.lists.specs.Proper.{Rising}
-use Rattle.lists.proofs.Risings.{rising-tail, rising-above, rising-drop, rising-gap}
+use Rattle.lists.proofs.Risings.{rising-tail, rising-above, rising-gap}
 use Rattle.skip.specs.Walk.{passes, entriesBelow}
 use Rattle.skip.proofs.Walks.{passes-nil, passes-on, passes-stop, below-nil, below-less, below-more, below-above}
 
@@ -25,34 +24,6 @@ passes-from (x ∷ a) b (suc d) h =
     (λ on.
     let next : b + suc d ≡ suc b + d = omega arith in
     rw next (omega (arith, passes-on x a b on, passes-from a (suc b) d (omega (arith, passes-on x a b on)))))
-
--- one turn of the walk at place d
-module _ (a : List ℕ) (b d : ℕ) where
-  pub passes-next : d < length a → getD a d 0 ≤ b + d → passes (drop d a) (b + d) ≡ suc (passes (drop (d + 1) a) (b + (d + 1)))
-  passes-next h on =
-      let next : b + (d + 1) ≡ suc (b + d) = omega arith in
-      rw (next, drop-next a d h) (passes-on (getD a d 0) (drop (d + 1) a) (b + d) on)
-
-  pub passes-here : d < length a → b + d < getD a d 0 → passes (drop d a) (b + d) ≡ 0
-  passes-here h stop = rw (drop-next a d h) (passes-stop (getD a d 0) (drop (d + 1) a) (b + d) stop)
-
-  pub passes-past : length a ≤ d → passes (drop d a) (b + d) ≡ 0
-  passes-past h = rw (drop-past a d h) (passes-nil (b + d))
-
--- one turn of the count below sector s at place d
-module _ (a : List ℕ) (s d : ℕ) where
-  pub below-next : d < length a → getD a d 0 < s → entriesBelow (drop d a) s ≡ suc (entriesBelow (drop (d + 1) a) s)
-  below-next h less = rw (drop-next a d h) (below-less (getD a d 0) (drop (d + 1) a) s less)
-
-  pub below-here : Rising a → d < length a → s ≤ getD a d 0 → entriesBelow (drop d a) s ≡ 0
-  below-here rising h more =
-      let left : Rising (getD a d 0 ∷ drop (d + 1) a) = rw (drop-next a d h) at (rising-drop a d rising) in
-      rw (drop-next a d h)
-      (below-more (getD a d 0) (drop (d + 1) a) s more
-      ∙ below-above (getD a d 0) (drop (d + 1) a) s (omega arith) (rising-above (getD a d 0) (drop (d + 1) a) left))
-
-  pub below-past : length a ≤ d → entriesBelow (drop d a) s ≡ 0
-  below-past h = rw (drop-past a d h) (below-nil s)
 
 -- an entry that is passed is at most the address on the way to it
 pub passed-entry : (a : List ℕ) (b d : ℕ) → d < passes a b → getD a d 0 ≤ b + d
@@ -70,6 +41,35 @@ passes-at-least (x ∷ a) b zero rising h on = omega (arith, passes-on x a b (om
 passes-at-least (x ∷ a) b (suc d) rising h on =
     omega (arith, passes-on x a b (omega (arith, rising-gap x a rising (suc d) h)), passes-at-least a (suc b) d (rising-tail x a rising) (omega arith) (omega arith))
 
+-- where an entry lies above the address on the way to it, no more than those before it are passed
+pub passes-at-most : (a : List ℕ) (b d : ℕ) → b + d < getD a d 0 → passes a b ≤ d
+passes-at-most a b d stop = byLt d (passes a b) (λ more. absurd (omega (arith, passed-entry a b d more))) (λ few. few)
+
+-- no more entries lie below a sector than there are
+pub below-le : (a : List ℕ) (s : ℕ) → entriesBelow a s ≤ length a
+below-le [] s = omega (arith, below-nil s)
+below-le (x ∷ a) s =
+    byLt x s
+    (λ less. omega (arith, below-less x a s less, below-le a s))
+    (λ more. omega (arith, below-more x a s more, below-le a s))
+
+-- an entry below a sector has all entries before it below the sector too
+pub below-at-least : (a : List ℕ) (s d : ℕ) → Rising a → d < length a → getD a d 0 < s → suc d ≤ entriesBelow a s
+below-at-least [] s d rising h less = absurd (omega arith)
+below-at-least (x ∷ a) s zero rising h less = omega (arith, below-less x a s less)
+below-at-least (x ∷ a) s (suc d) rising h less =
+    omega (arith, below-less x a s (omega (arith, rising-gap x a rising (suc d) h)), below-at-least a s d (rising-tail x a rising) (omega arith) less)
+
+-- an entry at or above a sector has none after it below the sector
+pub below-at-most : (a : List ℕ) (s d : ℕ) → Rising a → d < length a → s ≤ getD a d 0 → entriesBelow a s ≤ d
+below-at-most [] s d rising h more = absurd (omega arith)
+below-at-most (x ∷ a) s zero rising h more =
+    omega (arith, below-more x a s more, below-above x a s (omega arith) (rising-above x a rising))
+below-at-most (x ∷ a) s (suc d) rising h more =
+    byLt x s
+    (λ less. omega (arith, below-less x a s less, below-at-most a s d (rising-tail x a rising) (omega arith) more))
+    (λ over. omega (arith, below-more x a s over, below-at-most a s d (rising-tail x a rising) (omega arith) more))
+
 -- a block passes at least so many entries exactly when the last of them lies below the address that they lead to
 pub least-told : (a : List ℕ) (b d : ℕ) → Rising a → (d ≡ 0 → ⊥) → d ≤ length a → ltb (getD a (d - 1) 0) (b + d) ≡ leb d (passes a b)
 least-told a b d rising some h =
@@ -79,7 +79,7 @@ least-told a b d rising some h =
     (sym (le-leb d (passes a b) (omega (arith, passes-at-least a b (d - 1) rising (omega arith) (omega arith))))))
     (λ over.
     rw (le-ltb (getD a (d - 1) 0) (b + d) over)
-    (sym (lt-leb d (passes a b) (byLt (passes a b) d (λ less. less) (λ more. absurd (omega (arith, passed-entry a b (d - 1) (omega arith))))))))
+    (sym (lt-leb d (passes a b) (omega (arith, passes-at-most a b (d - 1) (omega arith))))))
 
 -- and just so many where it does not pass one more
 module _ (d p : ℕ) where

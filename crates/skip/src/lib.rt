@@ -29,7 +29,7 @@ pub enum Job {
     Refused(u32, Cursor),
 }
 
-// How many entries a block passes, of which `from` are known to be passed.
+// How many entries a block passes, of which `from` are known to be passed. The next one is looked at first, since in a job it is seldom passed; then what is left is halved.
 fn passed(list: &[u32], block: u32, from: u32) -> u32
     requires { ⌜ Rising (now list) ⌝ }
     requires { ⌜ length (now list) ≤ listMost ⌝ }
@@ -37,30 +37,37 @@ fn passed(list: &[u32], block: u32, from: u32) -> u32
     requires { ⌜ from ≤ passes (now list) block ⌝ }
     ensures { λ result. ⌜ result ≡ passes (now (list .entry)) block ⌝ }
 {
-    let mut count = from;
-    while (count as usize) < list.len() {
-        if block + count < list[count as usize] {
-            return count;
+    let mut least = from;
+    let mut most = list.len() as u32;
+    let mut at = from;
+    while least < most {
+        if block + at < list[at as usize] {
+            most = at;
+        } else {
+            least = at + 1;
         }
-        count += 1;
+        at = least + (most - least) / 2;
     }
-    count
+    least
 }
 
-// How many entries lie below a sector.
+// How many entries lie below a sector, by halving.
 fn entries_below(list: &[u32], sector: u32) -> u32
     requires { ⌜ Rising (now list) ⌝ }
     requires { ⌜ length (now list) ≤ listMost ⌝ }
     ensures { λ result. ⌜ result ≡ entriesBelow (now (list .entry)) sector ⌝ }
 {
-    let mut count: u32 = 0;
-    while (count as usize) < list.len() {
-        if sector <= list[count as usize] {
-            return count;
+    let mut least = 0;
+    let mut most = list.len() as u32;
+    while least < most {
+        let middle = least + (most - least) / 2;
+        if sector <= list[middle as usize] {
+            most = middle;
+            continue;
         }
-        count += 1;
+        least = middle + 1;
     }
-    count
+    least
 }
 
 // How many blocks a list leaves of n sectors. Only other crates call this.

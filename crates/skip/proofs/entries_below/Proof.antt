@@ -1,26 +1,31 @@
--- `skip::entries_below` meets its contract. The loop's invariant: the entries counted and those below the sector from here on are all; at the first entry not below it none is left, since the list rises.
+-- `skip::entries_below` meets its contract. The loop's invariant: the count lies from `least` to `most`. An entry below the sector has all before it below too, and one at or above the sector none after it, since the list rises.
 -- Assumes nothing.
-use Prim.Native.Nat.{_≤_, _-_, _+_}
-use mathlib.Core.Path.{_≡_}
+use Prim.Native.Nat.{_≤_, _-_, _+_, _/_}
 use native.Mathlib.Omega.{arith}
-use lib.ListN.{length, drop}
+use lib.ListN.{length}
 use denote.Ref.{now}
 use Rattle.skip.specs.Walk.{entriesBelow}
-use Rattle.skip.proofs.Passing.{below-next, below-here, below-past}
+use Rattle.skip.proofs.Passing.{below-le, below-at-least, below-at-most}
 use Rattle.skip.proofs.entries_below.Statement.{statement}
 use Rattle.skip.proofs.entries_below.Tie as tie
 
 abbrev Inv-loop : tie.InvT-loop
-Inv-loop list sector count₀ count = (count ≤ length list) × (entriesBelow list sector ≡ count + entriesBelow (drop count list) sector)
+Inv-loop list sector least₀ most₀ least most = (least ≤ entriesBelow list sector) × (entriesBelow list sector ≤ most) × (most ≤ length list)
 
 abbrev μ-loop : tie.MeasureT-loop
-μ-loop list sector count₀ count = length list - count
+μ-loop list sector least₀ most₀ least most = most - least
+
+cast-most : tie.Need-cast-most Inv-loop μ-loop
+cast-most c = omega arith
 
 loop-holds : tie.Need-loop-holds Inv-loop μ-loop
-loop-holds c = (omega arith, omega arith)
+loop-holds c = omega (arith, below-le (now (c .args .list)) (c .args .sector))
 
-cast-loop : tie.Need-cast-loop Inv-loop μ-loop
-cast-loop c = omega arith
+sub-middle : tie.Need-sub-middle Inv-loop μ-loop
+sub-middle c = omega arith
+
+add-middle : tie.Need-add-middle Inv-loop μ-loop
+add-middle c = omega arith
 
 cast-if1 : tie.Need-cast-if1 Inv-loop μ-loop
 cast-if1 c = omega arith
@@ -31,21 +36,23 @@ mul-if1 c = omega arith
 shared-slice-read-if1 : tie.Need-shared-slice-read-if1 Inv-loop μ-loop
 shared-slice-read-if1 c = omega arith
 
-returns : tie.Need-returns Inv-loop μ-loop
-returns c = omega (arith, below-here (now (c .before .before .before .before .args .list)) (c .before .before .before .before .args .sector) (c .before .before .before .loop .count) (c .before .before .before .before .pre .0) (omega arith) (omega arith))
-
-add-count : tie.Need-add-count Inv-loop μ-loop
-add-count c = omega arith
-
 loop-less : tie.Need-loop-less Inv-loop μ-loop
 loop-less c = omega arith
 
 loop-again : tie.Need-loop-again Inv-loop μ-loop
-loop-again c =
-    (omega arith, omega (arith, below-next (now (c .before .before .before .before .args .list)) (c .before .before .before .before .args .sector) (c .before .before .before .loop .count) (omega arith) (omega arith)))
+loop-again c = omega (arith, below-at-most (now (c .before .before .before .before .args .list)) (c .before .before .before .before .args .sector) (c .before .before .before .loop .least + (c .before .before .before .loop .most - c .before .before .before .loop .least) / 2) (c .before .before .before .before .pre .0) (omega arith) (omega arith))
 
-returns-2 : tie.Need-returns-2 Inv-loop μ-loop
-returns-2 c = omega (arith, below-past (now (c .before .before .args .list)) (c .before .before .args .sector) (c .before .loop .count) (omega arith))
+add-least : tie.Need-add-least Inv-loop μ-loop
+add-least c = omega arith
+
+loop-less-2 : tie.Need-loop-less-2 Inv-loop μ-loop
+loop-less-2 c = omega arith
+
+loop-again-2 : tie.Need-loop-again-2 Inv-loop μ-loop
+loop-again-2 c = omega (arith, below-at-least (now (c .before .before .before .before .args .list)) (c .before .before .before .before .args .sector) (c .before .before .before .loop .least + (c .before .before .before .loop .most - c .before .before .before .loop .least) / 2) (c .before .before .before .before .pre .0) (omega arith) (omega arith))
+
+returns : tie.Need-returns Inv-loop μ-loop
+returns c = omega arith
 
 pub entries-below-spec : {M : Type 1} → statement M
 entries-below-spec =
@@ -53,13 +60,16 @@ entries-below-spec =
     (tie.spec
     Inv-loop
     μ-loop
+    cast-most
     loop-holds
-    cast-loop
+    sub-middle
+    add-middle
     cast-if1
     mul-if1
     shared-slice-read-if1
-    returns
-    add-count
     loop-less
     loop-again
-    returns-2)
+    add-least
+    loop-less-2
+    loop-again-2
+    returns)
