@@ -9,22 +9,14 @@ use crate::modes::finds_like_the_model;
 use crate::nights::formats_like_the_model;
 use crate::pages::{reads_like_the_model, writes_like_the_model};
 use crate::plain;
-use crate::skipping::any_cursor;
+use crate::skipping::{any_cursor, places_like_the_model};
 use crate::tally::Tally;
 
 const SEEDS: u64 = 10_000;
 
 #[test]
 fn plain_sector_of() {
-    let mut tally = Tally::of("plain::sector_of");
-    for seed in tally.seeds(SEEDS) {
-        let mut draw = Draw::of(seed);
-        let (n, list) = draw.space();
-        let block = draw.near(n.saturating_sub(list.len() as u32));
-        let plain = plain::sector_of(n, &list, block);
-        tally.same_numbers(seed, plain, skipping::sector_of(n, &list, block));
-    }
-    tally.saw(&[0, 1, 2, 3, 4, 5]);
+    places_like_the_model("plain::sector_of", SEEDS, plain::sector_of);
 }
 
 #[test]

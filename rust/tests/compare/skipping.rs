@@ -20,17 +20,28 @@ pub fn turned<E>(answer: &Result<(u32, u32, u32, u32), E>) -> bool {
     matches!(answer, Ok((_, _, sector, angle)) if sector != angle)
 }
 
-#[test]
-fn skip_sector_of() {
-    let mut tally = Tally::of("skip::sector_of");
-    for seed in tally.seeds(SEEDS) {
+/// Holds a translation of blocks to the model, over so many seeds.
+pub fn places_like_the_model(
+    call: &'static str,
+    seeds: u64,
+    sector_of: impl Fn(u32, &[u32], u32) -> Result<u32, u32>,
+) {
+    let mut tally = Tally::of(call);
+    for seed in tally.seeds(seeds) {
         let mut draw = Draw::of(seed);
         let (n, list) = draw.space();
         let block = draw.near(n.saturating_sub(list.len() as u32));
-        let library = skip::sector_of(n, &list, block);
-        tally.same(seed, library, skipping::sector_of(n, &list, block));
+        let answer = sector_of(n, &list, block);
+        tally.same_numbers(seed, answer, skipping::sector_of(n, &list, block));
     }
     tally.saw(&[0, 1, 2, 3, 4, 5]);
+}
+
+#[test]
+fn skip_sector_of() {
+    places_like_the_model("skip::sector_of", SEEDS, |n, list, block| {
+        skip::sector_of(n, list, block).map_err(Refusal::number)
+    });
 }
 
 #[test]
