@@ -25,15 +25,6 @@ passes-from (x ∷ a) b (suc d) h =
     let next : b + suc d ≡ suc b + d = omega arith in
     rw next (omega (arith, passes-on x a b on, passes-from a (suc b) d (omega (arith, passes-on x a b on)))))
 
--- an entry that is passed is at most the address on the way to it
-pub passed-entry : (a : List ℕ) (b d : ℕ) → d < passes a b → getD a d 0 ≤ b + d
-passed-entry [] b d h = absurd (omega (arith, passes-nil b))
-passed-entry (x ∷ a) b zero h = byLt b x (λ stop. absurd (omega (arith, passes-stop x a b stop))) (λ on. omega arith)
-passed-entry (x ∷ a) b (suc d) h =
-    byLt b x
-    (λ stop. absurd (omega (arith, passes-stop x a b stop)))
-    (λ on. omega (arith, passed-entry a (suc b) d (omega (arith, passes-on x a b on))))
-
 -- where an entry is at most the address on the way to it, the entries up to it are passed
 pub passes-at-least : (a : List ℕ) (b d : ℕ) → Rising a → d < length a → getD a d 0 ≤ b + d → suc d ≤ passes a b
 passes-at-least [] b d rising h on = absurd (omega arith)
@@ -41,9 +32,14 @@ passes-at-least (x ∷ a) b zero rising h on = omega (arith, passes-on x a b (om
 passes-at-least (x ∷ a) b (suc d) rising h on =
     omega (arith, passes-on x a b (omega (arith, rising-gap x a rising (suc d) h)), passes-at-least a (suc b) d (rising-tail x a rising) (omega arith) (omega arith))
 
--- where an entry lies above the address on the way to it, no more than those before it are passed
+-- where an entry lies above the address on the way to it, only entries before it are passed
 pub passes-at-most : (a : List ℕ) (b d : ℕ) → b + d < getD a d 0 → passes a b ≤ d
-passes-at-most a b d stop = byLt d (passes a b) (λ more. absurd (omega (arith, passed-entry a b d more))) (λ few. few)
+passes-at-most [] b d stop = omega (arith, passes-nil b)
+passes-at-most (x ∷ a) b zero stop = omega (arith, passes-stop x a b (omega arith))
+passes-at-most (x ∷ a) b (suc d) stop =
+    byLt b x
+    (λ here. omega (arith, passes-stop x a b here))
+    (λ on. omega (arith, passes-on x a b on, passes-at-most a (suc b) d (omega arith)))
 
 -- no more entries lie below a sector than there are
 pub below-le : (a : List ℕ) (s : ℕ) → entriesBelow a s ≤ length a

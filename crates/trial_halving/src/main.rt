@@ -3,7 +3,7 @@ ghost use Prim.Native.Nat.{_<_};
 ghost use Rattle.paper.specs.Limits.{unitsMost};
 use paper::UNITS_MOST;
 
-// A block on the longest drive, and the sector that it should lie on, back.
+// Asks for a block and for a sector of the longest drive.
 fn try_both(list: &[u32], block: u32, sector: u32) {
     telling::asking::block(UNITS_MOST, list, block);
     telling::asking::sector(UNITS_MOST, list, sector);
@@ -16,7 +16,7 @@ fn try_job(list: &[u32], block: u32) {
     telling::asking::step(UNITS_MOST, list, second);
 }
 
-// Every 4,096th sector is bad: a list of 4,096.
+// Every 4,096th sector is bad, a list of 4,096: blocks, and the sectors that they lie on.
 fn try_few() {
     let mut list = [0u32; 4_096];
     comparing::spread(&mut list, 0, 4_096);
@@ -32,7 +32,7 @@ fn try_few() {
     try_job(&list, 16_773_119);
 }
 
-// Every 256th sector is bad: a list of 65,536, the longest.
+// The same where every 256th sector is bad, a list of 65,536, the longest.
 fn try_many() {
     let mut list = [0u32; 65_536];
     comparing::spread(&mut list, 0, 256);
@@ -48,7 +48,7 @@ fn try_many() {
     try_job(&list, 16_711_679);
 }
 
-// The bad sectors stand together, from this one on.
+// 4,096 bad sectors stand together, from this one on.
 fn try_run(words: &[u8], first: u32)
     requires { ⌜ first < unitsMost ⌝ }
 {
