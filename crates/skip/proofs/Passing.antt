@@ -41,13 +41,14 @@ passes-at-most (x ∷ a) b (suc d) stop =
     (λ here. omega (arith, passes-stop x a b here))
     (λ on. omega (arith, passes-on x a b on, passes-at-most a (suc b) d (omega arith)))
 
+-- an entry adds at most one to those below a sector
+below-one : (x : ℕ) (a : List ℕ) (s : ℕ) → entriesBelow (x ∷ a) s ≤ suc (entriesBelow a s)
+below-one x a s = byLt x s (λ less. omega (arith, below-less x a s less)) (λ more. omega (arith, below-more x a s more))
+
 -- no more entries lie below a sector than there are
 pub below-le : (a : List ℕ) (s : ℕ) → entriesBelow a s ≤ length a
 below-le [] s = omega (arith, below-nil s)
-below-le (x ∷ a) s =
-    byLt x s
-    (λ less. omega (arith, below-less x a s less, below-le a s))
-    (λ more. omega (arith, below-more x a s more, below-le a s))
+below-le (x ∷ a) s = omega (arith, below-one x a s, below-le a s)
 
 -- an entry below a sector has all entries before it below the sector too
 pub below-at-least : (a : List ℕ) (s d : ℕ) → Rising a → d < length a → getD a d 0 < s → suc d ≤ entriesBelow a s
@@ -62,9 +63,7 @@ below-at-most [] s d rising h more = absurd (omega arith)
 below-at-most (x ∷ a) s zero rising h more =
     omega (arith, below-more x a s more, below-above x a s (omega arith) (rising-above x a rising))
 below-at-most (x ∷ a) s (suc d) rising h more =
-    byLt x s
-    (λ less. omega (arith, below-less x a s less, below-at-most a s d (rising-tail x a rising) (omega arith) more))
-    (λ over. omega (arith, below-more x a s over, below-at-most a s d (rising-tail x a rising) (omega arith) more))
+    omega (arith, below-one x a s, below-at-most a s d (rising-tail x a rising) (omega arith) more)
 
 -- a block passes at least so many entries exactly when the last of them lies below the address that they lead to
 pub least-told : (a : List ℕ) (b d : ℕ) → Rising a → (d ≡ 0 → ⊥) → d ≤ length a → ltb (getD a (d - 1) 0) (b + d) ≡ leb d (passes a b)
