@@ -1,4 +1,6 @@
 // How far the arm moves from the home of a block to the spare that it lies on, with the sign.
+#![tactic(auto)]
+
 ghost use Rattle.std.specs.Prelude.{◌≡◌, ◌<◌, pos, ◌-ℤ◌};
 ghost use Rattle.paper.specs.Limits.{units_most};
 ghost use Rattle.layout.specs.Steps.{Laid};

@@ -1,4 +1,6 @@
 // One bit of a lent number.
+#![tactic(auto)]
+
 ghost use Rattle.std.specs.Prelude.{◌≡◌, ◌<◌, length, get_or, set};
 ghost use Rattle.bits.specs.Steps.{number_bits, bit_at, with_bit};
 

@@ -1,4 +1,6 @@
 // The C face: every public call that hands back numbers, under a plain name, each answering the numbers that the call's answer says. The two calls that hand back a part, `image::data` and `reading::data`, are not here; `tb_read_data` is `reading::spot`.
+#![tactic(auto)]
+
 ghost use Rattle.shape.specs.Promises.{SectorOf as ShapeSectorOf, AddressOf as ShapeAddressOf};
 ghost use Rattle.skip.specs.Promises.{SectorOf as SkipSectorOf, BlockOn as SkipBlockOn, Starts, Checks, Steps};
 ghost use Rattle.skipped.specs.Promises.{AddressOf as SkippedAddressOf, BlockAt as SkippedBlockAt};

@@ -1,4 +1,6 @@
 // Rows of numbers to try: filled, cut and compared.
+#![tactic(auto)]
+
 ghost use Rattle.std.specs.Prelude.{◌≡◌, ◌+◌, ◌*◌, ◌^◌, ◌<◌, ◌≤◌, length, take, replicate};
 ghost use Rattle.comparing.specs.Spread.{spread};
 ghost use Rattle.comparing.specs.Differing.{unlike, differing};

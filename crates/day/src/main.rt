@@ -1,4 +1,6 @@
 // The day of a block on a small drive: the drive comes online and says the size of its sectors, the gauge log of a vacuum turntable is written, moved to a spare, read back and refused, moved to another spare, and at night a scan changes the map of a drive that skips.
+#![tactic(auto)]
+
 use format::Formatted;
 use image::AT_HOME;
 use mode::Mode;

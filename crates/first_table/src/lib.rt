@@ -1,4 +1,6 @@
 // The first table of a revectored drive: of a list of bad sectors, the spares are marked unusable and then the homes are given spares, the lowest block first.
+#![tactic(auto)]
+
 ghost use Rattle.std.specs.Prelude.{◌≡◌, true, ◌*◌, ◌<◌, ◌≤◌, length};
 ghost use Rattle.paper.specs.Promise.{written};
 ghost use Rattle.lists.specs.Proper.{Proper};

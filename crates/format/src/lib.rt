@@ -1,4 +1,6 @@
 // Format: the new grown list and the list of the new space, from P, G, the space in use and the supplied list D.
+#![tactic(auto)]
+
 ghost use Rattle.std.specs.Prelude.{◌≡◌, ◌-◌, ◌<◌, ◌≤◌, eqb, length};
 ghost use Rattle.paper.specs.Checks.{pick};
 ghost use Rattle.paper.specs.Limits.{list_most, option_most};

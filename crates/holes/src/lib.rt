@@ -1,4 +1,6 @@
 // Whether no free place comes before a block's place in the block's search order: what comes before is a run of places, or two, and lent scratch tells the next free place at or after each.
+#![tactic(auto)]
+
 ghost use Rattle.std.specs.Prelude.{◌≡◌, ◌+◌, ◌<◌, ◌≤◌, ◌^◌, leb, length, get_or, drop};
 ghost use Rattle.paper.specs.Checks.{pick};
 ghost use Rattle.paper.specs.Limits.{spares_most};

@@ -1,4 +1,6 @@
 // The image of a sector: four copies of a number, which says a code and a block, the data, and the 16-bit code of the data; written, read and judged for any number of data bytes, by the public calls for the two sizes that a sector has.
+#![tactic(auto)]
+
 ghost use Rattle.std.specs.Prelude.{◌≡◌, ◌+◌, ◌<◌, ◌≤◌, ◌^◌, length, replicate};
 ghost use Rattle.std.proofs.lemmas.List.Edits.{sets};
 ghost use Rattle.paper.specs.Promise.{written};

@@ -1,4 +1,6 @@
 // A revectored drive: its check, its numbers, where homes and spares lie, and descriptor words.
+#![tactic(auto)]
+
 ghost use Rattle.std.specs.Prelude.{◌≡◌, false, ◌<◌, ◌*◌};
 ghost use Rattle.shape.specs.Shapes.{Shaped};
 ghost use Rattle.layout.specs.Layouts.{Spared, drive_fault, drive_of, sectors_per_track, home_sector, spare_sector, home_cylinder, spare_cylinder};

@@ -1,4 +1,6 @@
 // The listing of no input at all.
+#![tactic(auto)]
+
 fn main() {
     listing_run::run();
 }

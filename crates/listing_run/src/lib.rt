@@ -1,4 +1,6 @@
 // The body of the listing program: standard input is a page, standard output its listing.
+#![tactic(auto)]
+
 use libc::{STDIN_FILENO, STDOUT_FILENO};
 use listing_text::LISTING_ROOM;
 use paper::LISTING_MOST;

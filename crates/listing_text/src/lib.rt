@@ -1,4 +1,6 @@
 // The listing of a page as bytes: decimal numbers, one line for each.
+#![tactic(auto)]
+
 ghost use Rattle.std.specs.Prelude.{◌≡◌, ◌+◌, ◌*◌, ◌≤◌, length};
 ghost use Rattle.paper.specs.Limits.{units_most, entry_size, listing_most};
 ghost use Rattle.words.specs.Words.{entries_at};

@@ -1,4 +1,6 @@
 // Defect lists: the check of a list over any size of space, and the union of two lists.
+#![tactic(auto)]
+
 ghost use Rattle.std.specs.Prelude.{◌≡◌, ◌+◌, ◌<◌, ◌≤◌, length};
 ghost use Rattle.lists.specs.Proper.{fault_at, list_fault, space_fault};
 ghost use Rattle.lists.specs.Union.{union};

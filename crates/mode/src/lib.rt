@@ -1,4 +1,6 @@
 // The mode sector: how many data bytes the drive's sectors have, as the copies of the format table in the XBN area say it.
+#![tactic(auto)]
+
 ghost use Rattle.std.specs.Prelude.{◌≡◌, ◌+◌, ◌*◌, ◌<◌, ◌≤◌, length};
 ghost use Rattle.words.specs.Coded.{code_unit};
 ghost use Rattle.mode.specs.Modes.{xbn_bytes, xbn_image, size_in, mode_of};

@@ -1,4 +1,6 @@
 // The search order of a descriptor table: the primary's table block outward, then the blocks after it and those before it, and the search of a lent table in this order.
+#![tactic(auto)]
+
 ghost use Rattle.std.specs.Prelude.{◌≡◌, map, ◌+◌, ◌-◌, ◌<◌, ◌≤◌, ◌%◌, pos, nat_abs, ◌+ℤ◌, length, take, drop};
 ghost use Rattle.paper.specs.Limits.{table_block};
 ghost use Rattle.seek.specs.Search.{first_or, rising};

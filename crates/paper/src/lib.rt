@@ -1,4 +1,6 @@
 // The paper's numbers: refusals, limits and sizes, the range of N, the two sizes of a sector's data, and the answers that several crates give.
+#![tactic(auto)]
+
 ghost use Rattle.std.specs.Prelude.{◌≡◌, ◌≤◌};
 ghost use Rattle.paper.specs.Checks.{one_if};
 ghost use Rattle.paper.specs.Refusals.{out_of_range, too_long, not_rising, outside, no_such_block, no_such_sector, no_room, bad_page, stray_cursor, bad_option, bad_table, no_spare, wrong_length, no_address, other_block, forced_error, bad_code, no_mode, unknown_code};

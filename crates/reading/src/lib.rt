@@ -1,4 +1,6 @@
 // The two tracks of a revectored block, and a read of it from their images, for any number of data bytes, by the public calls for the two sizes that a sector has.
+#![tactic(auto)]
+
 ghost use Rattle.std.specs.Prelude.{◌≡◌, ◌+◌, ◌*◌, ◌^◌, ◌<◌, ◌≤◌, length};
 ghost use Rattle.paper.specs.Checks.{pick};
 ghost use Rattle.paper.specs.Limits.{sectors_most, image_extra};

@@ -1,4 +1,6 @@
 // Replacement in a descriptor table: the spare that a block is given, the descriptor that is written there, and the old one that is marked unusable.
+#![tactic(auto)]
+
 ghost use Rattle.std.specs.Prelude.{◌≡◌, ◌<◌, ltb, length, set};
 ghost use Rattle.paper.specs.Checks.{pick};
 ghost use Rattle.layout.specs.Steps.{Laid};

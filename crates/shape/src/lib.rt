@@ -1,4 +1,6 @@
 // The shape of a drive: its check, sector number ↔ cylinder, head, sector, and the angle of a sector.
+#![tactic(auto)]
+
 ghost use Rattle.std.specs.Prelude.{◌<◌, ◌≡◌};
 ghost use Rattle.shape.specs.Shapes.{Shaped, size_of, shape_fault};
 ghost use Rattle.shape.specs.Addresses.{OnDrive, sector_at, group_of, angle_at, address_at, off_drive_fault};

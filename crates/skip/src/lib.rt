@@ -1,4 +1,6 @@
 // Skipping over N sectors with a list of bad ones: block ↔ sector, and the job cursor.
+#![tactic(auto)]
+
 ghost use Rattle.std.specs.Prelude.{◌≡◌, ◌≤◌, leb, eqb, length};
 ghost use Rattle.paper.specs.Limits.{list_most, units_most};
 ghost use Rattle.lists.specs.Proper.{Rising, Proper};

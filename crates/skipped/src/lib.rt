@@ -1,4 +1,6 @@
 // A skipped drive by its shape: block ↔ cylinder, head and sector.
+#![tactic(auto)]
+
 ghost use Rattle.std.specs.Prelude.{◌≡◌};
 ghost use Rattle.skipped.specs.Faults.{skipped_fault, address_of_fault, block_at_fault};
 ghost use Rattle.skipped.specs.Promises.{AddressOf, BlockAt};

@@ -1,4 +1,6 @@
 // The public calls on a revectored drive: where a block lies, how far its spare is from its home, what lies on a sector, replacement, the census, and a first table.
+#![tactic(auto)]
+
 ghost use Rattle.table.specs.Scratch.{Scratched};
 ghost use Rattle.first_table.specs.Promises.{FirstTable};
 ghost use Rattle.spares.specs.Promises.{SectorOf, AddressOf, ShiftOf, BlockOn, BlockAt, Replacement, CensusOf};

@@ -1,4 +1,6 @@
 // The descriptor table of a revectored drive: the check of its rules, the place that names a block, where a block lies, what lies on a sector, and the census.
+#![tactic(auto)]
+
 ghost use Rattle.std.specs.Prelude.{◌≡◌, ◌<◌, ◌≤◌, ◌*◌, ◌^◌, length, get_or, drop};
 ghost use Rattle.seek.specs.Every.{all_below};
 ghost use Rattle.layout.specs.Layouts.{sectors_per_track};

@@ -1,4 +1,6 @@
 // Lines for a person on standard output: words, numbers, rows of numbers, and the answers of the public calls in words. No contract can say what is written; the file `stdout` of each program has it.
+#![tactic(auto)]
+
 ghost use Rattle.std.specs.Prelude.{◌≡◌, nat_abs};
 
 pub mod answers;

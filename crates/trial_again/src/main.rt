@@ -1,4 +1,6 @@
 // Blocks that are replaced again, on a drive of eight spares: C 2, H 2, S 5, with three home sectors and two spares to a track.
+#![tactic(auto)]
+
 use shape::Shape;
 
 // Each head is a group, and the second starts two sectors after the first.

@@ -1,4 +1,6 @@
 // Every spare used, and one replacement more: 1,024 spares in eight table blocks, two home sectors and one spare to a track.
+#![tactic(auto)]
+
 use shape::Shape;
 
 // 1,024 tracks, each a cylinder.

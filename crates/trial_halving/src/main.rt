@@ -1,4 +1,6 @@
 // Look-ups by halving: long lists spread over the drive, at its start and at its end, and short ones with every block and every sector.
+#![tactic(auto)]
+
 ghost use Rattle.std.specs.Prelude.{◌<◌};
 ghost use Rattle.paper.specs.Limits.{units_most};
 

@@ -1,4 +1,6 @@
 // Free places before a block: on a drive of eight spares, C 2, H 2, S 5 with two to a track, and on one of 260 in three table blocks, C 260, H 1, S 3 with one to a track.
+#![tactic(auto)]
+
 use shape::Shape;
 
 fn small() -> Shape {

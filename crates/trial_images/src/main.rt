@@ -1,4 +1,6 @@
 // The image of a sector at each of the two sizes: the code of some data; each part damaged, other lengths, each of the three codes and others, and writes that are refused. Then the images of one size at the other, and sizes that no sector has.
+#![tactic(auto)]
+
 ghost use Rattle.std.specs.Prelude.{◌<◌, ◌≤◌};
 
 use image::AT_HOME;

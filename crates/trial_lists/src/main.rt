@@ -1,4 +1,6 @@
 // The limit of a list: 65,536 entries and one more, asked of the translation, of a job and of a page.
+#![tactic(auto)]
+
 ghost use Rattle.std.specs.Prelude.{◌<◌};
 
 use skip::Cursor;

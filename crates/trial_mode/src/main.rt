@@ -1,4 +1,6 @@
 // The mode sector: the size is that of the first copy of the format table that says one. Copies that stand before it are forced, damaged, headed otherwise, or have another first word; and there are areas in which no copy says a size.
+#![tactic(auto)]
+
 use image::AT_HOME;
 use words::AT_PRIMARY;
 

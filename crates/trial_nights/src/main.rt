@@ -1,4 +1,6 @@
 // Nights: a Format that fills the list and the one after it, rooms that are too short, lists in use that are too long, the paper's night, and two nights as one.
+#![tactic(auto)]
+
 use format::Formatted;
 
 // What a room holds before a night: no entry of a drive of 200,000 sectors.

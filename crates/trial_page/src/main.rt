@@ -1,4 +1,6 @@
 // The smallest page and one byte less, the paper's page byte by byte, each of its fields damaged in turn, and pages that are not written.
+#![tactic(auto)]
+
 ghost use Rattle.std.specs.Prelude.{◌<◌};
 
 // A page without entries, written into a room that is a byte too short and into one that is a byte longer, and read at several lengths.

@@ -1,4 +1,6 @@
 // Reads at each of the two sizes: of blocks with each code in the header; of a replaced block through two track images of which the home's is out of date, and each of them damaged in turn; and with wrong groups. Then reads from the images of one size at the other, and at sizes that no sector has. Last the tracks that are to be fetched for a read.
+#![tactic(auto)]
+
 ghost use Rattle.std.specs.Prelude.{◌≤◌};
 
 use image::AT_HOME;

@@ -1,4 +1,6 @@
 // Bigger drives and their scratch: the customer's drive of 14,080 spares until none is left, two blocks with one mark in two windows, and scratch that is too short, full of ones, and longer than it must be; and reads, also at a size that no sector has.
+#![tactic(auto)]
+
 use shape::Shape;
 
 // The customer's drive, with one spare to a track.

@@ -1,4 +1,6 @@
 // The limit of spares: 65,536 and the next that a drive can have, in several shapes, with the table's length, the census of the first table and what is left of its scratch; lengths that are no table's; and groups that are wrong.
+#![tactic(auto)]
+
 use shape::Shape;
 
 // Writes the census of a table, and how many numbers of a scratch that was full of ones changed.

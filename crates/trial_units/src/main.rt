@@ -1,4 +1,6 @@
 // The limits of N and of a shape: the largest, one more, and a drive of one sector that is bad; groups that are right, and each way to get them wrong.
+#![tactic(auto)]
+
 ghost use Rattle.std.specs.Prelude.{◌<◌};
 ghost use Rattle.paper.specs.Limits.{units_most};
 

@@ -1,4 +1,6 @@
 // Words in lent bytes: numbers of two and four bytes, the most significant byte first, read and written at a place; and the word of a code and a number.
+#![tactic(auto)]
+
 ghost use Rattle.std.specs.Prelude.{◌≡◌, ◌+◌, ◌<◌, ◌≤◌, length};
 ghost use Rattle.std.proofs.lemmas.List.Edits.{sets};
 ghost use Rattle.words.specs.Coded.{code_unit, word_of, code_of, number_of, at_primary, elsewhere};
