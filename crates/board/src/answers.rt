@@ -23,7 +23,7 @@ use spares::{Counted, Replaced, Shifted};
 
 // Where a block lies, as a sector number.
 #[repr(C)]
-#[derive(Drop)]
+#[derive(Clone, Copy)]
 pub struct TbPlaced {
     pub refusal: u32,
     pub sector: u32,
@@ -31,7 +31,7 @@ pub struct TbPlaced {
 
 // Whether a block lies on a sector, 1 or 0, and the block.
 #[repr(C)]
-#[derive(Drop)]
+#[derive(Clone, Copy)]
 pub struct TbNamed {
     pub refusal: u32,
     pub found: u32,
@@ -40,7 +40,7 @@ pub struct TbNamed {
 
 // How many places of the lent room a result fills.
 #[repr(C)]
-#[derive(Drop)]
+#[derive(Clone, Copy)]
 pub struct TbWritten {
     pub refusal: u32,
     pub length: u32,
@@ -48,7 +48,7 @@ pub struct TbWritten {
 
 // Where a sector or a block lies, as an address.
 #[repr(C)]
-#[derive(Drop)]
+#[derive(Clone, Copy)]
 pub struct TbLocated {
     pub refusal: u32,
     pub address: Address,
@@ -56,7 +56,7 @@ pub struct TbLocated {
 
 // The sector of a block, and the cursor of the job.
 #[repr(C)]
-#[derive(Drop)]
+#[derive(Clone, Copy)]
 pub struct TbJob {
     pub refusal: u32,
     pub sector: u32,
@@ -65,7 +65,7 @@ pub struct TbJob {
 
 // A page as it was read.
 #[repr(C)]
-#[derive(Drop)]
+#[derive(Clone, Copy)]
 pub struct TbPaged {
     pub refusal: u32,
     pub kind: u32,
@@ -75,7 +75,7 @@ pub struct TbPaged {
 
 // The lengths of the new grown list and of the new list, and the new space.
 #[repr(C)]
-#[derive(Drop)]
+#[derive(Clone, Copy)]
 pub struct TbFormatted {
     pub refusal: u32,
     pub grown: u32,
@@ -85,7 +85,7 @@ pub struct TbFormatted {
 
 // How many cylinders a block is moved, negative toward cylinder 0.
 #[repr(C)]
-#[derive(Drop)]
+#[derive(Clone, Copy)]
 pub struct TbShifted {
     pub refusal: u32,
     pub shift: i32,
@@ -93,7 +93,7 @@ pub struct TbShifted {
 
 // The place that a replacement wrote.
 #[repr(C)]
-#[derive(Drop)]
+#[derive(Clone, Copy)]
 pub struct TbReplaced {
     pub refusal: u32,
     pub place: u32,
@@ -101,7 +101,7 @@ pub struct TbReplaced {
 
 // How many places of a table have each code.
 #[repr(C)]
-#[derive(Drop)]
+#[derive(Clone, Copy)]
 pub struct TbCounted {
     pub refusal: u32,
     pub free: u32,
@@ -113,7 +113,7 @@ pub struct TbCounted {
 
 // What the number of a header says: the code, and the block.
 #[repr(C)]
-#[derive(Drop)]
+#[derive(Clone, Copy)]
 pub struct TbHeaded {
     pub refusal: u32,
     pub code: u32,
@@ -122,14 +122,14 @@ pub struct TbHeaded {
 
 // A verdict.
 #[repr(C)]
-#[derive(Drop)]
+#[derive(Clone, Copy)]
 pub struct TbJudged {
     pub refusal: u32,
 }
 
 // The size of a sector's data.
 #[repr(C)]
-#[derive(Drop)]
+#[derive(Clone, Copy)]
 pub struct TbSized {
     pub refusal: u32,
     pub size: u32,
@@ -137,7 +137,7 @@ pub struct TbSized {
 
 // The home track of a block, the track that it lies on, and how many cylinders the arm moves between them, negative toward cylinder 0.
 #[repr(C)]
-#[derive(Drop)]
+#[derive(Clone, Copy)]
 pub struct TbTracks {
     pub refusal: u32,
     pub home_cylinder: u32,
@@ -149,7 +149,7 @@ pub struct TbTracks {
 
 // Where the data of a block begins: in image 0, that of its home track, or in image 1, the second one, and how far inside it.
 #[repr(C)]
-#[derive(Drop)]
+#[derive(Clone, Copy)]
 pub struct TbSpotted {
     pub refusal: u32,
     pub image: u32,

@@ -12,7 +12,7 @@ ghost use Rattle.first_table.specs.Steps.{marked_also, counted_also, CountsBad};
 use layout::{CODE_UNIT, Drive, FREE, NULL, UNUSABLE};
 
 // How many home blocks, and how many spares, a list of bad sectors names.
-#[derive(Drop)]
+#[derive(Clone, Copy)]
 pub struct Bad {
     pub homes: u32,
     pub spares: u32,

@@ -15,7 +15,7 @@ use paper::{BAD_OPTION, LIST_MOST, NO_ROOM, OPTION_MOST, SPACE_MOST, TOO_LONG};
 use walk::{Lengths, Sides};
 
 // The lengths of the new grown list and of the new list, and the new space.
-#[derive(Drop)]
+#[derive(Clone, Copy)]
 pub enum Formatted {
     Done(u32, u32, u32),
     Refused(u32),

@@ -10,14 +10,14 @@ ghost use Rattle.format.specs.Steps.{Walkable, Walks, Stepped, grown_of, listed_
 const ENDED: u32 = 4_294_967_295;
 
 // Of P and of the grown list: which are meant.
-#[derive(Drop)]
+#[derive(Clone, Copy)]
 pub struct Sides {
     pub p: bool,
     pub g: bool,
 }
 
 // How far the walk along P, G and D has come, and how many entries of the list that D is mapped over it has skipped.
-#[derive(Drop)]
+#[derive(Clone, Copy)]
 pub struct Walker {
     pub p: usize,
     pub g: usize,
@@ -26,7 +26,7 @@ pub struct Walker {
 }
 
 // The least entry that was left, whether the grown list and the new list take it, and how far the walk then is.
-#[derive(Drop)]
+#[derive(Clone, Copy)]
 pub struct Taken {
     pub entry: u32,
     pub grown: bool,
@@ -35,7 +35,7 @@ pub struct Taken {
 }
 
 // How many entries the grown list and the new list have.
-#[derive(Drop)]
+#[derive(Clone, Copy)]
 pub struct Lengths {
     pub grown: u32,
     pub listed: u32,

@@ -26,14 +26,14 @@ const COPIES_LEAST: u32 = 3;
 const CODE_MOST: u16 = 0xFFFF;
 
 // What the number of a header says: the code, and the block.
-#[derive(Drop)]
+#[derive(Clone, Copy)]
 pub enum Head {
     Of(u32, u32),
     Refused(u32),
 }
 
 // Whether an image is good.
-#[derive(Drop)]
+#[derive(Clone, Copy)]
 pub enum Verdict {
     Good,
     Refused(u32),

@@ -27,7 +27,7 @@ fn codes_agree()
 {}
 
 // The numbers of a revectored drive: T tracks, H heads, l home sectors and r spares of a track, T × r spares and T × l home blocks.
-#[derive(Drop)]
+#[derive(Clone, Copy)]
 pub struct Drive {
     pub tracks: u32,
     pub heads: u32,

@@ -62,7 +62,7 @@ pub fn space_fault(n: u32, list: &[u32]) -> u32
 }
 
 // The next entry of a union, and how many entries of each list lie before the one after it.
-#[derive(Drop)]
+#[derive(Clone, Copy)]
 pub struct Taken {
     pub entry: u32,
     pub left: usize,

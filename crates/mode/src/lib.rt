@@ -14,7 +14,7 @@ use words::CODE_UNIT;
 const XBN_BYTES: usize = DATA_SIZE + IMAGE_EXTRA;
 
 // The size of a sector's data.
-#[derive(Drop)]
+#[derive(Clone, Copy)]
 pub enum Mode {
     Of(u32),
     Refused(u32),

@@ -45,7 +45,7 @@ fn places_agree()
 {}
 
 // A page as it was read: kind, N, entries.
-#[derive(Drop)]
+#[derive(Clone, Copy)]
 pub enum Paged {
     Page(u32, u32, u32),
     Refused(u32),

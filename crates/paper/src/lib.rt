@@ -134,14 +134,14 @@ fn limits_agree()
 {}
 
 // Where a block lies, as a sector number.
-#[derive(Drop)]
+#[derive(Clone, Copy)]
 pub enum Placed {
     At(u32),
     Refused(u32),
 }
 
 // The block that lies on a sector; none where the sector is passed over, is a spare that holds no block, or is the home of a replaced block.
-#[derive(Drop)]
+#[derive(Clone, Copy)]
 pub enum Named {
     Block(u32),
     NoBlock,
@@ -149,7 +149,7 @@ pub enum Named {
 }
 
 // How many places of the lent room a result fills.
-#[derive(Drop)]
+#[derive(Clone, Copy)]
 pub enum Written {
     Length(u32),
     Refused(u32),

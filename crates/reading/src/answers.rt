@@ -1,6 +1,6 @@
 // The answers that `reading` gives beside those of the crates under it.
 // Where the data of a block begins: how far inside the image of its home track, or inside the second one.
-#[derive(Drop)]
+#[derive(Clone, Copy)]
 pub enum Spot {
     InHome(u32),
     InSpare(u32),
@@ -8,14 +8,14 @@ pub enum Spot {
 }
 
 // A track by its cylinder and head.
-#[derive(Drop)]
+#[derive(Clone, Copy)]
 pub struct Track {
     pub cylinder: u32,
     pub head: u32,
 }
 
 // The two tracks of a block, its home track and the one that it lies on; and how many cylinders the arm moves from the first to the second, negative toward cylinder 0.
-#[derive(Drop)]
+#[derive(Clone, Copy)]
 pub struct Pair {
     pub home: Track,
     pub there: Track,
@@ -23,7 +23,7 @@ pub struct Pair {
 }
 
 // The tracks to fetch for a read of a block.
-#[derive(Drop)]
+#[derive(Clone, Copy)]
 pub enum Tracks {
     Fetch(Pair),
     Refused(u32),

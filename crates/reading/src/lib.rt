@@ -47,7 +47,7 @@ pub fn tracks(shape: Shape, r: u32, table: &[u32], scratch: &mut [u32], block: u
 }
 
 // Where a block lies: whether on a spare, and on which sector of the track; and the number that the header there must carry.
-#[derive(Drop)]
+#[derive(Clone, Copy)]
 struct Seat {
     replaced: bool,
     sector: usize,

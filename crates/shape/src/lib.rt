@@ -14,7 +14,7 @@ use paper::{
 // How many cylinders, heads and sectors per track a drive has: the paper's C, H and S. Its heads are g groups of t tracks, and each group starts
 // an offset of sectors after the one before it.
 #[repr(C)]
-#[derive(Drop)]
+#[derive(Clone, Copy)]
 pub struct Shape {
     pub cylinders: u32,
     pub heads: u32,
@@ -26,7 +26,7 @@ pub struct Shape {
 
 // A sector by its cylinder, its head and its place on the track, and the angle at which it passes the head.
 #[repr(C)]
-#[derive(Drop)]
+#[derive(Clone, Copy)]
 pub struct Address {
     pub cylinder: u32,
     pub head: u32,
@@ -35,7 +35,7 @@ pub struct Address {
 }
 
 // Where a sector or a block lies, as an address.
-#[derive(Drop)]
+#[derive(Clone, Copy)]
 pub enum Located {
     At(Address),
     Refused(u32),

@@ -13,14 +13,14 @@ use paper::{NO_SUCH_BLOCK, NO_SUCH_SECTOR, Named, Placed, STRAY_CURSOR};
 
 // A job's next block, and how many entries of the list lie below the sector of the block before that one: 0 at block 0.
 #[repr(C)]
-#[derive(Drop)]
+#[derive(Clone, Copy)]
 pub struct Cursor {
     pub block: u32,
     pub skipped: u32,
 }
 
 // A job that is ready at its cursor; the sector of a block, and the cursor of the next block; or a refusal, and the cursor that it hands back.
-#[derive(Drop)]
+#[derive(Clone, Copy)]
 pub enum Job {
     Ready(Cursor),
     At(u32, Cursor),

@@ -9,21 +9,21 @@ use paper::{NO_SPARE, NO_SUCH_SECTOR, Named, Placed, Written};
 use shape::{Located, Shape};
 
 // How many cylinders a block is moved, negative toward cylinder 0.
-#[derive(Drop)]
+#[derive(Clone, Copy)]
 pub enum Shifted {
     By(i32),
     Refused(u32),
 }
 
 // The place that a replacement wrote.
-#[derive(Drop)]
+#[derive(Clone, Copy)]
 pub enum Replaced {
     Place(u32),
     Refused(u32),
 }
 
 // How many places of the table have each code.
-#[derive(Drop)]
+#[derive(Clone, Copy)]
 pub enum Counted {
     Counts(table::Census),
     Refused(u32),

@@ -19,7 +19,7 @@ use paper::{BAD_TABLE, NO_ROOM, NO_SUCH_BLOCK, Named, TABLE_BLOCK};
 use shape::Shape;
 
 // How many places of a table have each code.
-#[derive(Drop)]
+#[derive(Clone, Copy)]
 pub struct Census {
     pub free: u32,
     pub primary: u32,

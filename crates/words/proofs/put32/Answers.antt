@@ -1,0 +1,15 @@
+-- The four stores are the run of stores that the contract states, each of a digit as the definition takes it.
+use borrow.Author.Rules.{rules}
+use native.Mathlib.Numerals.{towards_suc}
+use native.Mathlib.Omega.{arith}
+use lib.ListN.{length-set}
+use Rattle.words.specs.Words.{bytes32}
+use Rattle.words.proofs.put32.Goals as goal
+
+-- ?? need same-length has no goal now
+-- same_length : tie.Need-same-length
+-- same_length c = search rules
+
+pub returns : goal.returns
+unfolding bytes32
+returns c = simp towards_suc
