@@ -29,7 +29,7 @@ module _ (Refused Accepted : Bor (List ℕ) → Type 0) (part : Bor (List ℕ)) 
 
 -- the part of lent bytes at a place
 abbrev pub part_at : Bor (List ℕ) → ℕ → List ℕ → Bor (List ℕ)
-part_at bytes at held = record { ref_ptr = (bytes.ptr.0, at + bytes.ptr.1); ghost_name = bytes.name; now = held }
+part_at bytes at held = record { ref_ptr = (bytes.ref_ptr.0, at + bytes.ref_ptr.1); now = held }
 
 pub lends_one :
     (bytes : Bor (List ℕ)) (at : ℕ) (held : List ℕ) (first second : Bor (List ℕ)) →
@@ -75,7 +75,7 @@ module _ (size : ℕ) (image : Bor (List ℕ)) (block code : ℕ) where
     pub accepted-data : image_fault size image.now block code ≡ 0 → part.now ≡ data_of size image.now
     accepted-data none = (part-accepted Empty Whole part fault none lent).holds
 
-    pub accepted-lies : image_fault size image.now block code ≡ 0 → part.ptr ≡ (image.ref_ptr.0, header_size + image.ref_ptr.1)
+    pub accepted-lies : image_fault size image.now block code ≡ 0 → part.ref_ptr ≡ (image.ref_ptr.0, header_size + image.ref_ptr.1)
     accepted-lies none = (part-accepted Empty Whole part fault none lent).lies
 
     pub empty-refused : 0 < size → part.now ≡ [] → image_fault size image.now block code ≡ 0 → ⊥

@@ -81,9 +81,12 @@ entries_at-second first rest at count =
 
 -- the entries of a list's bytes are the list
 pub entries_at-bytes_of : (list rest : List ℕ) → Fits32 list → entries_at (bytes_of list ++ rest) 0 (length list) ≡ list
-unfolding bytes_of entries_at
+unfolding bytes_of entries_at bytes32
 entries_at-bytes_of [] rest fits = refl
-entries_at-bytes_of (n ∷ list) rest fits = rw (append_assoc (bytes32 n) (bytes_of list) rest, first, others, entries_at-bytes_of list rest (λ k. fits (suc k)))
+entries_at-bytes_of (n ∷ list) rest fits =
+    rw
+    (append_assoc (bytes32 n) (bytes_of list) rest, first)
+    (ap (λ (tail : List ℕ). n ∷ tail) (others ∙ entries_at-bytes_of list rest (λ k. fits (suc k))))
   where
     first : word32_at (bytes32 n ++ (bytes_of list ++ rest)) 0 ≡ n
     first = word32-first (bytes32 n) (bytes_of list ++ rest) 0 (omega (arith, length-bytes32 n)) ∙ word32-bytes32 n (fits 0)

@@ -1,8 +1,5 @@
 -- The four stores are the run of stores that the contract states, each of a digit as the definition takes it.
-use borrow.Author.Rules.{rules}
 use native.Mathlib.Numerals.{towards_suc}
-use native.Mathlib.Omega.{arith}
-use lib.ListN.{length-set}
 use Rattle.words.specs.Words.{bytes32}
 use Rattle.words.proofs.put32.Goals as goal
 

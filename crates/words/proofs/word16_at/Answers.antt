@@ -1,5 +1,4 @@
 -- `be16` is handed the two bytes of the definition.
-use borrow.Author.Rules.{rules}
 use Rattle.words.specs.Words.{word16_at}
 use Rattle.words.proofs.word16_at.Goals as goal
 

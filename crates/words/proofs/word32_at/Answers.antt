@@ -1,5 +1,4 @@
 -- `be32` is handed the four bytes of the definition.
-use borrow.Author.Rules.{rules}
 use Rattle.words.specs.Words.{word32_at}
 use Rattle.words.proofs.word32_at.Goals as goal
 
