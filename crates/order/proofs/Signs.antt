@@ -44,7 +44,7 @@ minus_is d short = rw (distance_is d short) (+ℤ_idl (neg_ℤ (pos d)))
 
 -- a signed number as it is read again from its bits
 pub read_again : (k : ℤ) → mag k < 2 ^ 31 → to_z w32 (of_z w32 k) ≡ k
-read_again k small = to_z-of_z (record { sfits = small })
+read_again k small = to_z-of_z {w = w32} (record { sfits = small })
 
 -- the same for a place and an offset
 pub sum_is : (o : ℕ) (k : ℤ) → o < table_block → SFits w32 k → to_z w32 o +ℤ to_z w32 (of_z w32 k) ≡ pos o +ℤ k
