@@ -1,0 +1,11 @@
+-- The loop's invariant: the count lies from `least` to `most`, and the entry to look at in the lower half of what is left. An entry that is at most the address on the way to it is passed with all before it, since the list rises; one above that address is not passed, nor any after it.
+use Prim.Native.Nat.{◌≤◌, ◌-◌, ◌+◌, ◌*◌}
+use lib.ListN.{length}
+use Rattle.skip.specs.Walk.{passes}
+use Rattle.skip.proofs.passed.Given as goal
+
+abbrev pub invariant-loop-least : goal.invariant-loop-least
+invariant-loop-least l = (l.least ≤ passes l.list l.block) × (passes l.list l.block ≤ l.most) × (l.most ≤ length l.list) × (l.least ≤ l.at) × (2 * l.at ≤ l.least + l.most)
+
+abbrev pub decreases-loop-least : goal.decreases-loop-least
+decreases-loop-least l = l.most - l.least
