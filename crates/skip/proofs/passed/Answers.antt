@@ -2,15 +2,10 @@
 use native.Mathlib.Omega.{arith}
 use Rattle.skip.proofs.Walks.{passes-le}
 use Rattle.skip.proofs.Passing.{passes-at-least, passes-at-most}
-use Rattle.skip.proofs.passed.Goals.{then-block-at, else-block-at}
 use Rattle.skip.proofs.passed.Goals as goal
 
 pub loop-least-init : goal.loop-least-init
 loop-least-init c = omega (arith, c.requires.from_bound, passes-le c.args.list.now c.args.block)
 
 pub loop-least-preserved : goal.loop-least-preserved
-loop-least-preserved c =
-    elim c.if-block-at.branch [
-      | then-block-at over ↦ omega (arith, passes-at-most c.args.list.now c.args.block c.loop-least.at (omega arith))
-      | else-block-at on ↦ omega (arith, passes-at-least c.args.list.now c.args.block c.loop-least.at c.requires.rising (omega arith) (omega arith))
-    ]
+loop-least-preserved c = grind (arith, passes-at-most c.args.list.now c.args.block c.loop-least.at, passes-at-least c.args.list.now c.args.block c.loop-least.at c.requires.rising)
