@@ -1,4 +1,4 @@
-//! Links the proved static library, which `rt staticlib board` writes for x86-64.
+//! Links the proved static library, which `rt lib` in `crates/board` writes for x86-64.
 //!
 //! On another processor it links what `./build` lays in its place there: the same calls, each handed
 //! to the proved library under the kit's emulator (`emulated/`). That serves the tests, not a board.
@@ -15,7 +15,7 @@ use std::process::exit;
 fn main() {
     let x86_64 = env::var("CARGO_CFG_TARGET_ARCH").is_ok_and(|machine| machine == "x86_64");
     let (archive, command) = if x86_64 {
-        ("../target/staticlib/libboard.a", "rt staticlib board")
+        ("../crates/board/out/libboard.a", "cd crates/board && rt lib")
     } else {
         ("../target/emulated/libboard.a", "./build")
     };

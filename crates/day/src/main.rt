@@ -307,7 +307,7 @@ fn morning(size: u32, table: &[u32], bytes: &mut [u8; BYTES]) {
     telling::line(b"Morning: the pump runs");
     telling::number(b"The gauge log is block ", GAUGE);
     tell_place(b". It", table);
-    write_gauge(size, table, bytes, b"vacuum 82 k_pa", AT_HOME);
+    write_gauge(size, table, bytes, b"vacuum 82 kPa", AT_HOME);
     tell_read(size, table, bytes);
     telling::end();
 }
@@ -356,14 +356,14 @@ fn turn_bit(table: &[u32], bytes: &mut [u8; BYTES]) {
 fn afternoon(size: u32, table: &mut [u32], bytes: &mut [u8; BYTES], home: u32, code: u32) {
     telling::line(b"Afternoon: the pump slows down");
     copy_old(size, table, bytes, home);
-    write_gauge(size, table, bytes, b"vacuum 79 k_pa", code);
+    write_gauge(size, table, bytes, b"vacuum 79 kPa", code);
     tell_read(size, table, bytes);
     tell_old(size, bytes, home);
     turn_bit(table, bytes);
     tell_read(size, table, bytes);
     let again = tell_replacement(GAUGE, b", the gauge log,", table);
     tell_place(b"The gauge log now", table);
-    write_gauge(size, table, bytes, b"vacuum 78 k_pa", again);
+    write_gauge(size, table, bytes, b"vacuum 78 kPa", again);
     tell_read(size, table, bytes);
     telling::end();
 }

@@ -7,29 +7,30 @@ pub mod answers;
 pub mod asking;
 pub mod shapes;
 
-use libc::STDOUT_FILENO;
+// The number of the file that standard output is.
+const STANDARD_OUTPUT: i32 = 1;
 
 // Writes words. Only other crates call this.
 pub fn text(words: &[u8]) {
-    io::write_all(STDOUT_FILENO, words);
+    io::write_all(STANDARD_OUTPUT, words);
 }
 
 // Writes words and then a number. Only other crates call this.
 pub fn number(words: &[u8], n: u32) {
     text(words);
-    io::print_decimal(STDOUT_FILENO, n as u64);
+    io::print_decimal(STANDARD_OUTPUT, n as u64);
 }
 
 // Writes words and then a count. Only other crates call this.
 pub fn count(words: &[u8], n: usize) {
     text(words);
-    io::print_decimal(STDOUT_FILENO, n as u64);
+    io::print_decimal(STANDARD_OUTPUT, n as u64);
 }
 
 // Writes words and then a descriptor, in eight hexadecimal digits. Only other crates call this.
 pub fn descriptor(words: &[u8], word: u32) {
     text(words);
-    io::print_hex(STDOUT_FILENO, word as u64, 8);
+    io::print_hex(STANDARD_OUTPUT, word as u64, 8);
 }
 
 // A number without its sign.
@@ -90,7 +91,7 @@ pub fn list(words: &[u8], entries: &[u32]) {
 // Writes a byte in two hexadecimal digits, with a space before it.
 fn byte(n: u8) {
     text(b" ");
-    io::print_hex(STDOUT_FILENO, n as u64, 2);
+    io::print_hex(STANDARD_OUTPUT, n as u64, 2);
 }
 
 // Writes words and then bytes, and ends the line. Only other crates call this.
