@@ -1,0 +1,5 @@
+-- Each call is for a number of fewer digits.
+use Rattle.listing_text.proofs.+put_number.Given as goal
+
+abbrev pub decreases-put_number : goal.decreases-put_number
+decreases-put_number l = l.number
