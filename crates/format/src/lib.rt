@@ -61,13 +61,13 @@ fn rows_agree() -> [[u32; 3]; 8]
 
 // And so are its names.
 fn names_agree()
-    ensures value { NONE ≡ none }
+    ensures none_value { NONE ≡ none }
     ensures in_blocks_value { IN_BLOCKS ≡ in_blocks }
     ensures in_sectors_value { IN_SECTORS ≡ in_sectors }
-    ensures value_2 { KEEP ≡ keep }
-    ensures value_3 { ADD ≡ add }
-    ensures value_4 { CLEAR ≡ clear }
-    ensures value_5 { REPLACE ≡ replace }
+    ensures keep_value { KEEP ≡ keep }
+    ensures add_value { ADD ≡ add }
+    ensures clear_value { CLEAR ≡ clear }
+    ensures replace_value { REPLACE ≡ replace }
     ensures as_before_value { AS_BEFORE ≡ as_before }
 {}
 

@@ -86,7 +86,7 @@ fn head(list: &[u32], i: usize, skipped: u32) -> u32
 fn step(over: Sides, takes: Sides, p: &[u32], g: &[u32], d: &[u32], at: Walker) -> Taken
     requires walkable { Walkable p.now g.now d.now }
     requires walks { Walks over p.now g.now d.now at }
-    requires d_in_bounds { at.p + at.g + at.d < length p.now + length g.now + length d.now }
+    requires entry_left { at.p + at.g + at.d < length p.now + length g.now + length d.now }
     ensures { Stepped over takes p.now g.now d.now at result }
 {
     let head_p = head(p, at.p, 0);
@@ -161,8 +161,8 @@ pub fn fill(
     listed: &mut [u32],
 )
     requires walkable { Walkable p.now g.now d.now }
-    requires d_in_bounds { length (grown_of over p.now g.now d.now) ≤ length grown.old }
-    requires d_in_bounds_2 { length (listed_of over takes p.now g.now d.now) ≤ length listed.old }
+    requires grown_room { length (grown_of over p.now g.now d.now) ≤ length grown.old }
+    requires listed_room { length (listed_of over takes p.now g.now d.now) ≤ length listed.old }
     ensures grown_after { grown.new ≡ written (grown_of over p.now g.now d.now) grown.old }
     ensures listed_after { listed.new ≡ written (listed_of over takes p.now g.now d.now) listed.old }
 {

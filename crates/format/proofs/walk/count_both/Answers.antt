@@ -1,0 +1,12 @@
+-- The loop's invariant: the walk goes right, and what is counted and what is left of each list are its whole length.
+use mathlib.Core.Path.{ap}
+use native.Mathlib.Omega.{arith}
+use lib.ListN.{length}
+use Rattle.format.proofs.Passes.{grown-none, listed-none}
+use Rattle.format.proofs.walk.count_both.Goals as goal
+
+pub returns-clause-grown_value : goal.returns-clause-grown_value
+returns-clause-grown_value c = omega (arith, c.loop-at.invariant.3, ap length (grown-none c.args.over c.args.takes c.args.p.now c.args.g.now c.args.d.now c.loop-at.at c.loop-at.invariant.0 c.loop-at-test.false))
+
+pub returns-clause-listed_value : goal.returns-clause-listed_value
+returns-clause-listed_value c = omega (arith, c.loop-at.invariant.4, ap length (listed-none c.args.over c.args.takes c.args.p.now c.args.g.now c.args.d.now c.loop-at.at c.loop-at.invariant.0 c.loop-at-test.false))
