@@ -431,7 +431,7 @@ compares_block size shape r t scratch b home spare =
 
 -- the part of lent bytes that begins at a place of them
 abbrev pub part_at : Bor (List ℕ) → ℕ → List ℕ → Bor (List ℕ)
-part_at bytes at held = record { ref_ptr = (bytes.ptr.0, at + bytes.ptr.1); ghost_name = bytes.name; now = held }
+part_at bytes at held = record { ref_ptr = (bytes.ref_ptr.0, at + bytes.ref_ptr.1); now = held }
 
 -- the sector image at a block's home
 abbrev pub home_image : ℕ → Shape → ℕ → ℕ → List ℕ → List ℕ

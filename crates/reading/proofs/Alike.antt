@@ -102,11 +102,11 @@ module _ (size : ℕ) (shape : Shape) (r : ℕ) (t scratch scratch' : List ℕ) 
           refused-empty size shape r t scratch b home spare part first some
           ∙ sym (refused-empty size shape r t scratch' b home' spare' part' second (λ none. some (read_alike agree ∙ none))))
 
-      pub part_placed : home.ptr ≡ home'.ptr → spare.ptr ≡ spare'.ptr → part.ptr ≡ part'.ptr
+      pub part_placed : home.ref_ptr ≡ home'.ref_ptr → spare.ref_ptr ≡ spare'.ref_ptr → part.ref_ptr ≡ part'.ref_ptr
       part_placed homes spares =
           by_fault (block_read_fault size shape r t scratch b home.now spare.now)
           (λ none.
-          let track : (track_of t b home spare).ptr ≡ (track_of t b home' spare').ptr = track-ptr t b home spare ∙ rw (homes, spares) (sym (track-ptr t b home' spare')) in
+          let track : (track_of t b home spare).ref_ptr ≡ (track_of t b home' spare').ref_ptr = track-ptr t b home spare ∙ rw (homes, spares) (sym (track-ptr t b home' spare')) in
           (accepted-part size shape r t scratch b home spare part first none).lies
           ∙ rw track (sym (accepted-part size shape r t scratch' b home' spare' part' second (sym (read_alike agree) ∙ none)).lies))
           (λ some.

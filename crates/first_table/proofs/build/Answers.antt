@@ -1,0 +1,14 @@
+-- The front of the room is the marked table, in which the bad home blocks are ready to be replaced, and the room beyond it is as it was.
+use borrow.Author.Rules.{rules}
+use Rattle.first_table.proofs.Tables.{front_length, front-ready, front-built}
+use Rattle.first_table.proofs.build.Goals as goal
+
+pub replace_all-requires-clause-replaceable : goal.replace_all-requires-clause-replaceable
+replace_all-requires-clause-replaceable c =
+    let a = c.args in
+    front-ready a.drive a.list.now _ a.room.now c.table_length-long.result c.table_length-long.ensures c.mark.ensures c.requires.laid c.requires.list_len_bound
+
+pub returns : goal.returns
+returns c =
+    let a = c.args in
+    front-built a.drive a.list.now _ a.room.now c.table_length-long.result c.table_length-long.ensures c.mark.ensures c.requires.laid c.requires.list_len_bound _ c.replace_all.ensures

@@ -1,0 +1,16 @@
+-- The loop's invariant: the room holds the table that the entries passed mark. An entry more is one more bad sector.
+use Prim.Native.Nat.{◌≤◌, ◌-◌}
+use mathlib.Core.Path.{◌≡◌, sym, ◌∙◌}
+use mathlib.Core.List.{[]}
+use native.Mathlib.Omega.{arith}
+use lib.ListN.{length, take}
+use Rattle.paper.specs.Promise.{written}
+use Rattle.first_table.specs.Marks.{marked}
+use Rattle.first_table.proofs.Marked.{written-marks, marked-keeps, marked-over, marked_next, marked_all}
+use Rattle.first_table.proofs.marks.mark.Given as goal
+
+abbrev pub invariant-loop-i : goal.invariant-loop-i
+invariant-loop-i l = (l.i ≤ length l.list) × (l.room ≡ written (marked l.drive (take l.i l.list)) l.initial.room)
+
+abbrev pub decreases-loop-i : goal.decreases-loop-i
+decreases-loop-i l = length l.list - l.i
