@@ -30,10 +30,6 @@ filled table scratch count place found inside is so_far q low high =
     (λ same. rw (same, get_or-set_same scratch (place - 1) found 0 inside) is)
     (λ other. get_or-set_other scratch (place - 1) q found 0 other ∙ so_far q (omega arith) high)
 
--- ?? need same-length has no goal now
--- same_length : tie.Need-same-length invariant-loop decreases-loop
--- same_length c = c.before.loop.invariant.3
-
 pub loop-place-preserved : goal.loop-place-preserved
 loop-place-preserved c =
     let step = stepped c.args.table.now c.loop-place.place c.loop-place.next c.next_at-next.result (omega arith) (omega arith) c.loop-place.invariant.0 c.next_at-next.ensures in (
