@@ -4,7 +4,6 @@ use Prim.Native.Nat.{ℕ}
 use mathlib.Core.Path.{◌≡◌, refl, sym, ◌∙◌}
 use mathlib.Core.List.{List}
 use denote.Ref.{Bor}
-use Rattle.paper.specs.Checks.{◌or_else◌}
 use Rattle.paper.specs.Limits.{Size, data_size_fault}
 use Rattle.paper.proofs.Chain.{or_else-first, or_else-some, answer-refused}
 use Rattle.paper.proofs.Kept.{gives-number}

@@ -3,10 +3,6 @@ use native.Mathlib.Numerals.{towards_suc}
 use Rattle.words.specs.Words.{bytes32}
 use Rattle.words.proofs.put32.Goals as goal
 
--- ?? need same-length has no goal now
--- same_length : tie.Need-same-length
--- same_length c = search rules
-
 pub returns : goal.returns
 unfolding bytes32
 returns c = simp towards_suc
