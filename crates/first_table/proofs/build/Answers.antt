@@ -1,6 +1,5 @@
 -- The front of the room is the marked table, in which the bad home blocks are ready to be replaced, and the room beyond it is as it was.
-use borrow.Author.Rules.{rules}
-use Rattle.first_table.proofs.Tables.{front_length, front-ready, front-built}
+use Rattle.first_table.proofs.Tables.{front-ready, front-built}
 use Rattle.first_table.proofs.build.Goals as goal
 
 pub replace_all-requires-clause-replaceable : goal.replace_all-requires-clause-replaceable

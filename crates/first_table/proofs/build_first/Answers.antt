@@ -1,15 +1,6 @@
 -- Where a check refuses nothing is written, and where none does the checks show what the table needs.
-use borrow.Author.Rules.{rules}
-use mathlib.Core.Path.{◌≡◌, refl, sym, ◌∙◌, ap}
-use native.Mathlib.Omega.{arith}
-use Rattle.paper.specs.Promise.{written}
-use Rattle.paper.proofs.Kept.{fills-refuses, fills-accepts}
-use Rattle.layout.specs.declared.Drive.{Drive}
-use Rattle.layout.specs.Layouts.{drive_of}
+use mathlib.Core.Path.{sym, ◌∙◌}
 use Rattle.layout.proofs.Layings.{laid}
-use Rattle.table.specs.Places.{table_length}
-use Rattle.table.proofs.Obeying.{table-few}
-use Rattle.first_table.specs.Tables.{first_table}
 use Rattle.first_table.proofs.Exact.{laid-proper, first-shows}
 use Rattle.first_table.proofs.build_first.Goals as goal
 

@@ -1,18 +1,9 @@
 -- Each return is one way through the checks, and what the checks before it passed is what the calls need.
-use borrow.Author.Rules.{rules}
-use mathlib.Core.Path.{◌≡◌, sym, ◌∙◌, ap}
-use native.Mathlib.Omega.{arith}
-use lib.ListN.{length}
-use borrow.Author.Tests.{lt-ltb, le-ltb}
-use Rattle.paper.proofs.Chain.{or_else-some}
+use mathlib.Core.Path.{sym, ◌∙◌}
 use Rattle.lists.proofs.Exact.{list-shows}
 use Rattle.shape.specs.Shapes.{size_of}
-use Rattle.layout.specs.declared.Drive.{Drive}
-use Rattle.layout.specs.Layouts.{drive_of}
 use Rattle.layout.proofs.Exact.{drive-shows}
 use Rattle.layout.proofs.Layings.{laid}
-use Rattle.table.specs.Places.{table_length}
-use Rattle.first_table.specs.Tables.{spare_fault}
 use Rattle.first_table.proofs.Exact.{laid-proper}
 use Rattle.first_table.proofs.first_table_fault.Goals as goal
 

@@ -1,9 +1,7 @@
 -- The loop's invariant: the blocks that are left are ready in the table, and replaced in it they give the table of the contract.
 use Prim.Native.Nat.{◌-◌}
-use mathlib.Core.Path.{sym, ◌∙◌}
-use native.Mathlib.Omega.{arith}
 use lib.ListN.{length}
-use Rattle.first_table.proofs.Along.{Along, along-none, along-free, along-more, along-all}
+use Rattle.first_table.proofs.Along.{Along}
 use Rattle.first_table.proofs.replace_all.Given as goal
 
 abbrev pub invariant-loop-i : goal.invariant-loop-i

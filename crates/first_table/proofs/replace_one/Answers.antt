@@ -1,8 +1,6 @@
 -- A home block is below the number of blocks, and where a place is free there is a spare for it.
-use borrow.Author.Rules.{rules}
 use mathlib.Core.Path.{◌≡◌, sym, ◌∙◌}
-use mathlib.Core.Bool.{true, false}
-use borrow.Author.Tests.{not-true, not-false}
+use mathlib.Core.Bool.{true}
 use Rattle.layout.specs.Sides.{is_home}
 use Rattle.first_table.proofs.Numbering.{block_in}
 use Rattle.first_table.proofs.Replacings.{free-found}

@@ -22,14 +22,12 @@ pub lying_on-requires-clause-laid : goal.lying_on-requires-clause-laid
 lying_on-requires-clause-laid c =
     let a = c.args in
     let sound = table-sound a.shape a.r a.table.now a.scratch.now (sym c.table_fault-fault.ensures.value ∙ c.if-fault-ne0.false) in
-    let on-drive = place-shows a.shape a.cylinder a.head a.sector (sym c.off_drive_fault-fault.ensures ∙ c.if-fault-ne0-2.false) in
     rw c.drive_of.ensures (sound-laid sound)
 
 pub lying_on-requires-clause-obeys : goal.lying_on-requires-clause-obeys
 lying_on-requires-clause-obeys c =
     let a = c.args in
     let sound = table-sound a.shape a.r a.table.now a.scratch.now (sym c.table_fault-fault.ensures.value ∙ c.if-fault-ne0.false) in
-    let on-drive = place-shows a.shape a.cylinder a.head a.sector (sym c.off_drive_fault-fault.ensures ∙ c.if-fault-ne0-2.false) in
     rw c.drive_of.ensures (sound-obeys sound)
 
 pub lying_on-requires-clause-sector_bound : goal.lying_on-requires-clause-sector_bound

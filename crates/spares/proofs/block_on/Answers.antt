@@ -1,8 +1,5 @@
 -- The table's fault and the comparison with N are the chain of the definition, and a sector below N is one of the layout's.
 use mathlib.Core.Path.{sym, ◌∙◌}
-use Prim.Native.Nat.{◌<◌}
-use native.Mathlib.Omega.{arith}
-use Rattle.shape.specs.Shapes.{size_of}
 use Rattle.table.proofs.Exact.{sound-laid, sound-obeys, table-sound}
 use Rattle.spares.proofs.block_on.Goals as goal
 
@@ -22,12 +19,10 @@ pub lying_on-requires-clause-laid : goal.lying_on-requires-clause-laid
 lying_on-requires-clause-laid c =
     let a = c.args in
     let sound = table-sound a.shape a.r a.table.now a.scratch.now (sym c.table_fault-fault.ensures.value ∙ c.if-fault-ne0.false) in
-    let below : a.sector < size_of a.shape = omega (arith, c.size_of.ensures) in
     rw c.drive_of.ensures (sound-laid sound)
 
 pub lying_on-requires-clause-obeys : goal.lying_on-requires-clause-obeys
 lying_on-requires-clause-obeys c =
     let a = c.args in
     let sound = table-sound a.shape a.r a.table.now a.scratch.now (sym c.table_fault-fault.ensures.value ∙ c.if-fault-ne0.false) in
-    let below : a.sector < size_of a.shape = omega (arith, c.size_of.ensures) in
     rw c.drive_of.ensures (sound-obeys sound)

@@ -1,19 +1,10 @@
 -- The loop's invariant: what is written and what is left of the clear table are that table, and the room beyond is as it was.
-use Prim.Native.Nat.{◌≤◌, ◌-◌}
 use mathlib.Core.Path.{◌∙◌}
 use mathlib.Core.List.{[]}
 use native.Mathlib.Omega.{arith}
-use lib.ListN.{length}
-use Rattle.lists.proofs.Filling.{Filled, filled_none, filled_more, filled-all}
-use Rattle.table.specs.Places.{table_length}
-use Rattle.table.proofs.Obeying.{table-few}
-use Rattle.first_table.specs.Marks.{marked}
-use Rattle.first_table.proofs.Marked.{marked-length, marked_from, from_first, from_next, from_last}
+use Rattle.lists.proofs.Filling.{filled_none, filled_more, filled-all}
+use Rattle.first_table.proofs.Marked.{marked-length, from_first, from_next, from_last}
 use Rattle.first_table.proofs.marks.clear.Goals as goal
-
--- ?? need same-length has no goal now
--- same_length : tie.Need-same-length invariant-loop decreases-loop
--- same_length c = c.before.loop.invariant.1.same_length
 
 pub loop-place-init : goal.loop-place-init
 loop-place-init c = (omega arith, rw (← from_first c.args.drive []) (filled_none _ _ (rw (marked-length c.args.drive []) c.requires.drive_in_bounds)))

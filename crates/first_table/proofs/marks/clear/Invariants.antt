@@ -1,14 +1,10 @@
 -- The loop's invariant: what is written and what is left of the clear table are that table, and the room beyond is as it was.
 use Prim.Native.Nat.{◌≤◌, ◌-◌}
-use mathlib.Core.Path.{◌∙◌}
 use mathlib.Core.List.{[]}
-use native.Mathlib.Omega.{arith}
-use lib.ListN.{length}
-use Rattle.lists.proofs.Filling.{Filled, filled_none, filled_more, filled-all}
+use Rattle.lists.proofs.Filling.{Filled}
 use Rattle.table.specs.Places.{table_length}
-use Rattle.table.proofs.Obeying.{table-few}
 use Rattle.first_table.specs.Marks.{marked}
-use Rattle.first_table.proofs.Marked.{marked-length, marked_from, from_first, from_next, from_last}
+use Rattle.first_table.proofs.Marked.{marked_from}
 use Rattle.first_table.proofs.marks.clear.Given as goal
 
 abbrev pub invariant-loop-place : goal.invariant-loop-place

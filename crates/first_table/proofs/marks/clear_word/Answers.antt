@@ -1,6 +1,5 @@
 -- With no bad sector a place is null or free.
-use borrow.Author.Rules.{rules}
-use borrow.Author.Tests.{le-leb, lt-leb}
+use borrow.Author.Tests.{lt-leb}
 use Rattle.lists.proofs.Members.{not-in-nil}
 use Rattle.first_table.proofs.marks.clear_word.Goals as goal
 

@@ -1,8 +1,7 @@
 -- The loop's invariant: the counts, with those of what is left of the list, are the list's.
 use Prim.Native.Nat.{◌-◌}
-use native.Mathlib.Omega.{arith}
 use lib.ListN.{length}
-use Rattle.first_table.proofs.Bads.{Counting, counting-none, counting_more, counting-all}
+use Rattle.first_table.proofs.Bads.{Counting}
 use Rattle.first_table.proofs.marks.count_bad.Given as goal
 
 abbrev pub invariant-loop-i : goal.invariant-loop-i

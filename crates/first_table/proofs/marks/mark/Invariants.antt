@@ -1,12 +1,9 @@
 -- The loop's invariant: the room holds the table that the entries passed mark. An entry more is one more bad sector.
 use Prim.Native.Nat.{◌≤◌, ◌-◌}
-use mathlib.Core.Path.{◌≡◌, sym, ◌∙◌}
-use mathlib.Core.List.{[]}
-use native.Mathlib.Omega.{arith}
+use mathlib.Core.Path.{◌≡◌}
 use lib.ListN.{length, take}
 use Rattle.paper.specs.Promise.{written}
 use Rattle.first_table.specs.Marks.{marked}
-use Rattle.first_table.proofs.Marked.{written-marks, marked-keeps, marked-over, marked_next, marked_all}
 use Rattle.first_table.proofs.marks.mark.Given as goal
 
 abbrev pub invariant-loop-i : goal.invariant-loop-i
