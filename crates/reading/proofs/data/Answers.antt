@@ -8,7 +8,7 @@ use Rattle.reading.proofs.data.Goals as goal
 pub returns-then-fault-ne0-clause-fact : goal.returns-then-fault-ne0-clause-fact
 returns-then-fault-ne0-clause-fact c =
     let a = c.args in size-lends-empty a.size a.shape a.r a.table.now a.scratch.now a.block a.home a.spare _
-          (λ none. c.if-fault-ne0.true (c.data_size_fault-fault.ensures ∙ none)) (record { holds = refl; lies = refl })
+    (λ none. c.if-fault-ne0.true (c.data_size_fault-fault.ensures ∙ none)) (record { holds = refl; lies = refl })
 
 pub data_sized-requires : goal.data_sized-requires
 data_sized-requires c = let most = data-size-most c.args.size (sym c.data_size_fault-fault.ensures ∙ c.if-fault-ne0.false) in omega arith

@@ -48,8 +48,8 @@ part_fault-found-requires c =
 
 pub returns-then-found-ne0-clause-spot_sized : goal.returns-then-found-ne0-clause-spot_sized
 returns-then-found-ne0-clause-spot_sized c = let a = c.args in
-      let found = seat-fault a.size a.shape a.r a.table.now a.block c.drive_of-drive.ensures c.seat_of-seat.ensures a.home a.spare c.track_of.ensures c.part_fault-found.ensures in
-      spot-refused _ _ _ _ _ _ _ _ (read_lying _ _ _ _ _ _ _ _ (sym c.lent_fault-fault.ensures.value ∙ c.if-fault-ne0.false) ∙ sym found) c.if-found-ne0.true
+    let found = seat-fault a.size a.shape a.r a.table.now a.block c.drive_of-drive.ensures c.seat_of-seat.ensures a.home a.spare c.track_of.ensures c.part_fault-found.ensures in
+    spot-refused _ _ _ _ _ _ _ _ (read_lying _ _ _ _ _ _ _ _ (sym c.lent_fault-fault.ensures.value ∙ c.if-fault-ne0.false) ∙ sym found) c.if-found-ne0.true
 
 pub overflow_add-offset : goal.overflow_add-offset
 overflow_add-offset c =
@@ -65,10 +65,10 @@ overflow_cast-offset c =
 
 pub returns-then-seat-clause-spot_sized : goal.returns-then-seat-clause-spot_sized
 returns-then-seat-clause-spot_sized c = let a = c.args in
-      let found = seat-fault a.size a.shape a.r a.table.now a.block c.drive_of-drive.ensures c.seat_of-seat.ensures a.home a.spare c.track_of.ensures c.part_fault-found.ensures in
-      spot-found _ _ _ _ _ _ _ _ (read_lying _ _ _ _ _ _ _ _ (sym c.lent_fault-fault.ensures.value ∙ c.if-fault-ne0.false) ∙ sym found ∙ c.if-found-ne0.false) (rw (← seat-sector a.size a.shape a.r a.table.now a.block c.drive_of-drive.ensures c.seat_of-seat.ensures, ← seat-replaced a.size a.shape a.r a.table.now a.block c.drive_of-drive.ensures c.seat_of-seat.ensures, c.if-seat.true))
+    let found = seat-fault a.size a.shape a.r a.table.now a.block c.drive_of-drive.ensures c.seat_of-seat.ensures a.home a.spare c.track_of.ensures c.part_fault-found.ensures in
+    spot-found _ _ _ _ _ _ _ _ (read_lying _ _ _ _ _ _ _ _ (sym c.lent_fault-fault.ensures.value ∙ c.if-fault-ne0.false) ∙ sym found ∙ c.if-found-ne0.false) (rw (← seat-sector a.size a.shape a.r a.table.now a.block c.drive_of-drive.ensures c.seat_of-seat.ensures, ← seat-replaced a.size a.shape a.r a.table.now a.block c.drive_of-drive.ensures c.seat_of-seat.ensures, c.if-seat.true))
 
 pub returns-clause-spot_sized : goal.returns-clause-spot_sized
 returns-clause-spot_sized c = let a = c.args in
-      let found = seat-fault a.size a.shape a.r a.table.now a.block c.drive_of-drive.ensures c.seat_of-seat.ensures a.home a.spare c.track_of.ensures c.part_fault-found.ensures in
-      spot-found _ _ _ _ _ _ _ _ (read_lying _ _ _ _ _ _ _ _ (sym c.lent_fault-fault.ensures.value ∙ c.if-fault-ne0.false) ∙ sym found ∙ c.if-found-ne0.false) (rw (← seat-sector a.size a.shape a.r a.table.now a.block c.drive_of-drive.ensures c.seat_of-seat.ensures, ← seat-replaced a.size a.shape a.r a.table.now a.block c.drive_of-drive.ensures c.seat_of-seat.ensures, c.if-seat.false))
+    let found = seat-fault a.size a.shape a.r a.table.now a.block c.drive_of-drive.ensures c.seat_of-seat.ensures a.home a.spare c.track_of.ensures c.part_fault-found.ensures in
+    spot-found _ _ _ _ _ _ _ _ (read_lying _ _ _ _ _ _ _ _ (sym c.lent_fault-fault.ensures.value ∙ c.if-fault-ne0.false) ∙ sym found ∙ c.if-found-ne0.false) (rw (← seat-sector a.size a.shape a.r a.table.now a.block c.drive_of-drive.ensures c.seat_of-seat.ensures, ← seat-replaced a.size a.shape a.r a.table.now a.block c.drive_of-drive.ensures c.seat_of-seat.ensures, c.if-seat.false))
