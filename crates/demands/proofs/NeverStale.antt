@@ -3,9 +3,8 @@
 use mathlib.Core.Path.{refl, sym, ◌∙◌, ap}
 use mathlib.Core.Bool.{true, false}
 use Rattle.paper.proofs.Kept.{gives-number}
-use Rattle.layout.specs.Descriptors.{names}
 use Rattle.table.proofs.Exact.{block-passes}
-use Rattle.demands.specs.NeverStale.{read, NeverStale}
+use Rattle.demands.specs.NeverStale.{NeverStale}
 use Rattle.demands.proofs.Examples.{allows-where}
 use Rattle.demands.proofs.Lives.{lives}
 use Rattle.demands.proofs.Fetching.{fetched-image, good-answers, forced-refuses, passing-good, part-good, tracks-lead}

@@ -1,6 +1,6 @@
 -- Wrong boards on a drive in time. On the paper's small drive block 6 was replaced and lies on spare 3, sector 9. The board of the incident, one that writes a replaced block at home, and one that reads it there: each breaks what `NeverStale` says.
 -- Assumes nothing.
-use Prim.Native.Nat.{ℕ, ◌+◌}
+use Prim.Native.Nat.{ℕ}
 use mathlib.Core.Path.{◌≡◌, refl, ◌∙◌, ap}
 use mathlib.Core.Bool.{false}
 use mathlib.Core.Logic.{inl, inr}
