@@ -1,6 +1,9 @@
 -- The two tracks are those of the home and of the sector that the look-up finds, and the difference of their cylinders is the shift.
+use Prim.Native.Nat.{◌<◌}
+use native.Mathlib.Omega.{arith}
 use mathlib.Core.Path.{◌≡◌, sym, ◌∙◌, ap, refl}
 use lib.IntN.{pos, ◌-ℤ◌}
+use Rattle.paper.specs.Limits.{units_most}
 use Rattle.paper.proofs.Kept.{accepts}
 use Rattle.shape.specs.declared.Address.{Address}
 use Rattle.shape.specs.Addresses.{address_at}
@@ -48,23 +51,22 @@ address_at-there-requires c =
     let a = c.args in
     (block-sound a.shape a.r a.table.now a.scratch.now a.block (sym c.block_fault-fault.ensures.value ∙ c.if-fault-ne0.false)).shaped
 
-pub cylinders_between-requires-clause-home_lt_units_most : goal.cylinders_between-requires-clause-home_lt_units_most
-cylinders_between-requires-clause-home_lt_units_most c =
+-- both cylinders are those of sectors of the drive, so that each is below the limit of units
+few : (c : goal.After-address_at-there) → (c.address_at-home.result.cylinder < units_most) × (c.address_at-there.result.cylinder < units_most)
+few c =
     let a = c.args in
     let none = sym c.block_fault-fault.ensures.value ∙ c.if-fault-ne0.false in
     let sound = block-sound a.shape a.r a.table.now a.scratch.now a.block none in
+    let below = block-below a.shape a.r a.table.now a.scratch.now a.block none in
     let home : c.address_at-home.result ≡ address_at a.shape (home_sector (drive_of a.shape a.r) a.block) = c.address_at-home.ensures ∙ rw (c.home_sector.ensures, c.drive_of-drive.ensures) in
-    let home-few = home-address-few sound a.block (block-below a.shape a.r a.table.now a.scratch.now a.block none) in
-    rw home home-few
+    let there : c.address_at-there.result ≡ address_at a.shape (lies_on (drive_of a.shape a.r) a.table.now a.block) = c.address_at-there.ensures ∙ rw (c.lies_on.ensures, c.drive_of-drive.ensures) in
+    (rw home (home-address-few sound a.block below), rw there (lying-address-few sound a.block below))
+
+pub cylinders_between-requires-clause-home_lt_units_most : goal.cylinders_between-requires-clause-home_lt_units_most
+cylinders_between-requires-clause-home_lt_units_most c = omega (arith, (few c).0, (few c).1)
 
 pub cylinders_between-requires-clause-there_lt_units_most : goal.cylinders_between-requires-clause-there_lt_units_most
-cylinders_between-requires-clause-there_lt_units_most c =
-    let a = c.args in
-    let none = sym c.block_fault-fault.ensures.value ∙ c.if-fault-ne0.false in
-    let sound = block-sound a.shape a.r a.table.now a.scratch.now a.block none in
-    let there : c.address_at-there.result ≡ address_at a.shape (lies_on (drive_of a.shape a.r) a.table.now a.block) = c.address_at-there.ensures ∙ rw (c.lies_on.ensures, c.drive_of-drive.ensures) in
-    let there-few = lying-address-few sound a.block (block-below a.shape a.r a.table.now a.scratch.now a.block none) in
-    rw there there-few
+cylinders_between-requires-clause-there_lt_units_most c = omega (arith, (few c).0, (few c).1)
 
 pub returns-clause-tracks_of : goal.returns-clause-tracks_of
 returns-clause-tracks_of c =
