@@ -1,4 +1,4 @@
--- Q-7: a table passes exactly where each search stops right there, the look_up finds what it found, and neither a first table nor a replacement leaves a hole.
+-- Q-7: a table passes exactly where each search stops right there, the look-up finds what it found, and neither a first table nor a replacement leaves a hole.
 -- Assumes nothing.
 use Prim.Native.Nat.{ℕ, ◌<◌}
 use mathlib.Core.Path.{◌≡◌, sym, ◌∙◌, ap}

@@ -24,7 +24,7 @@ pub record NoHoles : Type 0 where
   pub stopping-passes :
       (shape : Shape) (r : ℕ) (t : List ℕ) → Shaped shape → Spared shape r → length t ≡ table_length (drive_of shape r) →
       ((q : ℕ) → q < length t → Misplaced (drive_of shape r) q (get_or t q 0) → ⊥) → StopsThere (drive_of shape r) t → Sound shape r t
-  -- A look_up that stops there finds the first place of all that names the block, and finds none exactly where none does.
+  -- A look-up that stops there finds the first place of all that names the block, and finds none exactly where none does.
   pub look_up :
       (shape : Shape) (r : ℕ) (t : List ℕ) (b : ℕ) → Sound shape r t → b < (drive_of shape r).blocks →
       place_of t b ≡ pick (names (get_or t (stop_of (drive_of shape r) t b) 0) b) (stop_of (drive_of shape r) t b) (length t)
