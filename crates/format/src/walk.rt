@@ -61,7 +61,7 @@ pub fn either(a: bool, b: bool) -> bool
 
 fn smaller(x: u32, y: u32) -> u32
     ensures upper_bound { (result ≤ x) × (result ≤ y) }
-    ensures fact { (result ≡ x) ⊎ (result ≡ y) }
+    ensures either { (result ≡ x) ⊎ (result ≡ y) }
 {
     if x <= y {
         return x;

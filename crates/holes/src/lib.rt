@@ -24,8 +24,8 @@ fn next_at(word: u32, place: u32, later: u32) -> u32
 
 // Writes the next free place at or after each of the first places, from the last of them down, or the table's length where there is none.
 fn fill_next(table: &[u32], scratch: &mut [u32], count: usize)
-    requires count_in_bounds { count ≤ length scratch.old }
-    requires count_in_bounds_2 { count ≤ length table.now }
+    requires count_in_scratch { count ≤ length scratch.old }
+    requires count_in_table { count ≤ length table.now }
     requires table_len_bound { length table.now ≤ spares_most }
     requires count_value { next_free table.now count ≡ length table.now }
     ensures filled { Filled table.now count scratch.new }
@@ -80,9 +80,9 @@ fn right_start(primary: usize, place: usize) -> usize
 // Whether no free place comes before a place in the search order of a primary.
 fn clear_before(table: &[u32], scratch: &[u32], primary: usize, place: usize) -> bool
     requires table_len_bound { length table.now ≤ spares_most }
-    requires primary_in_bounds { primary < length table.now }
+    requires primary_in_table { primary < length table.now }
     requires place_in_bounds { place < length table.now }
-    requires primary_in_bounds_2 { primary < length scratch.now }
+    requires primary_in_scratch { primary < length scratch.now }
     requires filled { Filled table.now (primary + 1) scratch.now }
     ensures { result ≡ clear_before table.now primary place }
 {

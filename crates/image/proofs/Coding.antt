@@ -131,15 +131,15 @@ length-words_of count (lone ∷ []) even = absurd (omega arith)
 length-words_of zero (hi ∷ lo ∷ bytes) even = absurd (omega arith)
 length-words_of (suc count) (hi ∷ lo ∷ bytes) even = ap suc (length-words_of count bytes (omega arith))
 
-pub get_d-words_of : (count : ℕ) (bytes : List ℕ) (k : ℕ) → length bytes ≡ 2 * count → get_or (words_of bytes) k 0 ≡ word16_at bytes (2 * k)
+pub get_or-words_of : (count : ℕ) (bytes : List ℕ) (k : ℕ) → length bytes ≡ 2 * count → get_or (words_of bytes) k 0 ≡ word16_at bytes (2 * k)
 unfolding words_of word16_at
-get_d-words_of count [] k even = refl
-get_d-words_of count (lone ∷ []) k even = absurd (omega arith)
-get_d-words_of count (hi ∷ lo ∷ bytes) zero even = refl
-get_d-words_of zero (hi ∷ lo ∷ bytes) (suc k) even = absurd (omega arith)
-get_d-words_of (suc count) (hi ∷ lo ∷ bytes) (suc k) even =
+get_or-words_of count [] k even = refl
+get_or-words_of count (lone ∷ []) k even = absurd (omega arith)
+get_or-words_of count (hi ∷ lo ∷ bytes) zero even = refl
+get_or-words_of zero (hi ∷ lo ∷ bytes) (suc k) even = absurd (omega arith)
+get_or-words_of (suc count) (hi ∷ lo ∷ bytes) (suc k) even =
     let next : 2 * suc k ≡ 2 + 2 * k = omega arith in
-    get_d-words_of count bytes k (omega arith) ∙ rw next (word16-drop 2 (hi ∷ lo ∷ bytes) (2 * k))
+    get_or-words_of count bytes k (omega arith) ∙ rw next (word16-drop 2 (hi ∷ lo ∷ bytes) (2 * k))
 
 pub data_code-below : (bytes : List ℕ) → Bytes bytes → data_code bytes < 2 ^ 16
 unfolding data_code
@@ -191,8 +191,8 @@ data-apart count bytes others i h l even long inside alike apart =
     one-word-apart start_code (words_of bytes) (words_of others) i (omega arith) (words_of-below bytes h) (words_of-below others l)
     (length-words_of count bytes even ∙ sym (length-words_of count others long))
     (rw (length-words_of count bytes even) inside)
-    (λ k below other. get_d-words_of count bytes k even ∙ alike k (rw (length-words_of count bytes even) at below) other ∙ sym (get_d-words_of count others k long))
-    (λ same. apart (sym (get_d-words_of count bytes i even) ∙ same ∙ get_d-words_of count others i long))
+    (λ k below other. get_or-words_of count bytes k even ∙ alike k (rw (length-words_of count bytes even) at below) other ∙ sym (get_or-words_of count others k long))
+    (λ same. apart (sym (get_or-words_of count bytes i even) ∙ same ∙ get_or-words_of count others i long))
 
 -- a number is never its own complement
 pub complement-differs : (code : ℕ) → code ≡ complement code → ⊥

@@ -21,9 +21,9 @@ pub const NULL: u32 = 8;
 
 // The constants are those of the definitions.
 fn codes_agree()
-    ensures value { FREE ≡ free }
-    ensures value_2 { UNUSABLE ≡ unusable }
-    ensures value_3 { NULL ≡ null }
+    ensures free_value { FREE ≡ free }
+    ensures unusable_value { UNUSABLE ≡ unusable }
+    ensures null_value { NULL ≡ null }
 {}
 
 // The numbers of a revectored drive: T tracks, H heads, l home sectors and r spares of a track, T × r spares and T × l home blocks.
@@ -160,7 +160,7 @@ pub fn block_of_home(drive: Drive, sector: u32) -> u32
 pub fn place_of_spare(drive: Drive, sector: u32) -> u32
     requires laid { Laid drive }
     requires sector_bound { sector < drive.tracks * sectors_per_track drive }
-    requires sector_value { is_home drive sector ≡ false }
+    requires no_home { is_home drive sector ≡ false }
     ensures { result ≡ place_of_spare drive sector }
 {
     let sectors = drive.l + drive.r;

@@ -12,7 +12,7 @@ use Rattle.paper.specs.Limits.{units_most}
 use Rattle.lists.specs.Proper.{Inside, Proper}
 use Rattle.lists.proofs.Risings.{inside-tail, rising-gap}
 use Rattle.words.specs.Words.{word32_at, entries_at}
-use Rattle.words.proofs.Runs.{length-entries_at, get_d-entries_at, entries_at-next}
+use Rattle.words.proofs.Runs.{length-entries_at, get_or-entries_at, entries_at-next}
 use Rattle.page.specs.Layout.{entries_place}
 use Rattle.words.proofs.Stores.{sets-append, sets-next}
 use Rattle.listing_text.specs.Decimal.{decimal}
@@ -95,7 +95,7 @@ proper-few n (entry ∷ list) proper =
 pub entry-below :
     (page : List ℕ) (count i : ℕ) → Inside units_most (entries_at page entries_place count) → i < count → word32_at page (entries_place + 4 * i) < units_most
 entry-below page count i inside h =
-    rw (← get_d-entries_at page entries_place count i h) (inside i (rw (length-entries_at page entries_place count) h))
+    rw (← get_or-entries_at page entries_place count i h) (inside i (rw (length-entries_at page entries_place count) h))
 
 -- the line of one entry more
 pub puts-entry :

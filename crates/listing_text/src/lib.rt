@@ -53,7 +53,7 @@ fn sizes_agree()
     ensures blocks_size_value { BLOCKS_SIZE ≡ length blocks_word }
     ensures bad_size_value { BAD_SIZE ≡ length bad_word }
     ensures refused_size_value { REFUSED_SIZE ≡ length refused_word }
-    ensures value { SPACE ≡ space }
+    ensures space_value { SPACE ≡ space }
     ensures line_end_value { LINE_END ≡ line_end }
     ensures digit_zero_value { DIGIT_ZERO ≡ digit_zero }
     ensures digits_most_value { DIGITS_MOST ≡ digits_most }

@@ -127,8 +127,8 @@ fn search_at(table: &[u32], start: usize, o: u32, sought: u32) -> usize
 // Where the search for a block stops in the table blocks from one place up to another, rising, or the table's length where it does not.
 fn search_rising(table: &[u32], from: usize, to: usize, sought: u32) -> usize
     requires to_in_bounds { to ≤ length table.now }
-    requires table_block_value { from % table_block ≡ 0 }
-    requires table_block_value_2 { to % table_block ≡ 0 }
+    requires from_starts_block { from % table_block ≡ 0 }
+    requires to_starts_block { to % table_block ≡ 0 }
     ensures { result ≡ first_or (length table.now) (stops_at table.now sought) (rising from (to - from)) }
 {
     let mut start = from;

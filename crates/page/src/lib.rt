@@ -39,7 +39,7 @@ fn places_agree()
     ensures units_place_value { UNITS_PLACE ≡ units_place }
     ensures entries_place_value { ENTRIES_PLACE ≡ entries_place }
     ensures end_size_value { END_SIZE ≡ end_size }
-    ensures value { VERSION ≡ version }
+    ensures version_value { VERSION ≡ version }
     ensures all_ones_value { ALL_ONES ≡ all_ones }
     ensures page_frame_value { page_frame ≡ entries_place + end_size }
 {}

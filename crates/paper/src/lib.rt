@@ -91,7 +91,7 @@ fn refusals_agree()
     ensures out_of_range_value { OUT_OF_RANGE ≡ out_of_range }
     ensures too_long_value { TOO_LONG ≡ too_long }
     ensures not_rising_value { NOT_RISING ≡ not_rising }
-    ensures value { OUTSIDE ≡ outside }
+    ensures outside_value { OUTSIDE ≡ outside }
     ensures no_such_block_value { NO_SUCH_BLOCK ≡ no_such_block }
     ensures no_such_sector_value { NO_SUCH_SECTOR ≡ no_such_sector }
     ensures no_room_value { NO_ROOM ≡ no_room }

@@ -10,7 +10,7 @@ use denote.Ref.{Bor}
 use Rattle.paper.specs.Checks.{answer}
 use Rattle.paper.specs.Limits.{image_extra}
 use Rattle.paper.proofs.Cases.{by_bool, by_lt, by_fault}
-use Rattle.words.proofs.Stores.{get_d_sets_before, get_d-sets-after}
+use Rattle.words.proofs.Stores.{get_or_sets_before, get_or-sets-after}
 use Rattle.shape.specs.declared.Shape.{Shape}
 use Rattle.layout.specs.declared.Drive.{Drive}
 use Rattle.layout.specs.Layouts.{drive_of}
@@ -61,10 +61,10 @@ module _ (size : ℕ) where
       image-alike (bytes_in size sector) (sets track (bytes_in size other) bytes) track (length-sets track (bytes_in size other) bytes)
       (λ k first last.
       by_lt other sector
-      (λ h. get_d-sets-after track (bytes_in size other) k bytes 0 (omega (arith, image-inside size other sector h)))
+      (λ h. get_or-sets-after track (bytes_in size other) k bytes 0 (omega (arith, image-inside size other sector h)))
       (λ h.
       let after : sector < other = by_lt sector other (λ l. l) (λ l. absurd (apart (omega arith))) in
-      get_d_sets_before track (bytes_in size other) k bytes 0 (omega (arith, image-inside size sector other after))))
+      get_or_sets_before track (bytes_in size other) k bytes 0 (omega (arith, image-inside size sector other after))))
 
 -- images agree with themselves
 pub agree_same : (size : ℕ) (drive : Drive) (t : List ℕ) (b : ℕ) (home spare : List ℕ) → Agree size drive t b home spare home spare

@@ -237,7 +237,7 @@ pub fn data<'a>(
     home: &'a [u8],
     spare: &'a [u8],
 ) -> &'a [u8]
-    ensures fact { Data size shape r table.now scratch.old block home.entry spare.entry result }
+    ensures lends_data { Data size shape r table.now scratch.old block home.entry spare.entry result }
     ensures read_scratched { ReadScratched size shape r scratch.old scratch.new }
 {
     let fault = paper::data_size_fault(size);

@@ -17,10 +17,10 @@ use Rattle.skip.proofs.Lying.{goods-mono, goods-alike, place-lies, place-rising,
 use Rattle.skip.proofs.Composition.{goods-after, place_after}
 use Rattle.skip.proofs.Walks.{goods-are-blocks}
 
-get_d_map : (f : ℕ → ℕ) (l : List ℕ) (i : ℕ) → i < length l → get_or (map f l) i 0 ≡ f (get_or l i 0)
-get_d_map f [] i h = absurd (omega arith)
-get_d_map f (x ∷ l) zero h = refl
-get_d_map f (x ∷ l) (suc i) h = get_d_map f l i (omega arith)
+get_or_map : (f : ℕ → ℕ) (l : List ℕ) (i : ℕ) → i < length l → get_or (map f l) i 0 ≡ f (get_or l i 0)
+get_or_map f [] i h = absurd (omega arith)
+get_or_map f (x ∷ l) zero h = refl
+get_or_map f (x ∷ l) (suc i) h = get_or_map f l i (omega arith)
 
 module _ (n : ℕ) (a : List ℕ) (rising-a : Rising a) (inside-a : Inside n a) (d : List ℕ) (rising-d : Rising d) (inside-d : Inside (blocks n a) d) where
   -- there are as many good sectors as blocks
@@ -37,20 +37,20 @@ module _ (n : ℕ) (a : List ℕ) (rising-a : Rising a) (inside-a : Inside n a) 
   pub rising-sectors : Rising (sectors_of_blocks n a d)
   rising-sectors i h =
       let more : suc i < length d = omega (arith, sectors-length) in
-      rw (get_d_map (place (is_in a) n) d i (omega arith), get_d_map (place (is_in a) n) d (suc i) more)
+      rw (get_or_map (place (is_in a) n) d i (omega arith), get_or_map (place (is_in a) n) d (suc i) more)
       (place-rising (is_in a) n (get_or d i 0) (get_or d (suc i) 0) (rising-d i more) (rw goods (inside-d (suc i) more)))
 
   pub inside-sectors : Inside n (sectors_of_blocks n a d)
   inside-sectors i h =
       let less : i < length d = omega (arith, sectors-length) in
-      rw (get_d_map (place (is_in a) n) d i less) (block-lies i less).inside
+      rw (get_or_map (place (is_in a) n) d i less) (block-lies i less).inside
 
   -- a sector of the list is the sector of a named block
   sector-named : (s : ℕ) → is_in (sectors_of_blocks n a d) s ≡ true → is_in d (goods_before (is_in a) s) ≡ true
   sector-named s e =
       let stands : Stands (sectors_of_blocks n a d) s = member-stands (sectors_of_blocks n a d) s e in
       let less : stands.place < length d = omega (arith, stands.below, sectors-length) in
-      let here : place (is_in a) n (get_or d stands.place 0) ≡ s = sym (get_d_map (place (is_in a) n) d stands.place less) ∙ stands.is in
+      let here : place (is_in a) n (get_or d stands.place 0) ≡ s = sym (get_or_map (place (is_in a) n) d stands.place less) ∙ stands.is in
       let count : goods_before (is_in a) s ≡ get_or d stands.place 0 = rw here at (block-lies stands.place less).before in
       rw count (entry_in d stands.place less)
 
@@ -58,7 +58,7 @@ module _ (n : ℕ) (a : List ℕ) (rising-a : Rising a) (inside-a : Inside n a) 
   member-good s e =
       let stands : Stands (sectors_of_blocks n a d) s = member-stands (sectors_of_blocks n a d) s e in
       let less : stands.place < length d = omega (arith, stands.below, sectors-length) in
-      let here : place (is_in a) n (get_or d stands.place 0) ≡ s = sym (get_d_map (place (is_in a) n) d stands.place less) ∙ stands.is in
+      let here : place (is_in a) n (get_or d stands.place 0) ≡ s = sym (get_or_map (place (is_in a) n) d stands.place less) ∙ stands.is in
       rw here at (block-lies stands.place less).good
 
   named-sector : (s : ℕ) → is_in a s ≡ false → is_in d (goods_before (is_in a) s) ≡ true → is_in (sectors_of_blocks n a d) s ≡ true
@@ -69,7 +69,7 @@ module _ (n : ℕ) (a : List ℕ) (rising-a : Rising a) (inside-a : Inside n a) 
       (λ less. less)
       (λ more. absurd (omega (arith, goods-mono (is_in a) n s more, goods, member-inside (blocks n a) d (goods_before (is_in a) s) inside-d e))) in
       let here : get_or (sectors_of_blocks n a d) stands.place 0 ≡ s =
-      get_d_map (place (is_in a) n) d stands.place stands.below ∙ (ap (place (is_in a) n) stands.is ∙ named-place (is_in a) n s inside good) in
+      get_or_map (place (is_in a) n) d stands.place stands.below ∙ (ap (place (is_in a) n) stands.is ∙ named-place (is_in a) n s inside good) in
       rw here at (entry_in (sectors_of_blocks n a d) stands.place (omega (arith, stands.below, sectors-length)))
 
   -- a sector is that of a named block exactly where it is good and names one

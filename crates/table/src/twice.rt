@@ -63,7 +63,7 @@ fn window_once(table: &[u32], scratch: &mut [u32], from: u32, count: u32) -> boo
 pub fn named_once(drive: Drive, table: &[u32], scratch: &mut [u32]) -> bool
     requires laid { Laid drive }
     requires spares_in_bounds { drive.spares ≤ length scratch.old }
-    requires table_value { all_below (λ q. may_stand drive q (get_or table.now q 0)) (length table.now) ≡ true }
+    requires stands { all_below (λ q. may_stand drive q (get_or table.now q 0)) (length table.now) ≡ true }
     ensures value { result ≡ all_below (named_first table.now) (length table.now) }
     ensures scratch_unchanged { drop drive.spares scratch.new ≡ drop drive.spares scratch.old }
 {

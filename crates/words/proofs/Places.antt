@@ -10,7 +10,7 @@ use lib.ListN.{length, get_or, take, drop, get_or-append}
 use lib.Seq.{sets, drop-cons, get_or-drop, get_or-append-add}
 use Rattle.words.specs.Words.{bytes32, word16_at, word32_at, Bytes}
 use Rattle.words.proofs.Digits.{bytes32-be32}
-use Rattle.words.proofs.Stores.{get_d-sets-after, sets-part}
+use Rattle.words.proofs.Stores.{get_or-sets-after, sets-part}
 
 -- places whose bytes are alike
 pub word16-alike :
@@ -47,7 +47,7 @@ word32-second first rest at =
 
 -- a run of stores leaves the words after it
 pub word16-after : (l : List ℕ) (at : ℕ) (run : List ℕ) (place : ℕ) → at + length run ≤ place → word16_at (sets l at run) place ≡ word16_at l place
-word16-after l at run place apart = word16-alike (sets l at run) l place place (λ k h. get_d-sets-after l at (place + k) run 0 (omega arith))
+word16-after l at run place apart = word16-alike (sets l at run) l place place (λ k h. get_or-sets-after l at (place + k) run 0 (omega arith))
 
 module _ (l : List ℕ) (bytes : Bytes l) (at : ℕ) where
   -- the bytes of the word at a place are those that stand there

@@ -42,11 +42,11 @@ next_place : (at k : ℕ) → at + 4 + 4 * k ≡ at + 4 * suc k
 next_place at k = omega arith
 
 -- an entry is the word at its place
-pub get_d-entries_at : (bytes : List ℕ) (at count k : ℕ) → k < count → get_or (entries_at bytes at count) k 0 ≡ word32_at bytes (at + 4 * k)
+pub get_or-entries_at : (bytes : List ℕ) (at count k : ℕ) → k < count → get_or (entries_at bytes at count) k 0 ≡ word32_at bytes (at + 4 * k)
 unfolding entries_at
-get_d-entries_at bytes at zero k h = absurd (omega arith)
-get_d-entries_at bytes at (suc count) zero h = rw (add-zero at)
-get_d-entries_at bytes at (suc count) (suc k) h = rw (← next_place at k) (get_d-entries_at bytes (at + 4) count k (omega arith))
+get_or-entries_at bytes at zero k h = absurd (omega arith)
+get_or-entries_at bytes at (suc count) zero h = rw (add-zero at)
+get_or-entries_at bytes at (suc count) (suc k) h = rw (← next_place at k) (get_or-entries_at bytes (at + 4) count k (omega arith))
 
 -- no entry, and one entry more
 pub entries_at-none : (bytes : List ℕ) (at : ℕ) → entries_at bytes at 0 ≡ []

@@ -18,16 +18,16 @@ module _ {ℓ} {A : Type ℓ} where
   pub sets-next : (l : List A) (at : ℕ) (run : List A) (a : A) → set (sets l at run) (at + length run) a ≡ sets l at (run ++ (a ∷ []))
   sets-next l at run a = sym (sets-append l at run (a ∷ []))
 
-  pub get_d_sets_before : (l : List A) (at k : ℕ) (run : List A) (d : A) → k < at → get_or (sets l at run) k d ≡ get_or l k d
-  get_d_sets_before l at k [] d h = refl
-  get_d_sets_before l at k (a ∷ run) d h =
-      get_d_sets_before (set l at a) (suc at) k run d (omega arith) ∙ get_or-set_other l at k a d (λ e. omega arith)
+  pub get_or_sets_before : (l : List A) (at k : ℕ) (run : List A) (d : A) → k < at → get_or (sets l at run) k d ≡ get_or l k d
+  get_or_sets_before l at k [] d h = refl
+  get_or_sets_before l at k (a ∷ run) d h =
+      get_or_sets_before (set l at a) (suc at) k run d (omega arith) ∙ get_or-set_other l at k a d (λ e. omega arith)
 
-  pub get_d-sets-after :
+  pub get_or-sets-after :
       (l : List A) (at k : ℕ) (run : List A) (d : A) → at + length run ≤ k → get_or (sets l at run) k d ≡ get_or l k d
-  get_d-sets-after l at k [] d h = refl
-  get_d-sets-after l at k (a ∷ run) d h =
-      get_d-sets-after (set l at a) (suc at) k run d (omega arith) ∙ get_or-set_other l at k a d (λ e. omega arith)
+  get_or-sets-after l at k [] d h = refl
+  get_or-sets-after l at k (a ∷ run) d h =
+      get_or-sets-after (set l at a) (suc at) k run d (omega arith) ∙ get_or-set_other l at k a d (λ e. omega arith)
 
   module _ (l : List A) (at : ℕ) (run : List A) (fits : at + length run ≤ length l) where
     long : length (take at l) ≡ at

@@ -17,7 +17,7 @@ pub const ELSEWHERE: u32 = 3;
 fn codes_agree()
     ensures code_unit_value { CODE_UNIT ≡ code_unit }
     ensures at_primary_value { AT_PRIMARY ≡ at_primary }
-    ensures value { ELSEWHERE ≡ elsewhere }
+    ensures elsewhere_value { ELSEWHERE ≡ elsewhere }
 {}
 
 // The number of two bytes.

@@ -1,4 +1,3 @@
--- The loop's invariant: so many of the places passed hold another number. The measure is what is left of the room.
 use mathlib.Core.Path.{◌∙◌}
 use Rattle.comparing.proofs.Differences.{changed-more, changed-all}
 use Rattle.comparing.proofs.changed_bytes.Goals as goal

@@ -1,4 +1,3 @@
--- The loop's invariant: so many of the places passed differ. The measure is what is left of the left row.
 use mathlib.Core.Path.{sym}
 use Rattle.comparing.proofs.Differences.{counted-more, counted-left, counted-right}
 use Rattle.comparing.proofs.differing.Goals as goal

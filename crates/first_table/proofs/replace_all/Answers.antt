@@ -1,4 +1,3 @@
--- The loop's invariant: the blocks that are left are ready in the table, and replaced in it they give the table of the contract.
 use native.Mathlib.Omega.{arith}
 use Rattle.first_table.proofs.Along.{along-none, along-free, along-more, along-all}
 use Rattle.first_table.proofs.replace_all.Goals as goal

@@ -1,4 +1,3 @@
--- The loop's invariant: from the place that is reached on, scratch tells the next free place at or after each, the last one found is that of this place, and the numbers beyond stand.
 use native.Mathlib.Omega.{arith}
 use Prim.Native.Nat.{ℕ, ◌+◌, ◌-◌, ◌≤◌, ◌<◌}
 use mathlib.Core.Path.{◌≡◌, sym, ◌∙◌, ap}

@@ -1,4 +1,3 @@
--- The loop's invariant: no free place comes before the place of the block that a passed place names.
 use mathlib.Core.Path.{sym, ◌∙◌}
 use native.Mathlib.Omega.{arith}
 use lib.ListN.{length}

@@ -1,4 +1,3 @@
--- The loop's invariant: the code of the words that are left, from the code so far on, is the code of all. The measure is what is left of the bytes.
 use Prim.Native.Nat.{◌<◌}
 use mathlib.Core.Path.{refl}
 use native.Mathlib.Omega.{arith}

@@ -1,4 +1,3 @@
--- The loop's invariant: the lines of the entries passed are written, and each is short enough to leave room for the others.
 use Prim.Native.Nat.{◌≤◌}
 use mathlib.Core.Path.{refl, ◌∙◌}
 use native.Mathlib.Omega.{arith}

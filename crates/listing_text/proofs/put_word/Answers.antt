@@ -1,4 +1,3 @@
--- The loop's invariant: the room is as it was with the part of the word that is passed stored at its place.
 use native.Mathlib.Omega.{arith}
 use lib.ListN.{length-set}
 use Rattle.listing_text.proofs.Lines.{word_next}

@@ -1,4 +1,4 @@
--- The loop's invariant: no place passed is at fault. So the first fault found is that of the lowest place.
+-- The first fault found is that of the lowest place.
 use mathlib.Core.Path.{sym, ◌∙◌}
 use native.Mathlib.Omega.{arith}
 use lib.ListN.{length}

@@ -1,4 +1,4 @@
--- The loop's invariant: no place passed is at fault. So the first fault found is that of the lowest place.
+-- The loop's invariant: no place passed is at fault.
 use Prim.Native.Nat.{ℕ, ◌≤◌, ◌<◌, ◌-◌}
 use mathlib.Core.Path.{◌≡◌}
 use lib.ListN.{length}

@@ -1,4 +1,3 @@
--- The loop's invariant: the entries counted and those of the union still to come are all of its entries.
 use mathlib.Core.Path.{ap}
 use native.Mathlib.Omega.{arith}
 use lib.ListN.{length}

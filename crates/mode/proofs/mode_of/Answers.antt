@@ -1,4 +1,4 @@
--- No copy before the one that is looked at says a size, so that the first that says one is the first of all; and where the code stops none is left.
+-- The first copy found that says a size is the first of all, and where the code stops none is left.
 use mathlib.Core.Path.{sym, ◌∙◌}
 use Rattle.mode.proofs.Found.{tried-found, tried-all}
 use Rattle.mode.proofs.mode_of.Goals as goal

@@ -1,4 +1,4 @@
--- No copy before the one that is looked at says a size, so that the first that says one is the first of all; and where the code stops none is left.
+-- The loop's invariant: no copy before the one that is looked at says a size.
 use Prim.Native.Nat.{◌-◌}
 use Rattle.mode.proofs.Found.{Tried}
 use Rattle.mode.proofs.mode_of.Given as goal

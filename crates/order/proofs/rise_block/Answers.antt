@@ -1,4 +1,3 @@
--- The loop's invariant: the search of the whole block is the search of the places that are left.
 use mathlib.Core.Path.{◌≡◌, sym, ◌∙◌}
 use native.Mathlib.Omega.{arith}
 use Rattle.paper.specs.Limits.{table_block}

@@ -1,4 +1,4 @@
--- The loop's invariant: the search of the whole block is the search of the turns that are left. After the last turn none is left.
+-- After the last turn none is left.
 use Prim.Native.Nat.{ℕ, ◌<◌, ◌^◌}
 use mathlib.Core.Path.{◌≡◌, sym, ◌∙◌, ap}
 use lib.IntN.{ℤ, pos, ◌+ℤ◌}

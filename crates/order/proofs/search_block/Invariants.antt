@@ -1,4 +1,4 @@
--- The loop's invariant: the search of the whole block is the search of the turns that are left. After the last turn none is left.
+-- The loop's invariant: the search of the whole block is the search of the turns that are left.
 use Prim.Native.Nat.{◌-◌}
 use mathlib.Core.Path.{◌≡◌}
 use Rattle.paper.specs.Limits.{table_block}

@@ -1,4 +1,3 @@
--- The loop's invariant: the search of the whole run is the search of the blocks that are left, which are whole.
 use mathlib.Core.Path.{sym, ◌∙◌}
 use native.Mathlib.Omega.{arith}
 use lib.ListN.{length}

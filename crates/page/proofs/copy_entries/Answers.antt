@@ -1,4 +1,3 @@
--- The loop's invariant: the room is as it was with the entries passed stored from its first place on.
 use mathlib.Core.Path.{refl}
 use native.Mathlib.Omega.{arith}
 use lib.ListN.{length-set}

@@ -2,7 +2,7 @@
 use mathlib.Core.Path.{sym, ◌∙◌}
 use native.Mathlib.Omega.{arith}
 use borrow.Author.Tests.{le-leb, lt-leb}
-use Rattle.words.proofs.Runs.{get_d-entries_at}
+use Rattle.words.proofs.Runs.{get_or-entries_at}
 use Rattle.page.specs.Layout.{entries_place}
 use Rattle.page.proofs.fault_at.Goals as goal
 
@@ -11,7 +11,7 @@ returns-then-n-entry_at c =
     let a = c.args in
     rw (
       sym c.rises_at.ensures ∙ c.if-not-rises_at.false,
-      get_d-entries_at a.page.now entries_place a.count a.i (omega arith),
+      get_or-entries_at a.page.now entries_place a.count a.i (omega arith),
       ← c.entry_at.ensures,
       le-leb _ _ c.if-n-entry_at.true,
     )
@@ -21,7 +21,7 @@ returns c =
     let a = c.args in
     rw (
       sym c.rises_at.ensures ∙ c.if-not-rises_at.false,
-      get_d-entries_at a.page.now entries_place a.count a.i (omega arith),
+      get_or-entries_at a.page.now entries_place a.count a.i (omega arith),
       ← c.entry_at.ensures,
       lt-leb _ _ c.if-n-entry_at.false,
     )

@@ -1,4 +1,3 @@
--- The loop's invariant: the room is as it was with the bytes of the entries passed stored at their place.
 use mathlib.Core.Path.{refl, ◌∙◌}
 use native.Mathlib.Omega.{arith}
 use Rattle.words.proofs.Runs.{bytes_of-none, put_next}

@@ -2,7 +2,7 @@
 use Prim.Native.Nat.{◌-◌}
 use native.Mathlib.Omega.{arith}
 use borrow.Author.Tests.{ne_eqb}
-use Rattle.words.proofs.Runs.{get_d-entries_at}
+use Rattle.words.proofs.Runs.{get_or-entries_at}
 use Rattle.page.specs.Layout.{entries_place}
 use Rattle.page.proofs.rises_at.Goals as goal
 
@@ -11,8 +11,8 @@ returns c =
     let a = c.args in
     rw (
       ne_eqb _ _ c.if-i-eq0.false,
-      get_d-entries_at a.page.now entries_place a.count a.i (omega arith),
-      get_d-entries_at a.page.now entries_place a.count (a.i - 1) (omega arith),
+      get_or-entries_at a.page.now entries_place a.count a.i (omega arith),
+      get_or-entries_at a.page.now entries_place a.count (a.i - 1) (omega arith),
       ← c.entry_at.ensures,
       ← c.entry_at-2.ensures,
     )

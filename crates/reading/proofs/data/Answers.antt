@@ -5,8 +5,8 @@ use Rattle.paper.proofs.Rows.{data-size-most}
 use Rattle.reading.proofs.Parts.{size-lends-empty}
 use Rattle.reading.proofs.data.Goals as goal
 
-pub returns-then-fault-ne0-clause-fact : goal.returns-then-fault-ne0-clause-fact
-returns-then-fault-ne0-clause-fact c =
+pub returns-then-fault-ne0-clause-lends_data : goal.returns-then-fault-ne0-clause-lends_data
+returns-then-fault-ne0-clause-lends_data c =
     let a = c.args in size-lends-empty a.size a.shape a.r a.table.now a.scratch.now a.block a.home a.spare _
     (λ none. c.if-fault-ne0.true (c.data_size_fault-fault.ensures ∙ none)) (record { holds = refl; lies = refl })
 

@@ -1,4 +1,4 @@
--- The loop's invariant: the count lies from `least` to `most`. An entry below the sector has all before it below too, and one at or above the sector none after it, since the list rises.
+-- An entry below the sector has all before it below too, and one at or above the sector none after it, since the list rises.
 use Prim.Native.Nat.{◌-◌, ◌+◌, ◌/◌}
 use native.Mathlib.Omega.{arith}
 use Rattle.skip.proofs.Passing.{below-le, below-at-least, below-at-most}

@@ -1,4 +1,4 @@
--- The loop's invariant: the count lies from `least` to `most`. An entry below the sector has all before it below too, and one at or above the sector none after it, since the list rises.
+-- The loop's invariant: the count lies from `least` to `most`.
 use Prim.Native.Nat.{◌≤◌, ◌-◌}
 use lib.ListN.{length}
 use Rattle.skip.specs.Walk.{entries_below}

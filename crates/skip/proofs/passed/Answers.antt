@@ -1,4 +1,4 @@
--- The loop's invariant: the count lies from `least` to `most`, and the entry to look at in the lower half of what is left. An entry that is at most the address on the way to it is passed with all before it, since the list rises; one above that address is not passed, nor any after it.
+-- An entry that is at most the address on the way to it is passed with all before it, since the list rises; one above that address is not passed, nor any after it.
 use native.Mathlib.Omega.{arith}
 use Rattle.skip.proofs.Walks.{passes-le}
 use Rattle.skip.proofs.Passing.{passes-at-least, passes-at-most}

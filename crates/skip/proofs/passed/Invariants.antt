@@ -1,4 +1,4 @@
--- The loop's invariant: the count lies from `least` to `most`, and the entry to look at in the lower half of what is left. An entry that is at most the address on the way to it is passed with all before it, since the list rises; one above that address is not passed, nor any after it.
+-- The loop's invariant: the count lies from `least` to `most`, and the entry to look at in the lower half of what is left.
 use Prim.Native.Nat.{◌≤◌, ◌-◌, ◌+◌, ◌*◌}
 use lib.ListN.{length}
 use Rattle.skip.specs.Walk.{passes}

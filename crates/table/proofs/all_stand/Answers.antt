@@ -1,4 +1,3 @@
--- The loop's invariant: at each place passed the word may stand.
 use native.Mathlib.Omega.{arith}
 use mathlib.Core.Path.{sym, ◌∙◌}
 use lib.ListN.{length, get_or}

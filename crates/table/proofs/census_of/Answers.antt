@@ -1,4 +1,3 @@
--- The loop's invariant: the census is that of the places passed.
 use mathlib.Core.Path.{sym}
 use native.Mathlib.Omega.{arith}
 use Rattle.table.proofs.Censuses.{census-none, census-countable, census-next}

@@ -1,4 +1,3 @@
--- The loop's invariant: what is written and what is left of the clear table are that table, and the room beyond is as it was.
 use mathlib.Core.Path.{◌∙◌}
 use mathlib.Core.List.{[]}
 use native.Mathlib.Omega.{arith}

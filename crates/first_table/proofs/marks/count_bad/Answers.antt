@@ -1,4 +1,3 @@
--- The loop's invariant: the counts, with those of what is left of the list, are the list's.
 use native.Mathlib.Omega.{arith}
 use Rattle.first_table.proofs.Bads.{counting_more, counting-all}
 use Rattle.first_table.proofs.marks.count_bad.Goals as goal

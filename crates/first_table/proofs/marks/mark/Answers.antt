@@ -1,4 +1,4 @@
--- The loop's invariant: the room holds the table that the entries passed mark. An entry more is one more bad sector.
+-- An entry more is one more bad sector.
 use mathlib.Core.Path.{◌∙◌}
 use native.Mathlib.Omega.{arith}
 use Rattle.first_table.proofs.Marked.{marked_next, marked_all}

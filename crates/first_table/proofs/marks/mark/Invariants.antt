@@ -1,4 +1,4 @@
--- The loop's invariant: the room holds the table that the entries passed mark. An entry more is one more bad sector.
+-- The loop's invariant: the room holds the table that the entries passed mark.
 use Prim.Native.Nat.{◌≤◌, ◌-◌}
 use mathlib.Core.Path.{◌≡◌}
 use lib.ListN.{length, take}

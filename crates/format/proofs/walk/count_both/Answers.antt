@@ -1,4 +1,3 @@
--- The loop's invariant: the walk goes right, and what is counted and what is left of each list are its whole length.
 use mathlib.Core.Path.{ap}
 use native.Mathlib.Omega.{arith}
 use lib.ListN.{length}

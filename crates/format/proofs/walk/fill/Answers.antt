@@ -1,4 +1,3 @@
--- The loop's invariant: the walk goes right, and each room holds its list up to what is left of it.
 use Rattle.lists.proofs.Filling.{filled-all}
 use Rattle.format.proofs.Passes.{grown-none, listed-none}
 use Rattle.format.proofs.walk.fill.Goals as goal

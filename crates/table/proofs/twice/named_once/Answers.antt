@@ -1,4 +1,3 @@
--- The loop's invariant: no block of the windows passed is named twice, and the numbers beyond the window stand.
 use native.Mathlib.Omega.{arith}
 use mathlib.Core.Path.{sym, ◌∙◌}
 use Rattle.table.proofs.Marking.{window-next, window-fails, windows-all}
@@ -16,4 +15,4 @@ loop-from-preserved c = (
 )
 
 pub returns-clause-value : goal.returns-clause-value
-returns-clause-value c = sym (windows-all c.args.drive c.args.table.now c.loop-from.from c.requires.table_value (omega arith) c.loop-from.invariant.0)
+returns-clause-value c = sym (windows-all c.args.drive c.args.table.now c.loop-from.from c.requires.stands (omega arith) c.loop-from.invariant.0)

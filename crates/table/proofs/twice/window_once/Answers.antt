@@ -1,4 +1,3 @@
--- The loop's invariant: the marks are those of the places passed, each of which names its block first, and the numbers beyond the window stand.
 use native.Mathlib.Omega.{arith}
 use mathlib.Core.Path.{refl, sym, ◌∙◌}
 use lib.ListN.{length}
