@@ -1,4 +1,4 @@
--- The shift: a difference of cylinders is exact in 32 bits, 0 at home, leads from the home's cylinder to the spare's, and is less than C to either side.
+-- The shift is 0 at home, leads from the home's cylinder to the spare's, and is less than C to either side.
 -- Assumes nothing.
 use Prim.Native.Nat.{ℕ, zero, suc, ◌*◌, ◌/◌, ◌<◌}
 use mathlib.Core.Path.{◌≡◌, refl, sym, ◌∙◌, ap}
@@ -7,9 +7,6 @@ use native.Mathlib.Nat.{div-le_self}
 use native.Mathlib.Omega.{arith}
 use lib.IntN.{ℤ, pos, nat_abs, ◌+ℤ◌, ◌-ℤ◌, +ℤ_comm, +ℤ_invr, -ℤ-+ℤ_cancel}
 use lib.ListN.{length}
-use mir.Syntax.{w32}
-use mir.Val.{SFits, to_z}
-use mir.Facts.{to_z_pos}
 use borrow.Author.Tests.{lt-ltb}
 use Rattle.paper.specs.Limits.{units_most}
 use Rattle.paper.proofs.Cases.{by_bool, by_lt}
@@ -34,17 +31,6 @@ pub difference-within : (a b bound : ℕ) → a < bound → b < bound → nat_ab
 difference-within a zero bound h l = omega arith
 difference-within a (suc b) bound h l =
     by_lt a (suc b) (λ less. rw (minus-below a (suc b) less) (omega arith)) (λ more. rw (minus-within a (suc b) more) (omega arith))
-
--- a difference of cylinders is a number of 32 bits, and so are its operands
-pub difference-fits : (a b : ℕ) → a < units_most → b < units_most → SFits w32 (pos a -ℤ pos b)
-difference-fits a zero h l = record { sfits = omega arith }
-difference-fits a (suc b) h l =
-    by_lt a (suc b)
-    (λ less. rw (minus-below a (suc b) less) (record { sfits = omega arith }))
-    (λ more. rw (minus-within a (suc b) more) (record { sfits = omega arith }))
-
-pub cylinder-is : (a : ℕ) → a < units_most → to_z w32 a ≡ pos a
-cylinder-is a h = to_z_pos w32 (omega arith)
 
 module _ {drive : Drive} (laid : Laid drive) where
   -- the cylinders of homes and spares are few

@@ -3,11 +3,9 @@
 
 ghost use Rattle.std.specs.Prelude.{◌≡◌, ◌<◌, pos, ◌-ℤ◌};
 ghost use Rattle.paper.specs.Limits.{units_most};
-ghost use Rattle.layout.specs.Steps.{Laid};
-ghost use Rattle.table.specs.Steps.{Obeys};
 ghost use Rattle.arm.specs.Shifts.{shift_of};
 
-use layout::Drive;
+use table::Table;
 
 // The signed number of cylinders from a home to where its block lies. Only other crates call this.
 pub fn cylinders_between(home: u32, there: u32) -> i32
@@ -19,16 +17,13 @@ pub fn cylinders_between(home: u32, there: u32) -> i32
 }
 
 // The shift of a block. Only other crates call this.
-pub fn shift_of(drive: Drive, table: &[u32], block: u32) -> i32
-    requires laid { Laid drive }
-    requires obeys { Obeys drive table.now }
-    requires block_lt_blocks { block < drive.blocks }
-    ensures { result ≡ shift_of drive table.now block }
+pub fn shift_of(table: Table<'_>, block: u32) -> i32
+    requires { block < table.layout.drive.blocks }
+    ensures { result ≡ shift_of table.entry.layout.drive table.entry.words.now block }
 {
-    let place = table::place_of(drive, table, block);
-    if place < table.len() {
-        let home = layout::home_cylinder(drive, block);
-        return cylinders_between(home, layout::spare_cylinder(drive, place as u32));
-    }
-    0
+    let Some(place) = table.place_of(block) else {
+        return 0;
+    };
+    let home = table.layout.home_cylinder(block);
+    cylinders_between(home, table.layout.spare_cylinder(place as u32))
 }

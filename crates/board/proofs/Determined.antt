@@ -5,8 +5,8 @@ use mathlib.Core.Path.{◌≡◌, sym, ap, ◌∙◌}
 use mathlib.Core.Bool.{Bool}
 use mathlib.Core.List.{List}
 use lib.IntN.{ℤ}
-use Rattle.paper.specs.Answers.{said_written}
-use Rattle.paper.proofs.Kept.{fills_one}
+use Rattle.paper.specs.Answers.{said_number}
+use Rattle.paper.proofs.Kept.{fills-one}
 use Rattle.shape.specs.declared.Shape.{Shape}
 use Rattle.shape.specs.Promises.{SectorOf as ShapeSectorOf, AddressOf as ShapeAddressOf}
 use Rattle.skip.specs.declared.Cursor.{Cursor}
@@ -15,7 +15,7 @@ use Rattle.skipped.specs.Promises.{AddressOf as SkippedAddressOf, BlockAt as Ski
 use Rattle.page.specs.Promises.{said_paged, Reads, Writes}
 use Rattle.format.specs.Promises.{said_formatted, Formats}
 use Rattle.first_table.specs.Promises.{FirstTable}
-use Rattle.spares.specs.Promises.{SectorOf as SpareSectorOf, AddressOf as SpareAddressOf, ShiftOf, BlockOn as SpareBlockOn, BlockAt as SpareBlockAtOf, Replacement, CensusOf, said_replaced}
+use Rattle.spares.specs.Promises.{SectorOf as SpareSectorOf, AddressOf as SpareAddressOf, ShiftOf, BlockOn as SpareBlockOn, BlockAt as SpareBlockAtOf, Replacement, CensusOf}
 use Rattle.image.specs.Promises.{Write, Header, Judge as ImageVerdict}
 use Rattle.mode.specs.Promises.{Finds}
 use Rattle.reading.specs.Promises.{TracksOf, Judge as ReadVerdict, Spots}
@@ -35,7 +35,7 @@ use Rattle.board.specs.declared.answers.TbSized.{TbSized}
 use Rattle.board.specs.declared.answers.TbSpotted.{TbSpotted}
 use Rattle.board.specs.declared.answers.TbTracks.{TbTracks}
 use Rattle.board.specs.declared.answers.TbWritten.{TbWritten}
-use Rattle.board.specs.Promises.{formatted_fields, paged_fields, replaced_fields, written_fields, TellsCounted, TellsFormatted, TellsHeaded, TellsJob, TellsJudged, TellsLocated, TellsNamed, TellsPaged, TellsPlaced, TellsReplaced, TellsShifted, TellsSized, TellsSpotted, TellsTracks, TellsWritten}
+use Rattle.board.specs.Promises.{formatted_fields, paged_fields, replaced_fields, written_fields, TellsCounted, TellsFormatted, TellsHeaded, TellsJob, TellsStep, TellsJudged, TellsLocated, TellsNamed, TellsPaged, TellsPlaced, TellsReplaced, TellsShifted, TellsSized, TellsSpotted, TellsTracks, TellsWritten}
 use Rattle.board.proofs.Carried.{told-one}
 
 -- each result as it is made of its fields
@@ -96,7 +96,7 @@ job-start-one n list block one other = ap job_of (told-one (skip-cursor-start n 
 pub job-check-one : (n : ℕ) (list : List ℕ) (cursor : Cursor) {first second : TbJob} → TellsJob (Checks n list cursor) first → TellsJob (Checks n list cursor) second → first ≡ second
 job-check-one n list cursor one other = ap job_of (told-one (skip-cursor-check n list cursor) one other)
 
-pub job-step-one : (n : ℕ) (list : List ℕ) (cursor : Cursor) {first second : TbJob} → TellsJob (Steps n list cursor) first → TellsJob (Steps n list cursor) second → first ≡ second
+pub job-step-one : (n : ℕ) (list : List ℕ) (cursor : Cursor) {first second : TbJob} → TellsStep (Steps n list cursor) first → TellsStep (Steps n list cursor) second → first ≡ second
 job-step-one n list cursor one other = ap job_of (told-one (skip-cursor-step n list cursor) one other)
 
 pub shape-sector-one : (shape : Shape) (cylinder head sector : ℕ) {first second : TbPlaced} → TellsPlaced (ShapeSectorOf shape cylinder head sector) first → TellsPlaced (ShapeSectorOf shape cylinder head sector) second → first ≡ second
@@ -115,7 +115,7 @@ pub page-read-one :
     (page room : List ℕ) {after other_after : List ℕ} {first second : TbPaged} → TellsPaged (λ answer. Reads page room answer after) first → TellsPaged (λ answer. Reads page room answer other_after) second →
     (first ≡ second) × (after ≡ other_after)
 page-read-one page room {first} {second} one other =
-    let same = fills_one one.promised other.promised in
+    let same = fills-one one.promised other.promised in
     let fields : paged_fields first ≡ paged_fields second = one.are-said ∙ (ap said_paged same.0 ∙ sym other.are-said) in
     (ap paged_of fields, same.1)
 
@@ -123,15 +123,15 @@ pub page-write-one :
     (n kind : ℕ) (list room : List ℕ) {after other_after : List ℕ} {first second : TbWritten} → TellsWritten (λ answer. Writes n kind list room answer after) first → TellsWritten (λ answer. Writes n kind list room answer other_after) second →
     (first ≡ second) × (after ≡ other_after)
 page-write-one n kind list room {first} {second} one other =
-    let same = fills_one one.promised other.promised in
-    let fields : written_fields first ≡ written_fields second = one.are-said ∙ (ap said_written same.0 ∙ sym other.are-said) in
+    let same = fills-one one.promised other.promised in
+    let fields : written_fields first ≡ written_fields second = one.are-said ∙ (ap said_number same.0 ∙ sym other.are-said) in
     (ap written_of fields, same.1)
 
 pub format-one :
     (n : ℕ) (p g : List ℕ) (space option : ℕ) (d grown list : List ℕ) {grown_after list_after grown_other list_other : List ℕ} {first second : TbFormatted} → TellsFormatted (λ answer. Formats n p g space option d grown list answer grown_after list_after) first → TellsFormatted (λ answer. Formats n p g space option d grown list answer grown_other list_other) second →
     (first ≡ second) × (◌≡◌ {A = List ℕ × List ℕ} (grown_after, list_after) (grown_other, list_other))
 format-one n p g space option d grown list {first} {second} one other =
-    let same = fills_one one.promised other.promised in
+    let same = fills-one one.promised other.promised in
     let fields : formatted_fields first ≡ formatted_fields second = one.are-said ∙ (ap said_formatted same.0 ∙ sym other.are-said) in
     (ap formatted_of fields, same.1)
 
@@ -154,8 +154,8 @@ pub spare-replace-one :
     (shape : Shape) (r : ℕ) (table scratch : List ℕ) (block : ℕ) {after other_after : List ℕ} {first second : TbReplaced} → TellsReplaced (λ answer. Replacement shape r table scratch block answer after) first → TellsReplaced (λ answer. Replacement shape r table scratch block answer other_after) second →
     (first ≡ second) × (after ≡ other_after)
 spare-replace-one shape r table scratch block {first} {second} one other =
-    let same = fills_one one.promised other.promised in
-    let fields : replaced_fields first ≡ replaced_fields second = one.are-said ∙ (ap said_replaced same.0 ∙ sym other.are-said) in
+    let same = fills-one one.promised other.promised in
+    let fields : replaced_fields first ≡ replaced_fields second = one.are-said ∙ (ap said_number same.0 ∙ sym other.are-said) in
     (ap replaced_of fields, same.1)
 
 pub spare-census-one : (shape : Shape) (r : ℕ) (table scratch : List ℕ) {first second : TbCounted} → TellsCounted (CensusOf shape r table scratch) first → TellsCounted (CensusOf shape r table scratch) second → first ≡ second
@@ -165,16 +165,16 @@ pub spare-first-one :
     (shape : Shape) (r : ℕ) (list room : List ℕ) {after other_after : List ℕ} {first second : TbWritten} → TellsWritten (λ answer. FirstTable shape r list room answer after) first → TellsWritten (λ answer. FirstTable shape r list room answer other_after) second →
     (first ≡ second) × (after ≡ other_after)
 spare-first-one shape r list room {first} {second} one other =
-    let same = fills_one one.promised other.promised in
-    let fields : written_fields first ≡ written_fields second = one.are-said ∙ (ap said_written same.0 ∙ sym other.are-said) in
+    let same = fills-one one.promised other.promised in
+    let fields : written_fields first ≡ written_fields second = one.are-said ∙ (ap said_number same.0 ∙ sym other.are-said) in
     (ap written_of fields, same.1)
 
 pub image-write-one :
     (size block code : ℕ) (bytes : List ℕ) (forced : Bool) (room : List ℕ) {after other_after : List ℕ} {first second : TbWritten} → TellsWritten (λ answer. Write size block code bytes forced room answer after) first → TellsWritten (λ answer. Write size block code bytes forced room answer other_after) second →
     (first ≡ second) × (after ≡ other_after)
 image-write-one size block code bytes forced room {first} {second} one other =
-    let same = fills_one one.promised other.promised in
-    let fields : written_fields first ≡ written_fields second = one.are-said ∙ (ap said_written same.0 ∙ sym other.are-said) in
+    let same = fills-one one.promised other.promised in
+    let fields : written_fields first ≡ written_fields second = one.are-said ∙ (ap said_number same.0 ∙ sym other.are-said) in
     (ap written_of fields, same.1)
 
 pub image-header-one : (size : ℕ) (image : List ℕ) {first second : TbHeaded} → TellsHeaded (Header size image) first → TellsHeaded (Header size image) second → first ≡ second

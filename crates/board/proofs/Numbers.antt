@@ -47,7 +47,7 @@ use Rattle.board.specs.declared.answers.TbSized.{TbSized}
 use Rattle.board.specs.declared.answers.TbSpotted.{TbSpotted}
 use Rattle.board.specs.declared.answers.TbTracks.{TbTracks}
 use Rattle.board.specs.declared.answers.TbWritten.{TbWritten}
-use Rattle.board.specs.Promises.{NumbersBy, counted_fields, formatted_fields, headed_fields, job_fields, judged_fields, located_fields, named_fields, paged_fields, placed_fields, replaced_fields, shifted_fields, sized_fields, spotted_fields, tracks_fields, written_fields, TellsCounted, TellsFormatted, TellsHeaded, TellsJob, TellsJudged, TellsLocated, TellsNamed, TellsPaged, TellsPlaced, TellsReplaced, TellsShifted, TellsSized, TellsSpotted, TellsTracks, TellsWritten}
+use Rattle.board.specs.Promises.{NumbersBy, counted_fields, formatted_fields, headed_fields, job_fields, judged_fields, located_fields, named_fields, paged_fields, placed_fields, replaced_fields, shifted_fields, sized_fields, spotted_fields, tracks_fields, written_fields, TellsCounted, TellsFormatted, TellsHeaded, TellsJob, TellsStep, TellsJudged, TellsLocated, TellsNamed, TellsPaged, TellsPlaced, TellsReplaced, TellsShifted, TellsSized, TellsSpotted, TellsTracks, TellsWritten}
 use Rattle.board.proofs.Carried.{told-numbers, told-keeps}
 
 pub skip-sector-numbers : (n : ℕ) (list : List ℕ) (block : ℕ) {result : TbPlaced} → TellsPlaced (SkipSectorOf n list block) result → NumbersBy (λ fields. fields.0) (λ k. (k, 0)) (SkipSectorOfJudged n list block) (placed_fields result)
@@ -62,8 +62,8 @@ job-start-numbers n list block = told-numbers (cursor-start n list block)
 pub job-check-numbers : (n : ℕ) (list : List ℕ) (cursor : Cursor) {result : TbJob} → TellsJob (Checks n list cursor) result → NumbersBy (λ fields. fields.0) (λ k. (k, 0, 0, 0)) (CheckJudged n list cursor) (job_fields result)
 job-check-numbers n list cursor = told-numbers (cursor-check n list cursor)
 
-pub job-step-numbers : (n : ℕ) (list : List ℕ) (cursor : Cursor) {result : TbJob} → TellsJob (Steps n list cursor) result → NumbersBy (λ fields. fields.0) (λ k. (k, 0, cursor.block, cursor.skipped)) (StepJudged n list cursor) (job_fields result)
-job-step-numbers n list cursor = told-numbers (cursor-step n list cursor)
+pub job-step-numbers : (n : ℕ) (list : List ℕ) (cursor : Cursor) {result : TbJob} → TellsStep (Steps n list cursor) result → NumbersBy (λ fields. fields.0) (λ k. (k, 0, cursor.block, cursor.skipped)) (StepJudged n list cursor) (job_fields result)
+job-step-numbers n list cursor = told-numbers (λ outcome promise. cursor-step n list cursor outcome.0 outcome.1 promise)
 
 pub shape-sector-numbers : (shape : Shape) (cylinder head sector : ℕ) {result : TbPlaced} → TellsPlaced (ShapeSectorOf shape cylinder head sector) result → NumbersBy (λ fields. fields.0) (λ k. (k, 0)) (ShapeSectorOfJudged shape cylinder head sector) (placed_fields result)
 shape-sector-numbers shape cylinder head sector = told-numbers (shape-sector-of shape cylinder head sector)

@@ -12,7 +12,7 @@ ghost use Rattle.spares.specs.Promises.{SectorOf as SpareSectorOf, AddressOf as 
 ghost use Rattle.image.specs.Promises.{Write, Header, Judge as ImageVerdict};
 ghost use Rattle.mode.specs.Promises.{Finds};
 ghost use Rattle.reading.specs.Promises.{TracksOf, Judge as ReadVerdict, Spots, ReadScratched};
-ghost use Rattle.board.specs.Promises.{TellsPlaced, TellsNamed, TellsWritten, TellsLocated, TellsJob, TellsPaged, TellsFormatted, TellsShifted, TellsReplaced, TellsCounted, TellsHeaded, TellsJudged, TellsSized, TellsTracks, TellsSpotted};
+ghost use Rattle.board.specs.Promises.{TellsPlaced, TellsNamed, TellsWritten, TellsLocated, TellsJob, TellsStep, TellsPaged, TellsFormatted, TellsShifted, TellsReplaced, TellsCounted, TellsHeaded, TellsJudged, TellsSized, TellsTracks, TellsSpotted};
 
 mod answers;
 
@@ -28,7 +28,7 @@ use skip::Cursor;
 pub extern "C" fn tb_skip_sector(n: u32, list: &[u32], block: u32) -> TbPlaced
     ensures { TellsPlaced (SkipSectorOf n list.now block) result }
 {
-    answers::placed(skip::sector_of(n, list, block))
+    TbPlaced::from(skip::sector_of(n, list, block))
 }
 
 // The block that lies on a sector, or none. Checks 1, list, 6.
@@ -36,7 +36,7 @@ pub extern "C" fn tb_skip_sector(n: u32, list: &[u32], block: u32) -> TbPlaced
 pub extern "C" fn tb_skip_block(n: u32, list: &[u32], sector: u32) -> TbNamed
     ensures { TellsNamed (SkipBlockOn n list.now sector) result }
 {
-    answers::named(skip::block_on(n, list, sector))
+    TbNamed::from(skip::block_on(n, list, sector))
 }
 
 // Opens a job at a block. Checks 1, list, 5.
@@ -44,7 +44,7 @@ pub extern "C" fn tb_skip_block(n: u32, list: &[u32], sector: u32) -> TbNamed
 pub extern "C" fn tb_job_start(n: u32, list: &[u32], block: u32) -> TbJob
     ensures { TellsJob (Starts n list.now block) result }
 {
-    answers::job(Cursor::start(n, list, block))
+    TbJob::from(Cursor::start(n, list, block))
 }
 
 // Whether a cursor is one of this list. Checks 1, list, 9.
@@ -52,15 +52,15 @@ pub extern "C" fn tb_job_start(n: u32, list: &[u32], block: u32) -> TbJob
 pub extern "C" fn tb_job_check(cursor: Cursor, n: u32, list: &[u32]) -> TbJob
     ensures { TellsJob (Checks n list.now cursor) result }
 {
-    answers::job(cursor.check(n, list))
+    TbJob::from(cursor.check(n, list))
 }
 
 // The sector of the cursor's block, and the cursor after it; refused, the cursor as it was given. Checks 1, list, 9, 5.
 #[unsafe(no_mangle)]
 pub extern "C" fn tb_job_step(cursor: Cursor, n: u32, list: &[u32]) -> TbJob
-    ensures { TellsJob (Steps n list.now cursor) result }
+    ensures { TellsStep (Steps n list.now cursor) result }
 {
-    answers::job(cursor.step(n, list))
+    TbJob::from(cursor.step(n, list))
 }
 
 // Cylinder, head and sector to sector number. Checks 1, 6.
@@ -68,7 +68,7 @@ pub extern "C" fn tb_job_step(cursor: Cursor, n: u32, list: &[u32]) -> TbJob
 pub extern "C" fn tb_shape_sector(shape: Shape, cylinder: u32, head: u32, sector: u32) -> TbPlaced
     ensures { TellsPlaced (ShapeSectorOf shape cylinder head sector) result }
 {
-    answers::placed(shape::sector_of(shape, cylinder, head, sector))
+    TbPlaced::from(shape::sector_of(shape, cylinder, head, sector))
 }
 
 // Sector number to cylinder, head, sector and angle. Checks 1, 6.
@@ -76,7 +76,7 @@ pub extern "C" fn tb_shape_sector(shape: Shape, cylinder: u32, head: u32, sector
 pub extern "C" fn tb_shape_address(shape: Shape, sector: u32) -> TbLocated
     ensures { TellsLocated (ShapeAddressOf shape sector) result }
 {
-    answers::located(shape::address_of(shape, sector))
+    TbLocated::from(shape::address_of(shape, sector))
 }
 
 // The address that a block of a skipped drive lies at. Checks 1, list, 5.
@@ -84,7 +84,7 @@ pub extern "C" fn tb_shape_address(shape: Shape, sector: u32) -> TbLocated
 pub extern "C" fn tb_skipped_address(shape: Shape, list: &[u32], block: u32) -> TbLocated
     ensures { TellsLocated (SkippedAddressOf shape list.now block) result }
 {
-    answers::located(skipped::address_of(shape, list, block))
+    TbLocated::from(skipped::address_of(shape, list, block))
 }
 
 // The block that lies at a cylinder, head and sector of a skipped drive, or none. Checks 1, list, 6.
@@ -98,7 +98,7 @@ pub extern "C" fn tb_skipped_block(
 ) -> TbNamed
     ensures { TellsNamed (SkippedBlockAt shape list.now cylinder head sector) result }
 {
-    answers::named(skipped::block_at(shape, list, cylinder, head, sector))
+    TbNamed::from(skipped::block_at(shape, list, cylinder, head, sector))
 }
 
 // Reads a page: its kind, N and number of entries, and the entries into the room. Checks 8, 3 and 4, 7.
@@ -106,7 +106,7 @@ pub extern "C" fn tb_skipped_block(
 pub extern "C" fn tb_page_read(page: &[u8], room: &mut [u32]) -> TbPaged
     ensures { TellsPaged (λ answer. Reads page.now room.old answer room.new) result }
 {
-    answers::paged(page::read(page, room))
+    TbPaged::from(page::read(page, room))
 }
 
 // Writes a page into the room, and answers its length. Checks 1, 8, list, 7.
@@ -114,7 +114,7 @@ pub extern "C" fn tb_page_read(page: &[u8], room: &mut [u32]) -> TbPaged
 pub extern "C" fn tb_page_write(n: u32, kind: u32, list: &[u32], room: &mut [u8]) -> TbWritten
     ensures { TellsWritten (λ answer. Writes n kind list.now room.old answer room.new) result }
 {
-    answers::written(page::write(n, kind, list, room))
+    TbWritten::from(page::write(n, kind, list, room))
 }
 
 // Format: the new grown list and the list of the new space into the rooms. Checks 1, P, G, 10, 2, D, 2, 2, 7.
@@ -131,7 +131,7 @@ pub extern "C" fn tb_format(
 ) -> TbFormatted
     ensures { TellsFormatted (λ answer. Formats n p.now g.now space option d.now grown.old list.old answer grown.new list.new) result }
 {
-    answers::formatted(format::format(n, p, g, space, option, d, grown, list))
+    TbFormatted::from(format::format(n, p, g, space, option, d, grown, list))
 }
 
 // The sector that a block of a revectored drive lies on. Checks 1, 7, 11, 5.
@@ -146,7 +146,7 @@ pub extern "C" fn tb_spare_sector(
     ensures tells_placed { TellsPlaced (SpareSectorOf shape r table.now scratch.old block) result }
     ensures scratched { Scratched shape r scratch.old scratch.new }
 {
-    answers::placed(spares::sector_of(shape, r, table, scratch, block))
+    TbPlaced::from(spares::sector_of(shape, r, table, scratch, block))
 }
 
 // The address that a block of a revectored drive lies at. Checks 1, 7, 11, 5.
@@ -161,7 +161,7 @@ pub extern "C" fn tb_spare_address(
     ensures tells_located { TellsLocated (SpareAddressOf shape r table.now scratch.old block) result }
     ensures scratched { Scratched shape r scratch.old scratch.new }
 {
-    answers::located(spares::address_of(shape, r, table, scratch, block))
+    TbLocated::from(spares::address_of(shape, r, table, scratch, block))
 }
 
 // How many cylinders a block is moved, negative toward cylinder 0. Checks 1, 7, 11, 5.
@@ -176,7 +176,7 @@ pub extern "C" fn tb_spare_shift(
     ensures tells_shifted { TellsShifted (ShiftOf shape r table.now scratch.old block) result }
     ensures scratched { Scratched shape r scratch.old scratch.new }
 {
-    answers::shifted(spares::shift(shape, r, table, scratch, block))
+    TbShifted::from(spares::shift(shape, r, table, scratch, block))
 }
 
 // The block that lies on a sector of a revectored drive, or none. Checks 1, 7, 11, 6.
@@ -191,7 +191,7 @@ pub extern "C" fn tb_spare_block(
     ensures tells_named { TellsNamed (SpareBlockOn shape r table.now scratch.old sector) result }
     ensures scratched { Scratched shape r scratch.old scratch.new }
 {
-    answers::named(spares::block_on(shape, r, table, scratch, sector))
+    TbNamed::from(spares::block_on(shape, r, table, scratch, sector))
 }
 
 // The block that lies at a cylinder, head and sector of a revectored drive, or none. Checks 1, 7, 11, 6.
@@ -208,7 +208,7 @@ pub extern "C" fn tb_spare_block_at(
     ensures tells_named { TellsNamed (SpareBlockAtOf shape r table.now scratch.old cylinder head sector) result }
     ensures scratched { Scratched shape r scratch.old scratch.new }
 {
-    answers::named(spares::block_at(shape, r, table, scratch, cylinder, head, sector))
+    TbNamed::from(spares::block_at(shape, r, table, scratch, cylinder, head, sector))
 }
 
 // Replaces a block, at home or on a spare: writes its new descriptor, marks its old one unusable, and answers its new place. Checks 1, 7, 11, 5, 13.
@@ -223,7 +223,7 @@ pub extern "C" fn tb_spare_replace(
     ensures tells_replaced { TellsReplaced (λ answer. Replacement shape r table.old scratch.old block answer table.new) result }
     ensures scratched { Scratched shape r scratch.old scratch.new }
 {
-    answers::replaced(spares::replace(shape, r, table, scratch, block))
+    TbReplaced::from(spares::replace(shape, r, table, scratch, block))
 }
 
 // Counts the descriptors of each code. Checks 1, 7, 11.
@@ -237,7 +237,7 @@ pub extern "C" fn tb_spare_census(
     ensures tells_counted { TellsCounted (CensusOf shape r table.now scratch.old) result }
     ensures scratched { Scratched shape r scratch.old scratch.new }
 {
-    answers::counted(spares::census(shape, r, table, scratch))
+    TbCounted::from(spares::census(shape, r, table, scratch))
 }
 
 // The first table of a list of bad sectors into the room, and its length. Checks 1, list, 7, 13.
@@ -245,7 +245,7 @@ pub extern "C" fn tb_spare_census(
 pub extern "C" fn tb_spare_first(shape: Shape, r: u32, list: &[u32], room: &mut [u32]) -> TbWritten
     ensures { TellsWritten (λ answer. FirstTable shape r list.now room.old answer room.new) result }
 {
-    answers::written(spares::first_table(shape, r, list, room))
+    TbWritten::from(spares::first_table(shape, r, list, room))
 }
 
 // Writes the image of a block's data, good or forced, with the code that tells where the block is, and answers its length. Checks 1, 14, 5, 22, 7.
@@ -260,7 +260,7 @@ pub extern "C" fn tb_image_write(
 ) -> TbWritten
     ensures { TellsWritten (λ answer. Write size block code «data».now forced room.old answer room.new) result }
 {
-    answers::written(image::write(size, block, code, data, forced, room))
+    TbWritten::from(image::write(size, block, code, data, forced, room))
 }
 
 // The code and the block that the header of an image says. Checks 1, 14, 15, 16.
@@ -268,7 +268,7 @@ pub extern "C" fn tb_image_write(
 pub extern "C" fn tb_image_header(size: u32, image: &[u8]) -> TbHeaded
     ensures { TellsHeaded (Header size image.now) result }
 {
-    answers::headed(image::header(size, image))
+    TbHeaded::from(image::header(size, image))
 }
 
 // The verdict on the image of a block with a code. Checks 1, 14, 15, 16, then 17 or 18.
@@ -276,7 +276,7 @@ pub extern "C" fn tb_image_header(size: u32, image: &[u8]) -> TbHeaded
 pub extern "C" fn tb_image_judge(size: u32, image: &[u8], block: u32, code: u32) -> TbJudged
     ensures { TellsJudged (ImageVerdict size image.now block code) result }
 {
-    answers::judged(image::judge(size, image, block, code))
+    TbJudged::from(image::judge(size, image, block, code))
 }
 
 // The size of the drive's sectors, from the sector images of the XBN area, in which copies of the format table begin so many sectors apart. Checks 1, 21.
@@ -284,7 +284,7 @@ pub extern "C" fn tb_image_judge(size: u32, image: &[u8], block: u32, code: u32)
 pub extern "C" fn tb_mode(images: &[u8], apart: u32) -> TbSized
     ensures { TellsSized (Finds images.now apart) result }
 {
-    answers::sized(mode::find(images, apart))
+    TbSized::from(mode::find(images, apart))
 }
 
 // The tracks to fetch for a read of a block, and how many cylinders the arm moves between them. Checks 1, 7, 11, 5.
@@ -299,7 +299,7 @@ pub extern "C" fn tb_read_tracks(
     ensures tells_tracks { TellsTracks (TracksOf shape r table.now scratch.old block) result }
     ensures scratched { Scratched shape r scratch.old scratch.new }
 {
-    answers::tracked(reading::tracks(shape, r, table, scratch, block))
+    TbTracks::from(reading::tracks(shape, r, table, scratch, block))
 }
 
 // The verdict on a block from the images of its home track and of its spare's track. Checks 1, 7, 11, 5, 14, 15 to 18.
@@ -317,7 +317,7 @@ pub extern "C" fn tb_read_judge<'a>(
     ensures tells_judged { TellsJudged (ReadVerdict size shape r table.now scratch.old block home.now spare.now) result }
     ensures read_scratched { ReadScratched size shape r scratch.old scratch.new }
 {
-    answers::judged(reading::judge(size, shape, r, table, scratch, block, home, spare))
+    TbJudged::from(reading::judge(size, shape, r, table, scratch, block, home, spare))
 }
 
 // In which image, and how far inside it, the data of a good block begins. Checks 1, 7, 11, 5, 14, 15 to 18.
@@ -335,5 +335,5 @@ pub extern "C" fn tb_read_data<'a>(
     ensures tells_spotted { TellsSpotted (Spots size shape r table.now scratch.old block home.now spare.now) result }
     ensures read_scratched { ReadScratched size shape r scratch.old scratch.new }
 {
-    answers::spotted(reading::spot(size, shape, r, table, scratch, block, home, spare))
+    TbSpotted::from(reading::spot(size, shape, r, table, scratch, block, home, spare))
 }

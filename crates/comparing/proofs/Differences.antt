@@ -1,13 +1,16 @@
--- The laws of how many places of two rows differ: none exactly where they are the same row, and the count as it goes on from place to place.
+-- The laws of how many places of two rows differ: none exactly where they are the same row, and how many of those that both have, beside those that one lacks.
 -- Assumes nothing.
-use Prim.Native.Nat.{ℕ, ◌+◌, ◌-◌, ◌<◌, ◌≤◌}
-use mathlib.Core.Path.{◌≡◌, refl, ◌∙◌}
+use Prim.Native.Nat.{ℕ, ◌+◌, ◌-◌}
+use mathlib.Core.Path.{◌≡◌, refl, sym, ◌∙◌, ap}
 use mathlib.Core.List.{List, [], ◌∷◌}
+use mathlib.Core.Bool.{Bool, not, cond}
 use native.Mathlib.Omega.{arith}
-use lib.ListN.{length, get_or, drop, replicate, length-drop, length-replicate, get_or-replicate}
+use Rattle.std.specs.List.{count_by, zip}
+use Rattle.std.proofs.lemmas.List.Recursion.{is_count_by}
+use lib.Dec.{eqb}
+use lib.ListN.{length, replicate}
 use borrow.Author.Tests.{eq-eqb, ne_eqb}
 use Rattle.paper.proofs.Cases.{by_eq}
-use Rattle.seek.proofs.Drops.{drop-next, drop_past}
 use Rattle.comparing.specs.Differing.{unlike, differing}
 
 pub same_none : (a : List ℕ) → differing a a ≡ 0
@@ -28,46 +31,34 @@ none-same (x ∷ a) (y ∷ b) none =
     cc)
     (λ other. let some : 1 + differing a b ≡ 0 = rw (ne_eqb x y other) at none in absurd (omega arith))
 
-differing-right : (a : List ℕ) → differing a [] ≡ length a
+-- how many of a list pass a test, from its first on
+count_of : {X : Type 0} → (X → Bool) → List X → ℕ
+count_of p [] = 0
+count_of p (x ∷ l) = cond (p x) (1 + count_of p l) (count_of p l)
+
+count-first : {X : Type 0} (p : X → Bool) (x : X) (l : List X) → count_by p (x ∷ l) ≡ cond (p x) (1 + count_by p l) (count_by p l)
+unfolding count_of
+count-first p x l =
+    let is : (m : List _) → count_of p m ≡ count_by p m = is_count_by (count_of p) p refl (λ y m. refl) in
+    sym (is (x ∷ l)) ∙ ap (λ (k : ℕ). cond (p x) (1 + k) k) (is l)
+
+not-same : (x y k : ℕ) → cond (not (eqb x y)) (1 + k) k ≡ unlike x y + k
+not-same x y k = by_eq x y (λ same. rw (eq-eqb x y same) (omega arith)) (λ other. rw (ne_eqb x y other) (omega arith))
+
+-- the places that both rows have, and those that one of them lacks
+pub differing-is :
+    (a b : List ℕ) → count_by (λ (both : ℕ × ℕ). not (eqb both.0 both.1)) (zip a b) + ((length a - length b) + (length b - length a)) ≡ differing a b
 unfolding differing
-differing-right [] = refl
-differing-right (x ∷ a) = refl
+differing-is [] b = omega arith
+differing-is (x ∷ a) [] = omega arith
+differing-is (x ∷ a) (y ∷ b) =
+    let first : count_by (λ (both : ℕ × ℕ). not (eqb both.0 both.1)) (zip (x ∷ a) (y ∷ b)) ≡ unlike x y + count_by (λ (both : ℕ × ℕ). not (eqb both.0 both.1)) (zip a b) =
+    count-first (λ (both : ℕ × ℕ). not (eqb both.0 both.1)) (x, y) (zip a b) ∙ not-same x y _ in
+    omega (arith, first, differing-is a b)
 
--- so many differ before a place, and the rest are to come
-pub record Counted (a b : List ℕ) (i count : ℕ) : Type 0 where
-  pub within-left : i ≤ length a
-  pub within-right : i ≤ length b
-  pub few : count ≤ i
-  pub goes_on : differing a b ≡ count + differing (drop i a) (drop i b)
-
-pub counted_none : (a b : List ℕ) → Counted a b 0 0
-counted_none a b = record { within-left = omega arith; within-right = omega arith; few = omega arith; goes_on = omega arith }
-
-module _ {a b : List ℕ} {i count : ℕ} (counted : Counted a b i count) where
-  pub counted-more :
-      {one : ℕ} → i < length a → i < length b → one ≤ 1 → one ≡ unlike (get_or a i 0) (get_or b i 0) → Counted a b (i + 1) (count + one)
-  unfolding differing
-  counted-more {one} left right small is =
-      let next : differing (drop i a) (drop i b) ≡ one + differing (drop (i + 1) a) (drop (i + 1) b) = rw (drop-next a i left, drop-next b i right, is) in
-      record { within-left = omega arith; within-right = omega arith; few = omega (arith, counted.few); goes_on = omega (arith, counted.goes_on) }
-
-  -- the left row has ended
-  pub counted-left : length a ≤ i → differing a b ≡ count + (length b - i)
-  unfolding differing
-  counted-left ended = counted.goes_on ∙ rw (drop_past a i ended, length-drop i b)
-
-  -- the right row has ended
-  pub counted-right : length b ≤ i → differing a b ≡ count + (length a - i)
-  counted-right ended = counted.goes_on ∙ rw (drop_past b i ended, differing-right (drop i a), length-drop i a)
-
--- the same of a room that was full of one number
-module _ {room : List ℕ} (before : ℕ) {i count : ℕ} (counted : Counted room (replicate (length room) before) i count) where
-  pub changed-more :
-      {one : ℕ} → i < length room → one ≤ 1 → one ≡ unlike (get_or room i 0) before →
-      Counted room (replicate (length room) before) (i + 1) (count + one)
-  changed-more more small is =
-      counted-more counted more (rw (length-replicate (length room) before) more) small
-      (rw (get_or-replicate (length room) i before 0 more) is)
-
-  pub changed-all : length room ≤ i → count ≡ differing room (replicate (length room) before)
-  changed-all all = omega (arith, counted-left counted all, length-replicate (length room) before)
+-- a room that was full of one number
+pub changed-is : (room : List ℕ) (before : ℕ) → count_by (λ x. not (eqb x before)) room ≡ differing room (replicate (length room) before)
+unfolding differing
+changed-is [] before = refl
+changed-is (x ∷ room) before =
+    count-first (λ x. not (eqb x before)) x room ∙ (not-same x before _ ∙ ap (λ (k : ℕ). unlike x before + k) (changed-is room before))

@@ -1,9 +1,9 @@
 // Rows of numbers to try: filled, cut and compared.
 #![tactic(auto)]
 
-ghost use Rattle.std.specs.Prelude.{◌≡◌, ◌+◌, ◌*◌, ◌^◌, ◌<◌, ◌≤◌, length, take, replicate};
+ghost use Rattle.std.specs.Prelude.{◌≡◌, ◌==◌, ◌+◌, ◌*◌, ◌^◌, ◌<◌, ◌≤◌, not, length, take, replicate, count_by, zip};
 ghost use Rattle.comparing.specs.Spread.{spread};
-ghost use Rattle.comparing.specs.Differing.{unlike, differing};
+ghost use Rattle.comparing.specs.Differing.{differing};
 
 // Fills a room with numbers, each so much more than the one before. Only other crates call this.
 pub fn spread(room: &mut [u32], first: u32, gap: u32)
@@ -11,91 +11,45 @@ pub fn spread(room: &mut [u32], first: u32, gap: u32)
     ensures { room.new ≡ spread first gap (length room.old) }
 {
     let mut next = first;
-    let mut i = 0;
-    while i < room.len() {
-        room[i] = next;
+    for place in room.iter_mut() {
+        *place = next;
         next += gap;
-        i += 1;
     }
 }
 
-// 1 for two numbers that differ, else 0.
-fn unlike(x: u32, y: u32) -> usize
-    ensures value { result ≡ unlike x y }
-    ensures upper_bound { result ≤ 1 }
+// At how many of the places that both rows have they differ.
+fn unlike(a: &[u32], b: &[u32]) -> usize
+    ensures value { result ≡ count_by (λ both. not (both.0 == both.1)) (zip a.now b.now) }
+    ensures upper_bound { result ≤ length a.now }
 {
-    if x == y {
-        return 0;
-    }
-    1
+    a.iter().zip(b).filter(|(x, y)| **x != **y).count()
 }
 
 // At how many places two rows differ; a place that one of them lacks differs too. Only other crates call this.
 pub fn differing(a: &[u32], b: &[u32]) -> usize
     ensures { result ≡ differing a.now b.now }
 {
-    let mut count = 0;
-    let mut i = 0;
-    while i < a.len() {
-        if b.len() <= i {
-            return count + (a.len() - i);
-        }
-        count += unlike(a[i], b[i]);
-        i += 1;
-    }
-    count + (b.len() - i)
+    unlike(a, b) + a.len().abs_diff(b.len())
 }
 
-// How many places of a room that was full of one number hold another. Only other crates call this.
-pub fn changed(room: &[u32], before: u32) -> usize
-    ensures { result ≡ differing room.now (replicate (length room.now) before) }
+// How many places of a room that was full of one value hold another. Only other crates call this.
+pub fn changed<T: Copy + PartialEq>(room: &[T], before: T) -> usize
+    ensures { result ≡ count_by (λ x. not (T.eq x before)) room.now }
 {
-    let mut count = 0;
-    let mut i = 0;
-    while i < room.len() {
-        count += unlike(room[i], before);
-        i += 1;
-    }
-    count
+    room.iter().filter(|x| **x != before).count()
 }
 
-fn wide(x: u8) -> u32
-    ensures { result ≡ x }
+// Of numbers and of bytes, these are the places where the room differs from one that is full of that value.
+fn changed_agrees(numbers: &[u32], number: u32, bytes: &[u8], byte: u8) -> (usize, usize)
+    ensures of_numbers { result.0 ≡ differing numbers.now (replicate (length numbers.now) number) }
+    ensures of_bytes { result.1 ≡ differing bytes.now (replicate (length bytes.now) byte) }
 {
-    x as u32
-}
-
-// The same of a room of bytes. Only other crates call this.
-pub fn changed_bytes(room: &[u8], before: u8) -> usize
-    ensures { result ≡ differing room.now (replicate (length room.now) before) }
-{
-    let mut count = 0;
-    let mut i = 0;
-    while i < room.len() {
-        count += unlike(wide(room[i]), wide(before));
-        i += 1;
-    }
-    count
+    (changed(numbers, number), changed(bytes, byte))
 }
 
 // The first so many of a row, or all where it has fewer. Only other crates call this.
-pub fn first(row: &[u32], count: u32) -> &[u32]
+pub fn first<T>(row: &[T], count: u32) -> &[T]
     ensures { result.now ≡ take count row.now }
 {
-    let many = count as usize;
-    if many < row.len() {
-        return &row[..many];
-    }
-    row
-}
-
-// The first so many bytes of a row, or all where it has fewer. Only other crates call this.
-pub fn first_bytes(row: &[u8], count: u32) -> &[u8]
-    ensures { result.now ≡ take count row.now }
-{
-    let many = count as usize;
-    if many < row.len() {
-        return &row[..many];
-    }
-    row
+    &row[..row.len().min(count as usize)]
 }

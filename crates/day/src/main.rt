@@ -1,20 +1,24 @@
 // The day of a block on a small drive: the drive comes online and says the size of its sectors, the gauge log of a vacuum turntable is written, moved to a spare, read back and refused, moved to another spare, and at night a scan changes the map of a drive that skips.
 #![tactic(auto)]
 
-use format::Formatted;
 use image::AT_HOME;
-use mode::Mode;
-use paper::Placed;
-use reading::{Spot, Track, Tracks};
+use paper::Refusal;
+use reading::{Spot, Track};
 use shape::Shape;
-use skip::{Cursor, Job};
-use spares::{Counted, Replaced, Shifted};
+use skip::Cursor;
+use std::fmt::Write;
+use telling::Output;
+use telling::answers::{Header, Location, Tracks, Verdict};
+use telling::rows::{Entries, Text};
 
 // Sectors from one copy of the format table to the next.
 const APART: u32 = 1;
 
 // The block of the gauge log.
 const GAUGE: u32 = 6;
+
+// Data bytes of a sector that holds a copy of the format table.
+const PLAIN: u32 = paper::DATA_SIZE as u32;
 
 // Cylinders and heads of the drive of the gauge log, and all its sectors.
 const CYLINDERS: u32 = 2;
@@ -55,11 +59,9 @@ fn drive() -> Shape {
 }
 
 // Writes the number of a refusal and what it means, and ends the line.
-fn refused(words: &[u8], fault: u32) {
-    telling::number(words, fault);
-    telling::text(b": ");
-    telling::answers::meaning(fault);
-    telling::end();
+fn refused(out: &mut Output, words: &str, refusal: Refusal) {
+    let number = refusal.number();
+    let _ = writeln!(out, "{words} {number}: {refusal}");
 }
 
 // The image of the first sector of a copy of the format table, whose first word is the size 576.
@@ -67,81 +69,68 @@ fn copy_at(xbn: u32) -> [u8; 530] {
     let mut data = [0u8; 512];
     words::put16(&mut data, 0, 576);
     let mut image = [0u8; 530];
-    image::write(
-        paper::DATA_SIZE as u32,
-        xbn,
-        AT_HOME,
-        &data,
-        false,
-        &mut image,
-    );
+    let _ = image::write(PLAIN, xbn, AT_HOME, &data, false, &mut image);
     image
 }
 
 // The same with one bit of the first word turned over.
 fn bad_copy_at(xbn: u32) -> [u8; 530] {
     let mut image = copy_at(xbn);
-    image[17] = image[17] ^ 1;
+    image[17] ^= 1;
     image
 }
 
 // Writes the verdict on a copy of the format table.
-fn tell_copy(words: &[u8], image: &[u8; 530], xbn: u32) {
-    telling::answers::judged(
-        words,
-        image::judge(paper::DATA_SIZE as u32, image, xbn, AT_HOME),
-    );
+fn tell_copy(out: &mut Output, words: &str, image: &[u8; 530], xbn: u32) {
+    let verdict = Verdict(image::judge(PLAIN, image, xbn, AT_HOME));
+    let _ = writeln!(out, "{words}: {verdict}");
 }
 
 // The images of the sectors at XBN 0 and 1, a copy of the format table on each.
-fn copies(first: &[u8; 530], second: &[u8; 530]) -> [u8; 1_060] {
-    tell_copy(b"The first copy of its format table: ", first, 0);
-    tell_copy(b"The second copy: ", second, 1);
+fn copies(out: &mut Output, first: &[u8; 530], second: &[u8; 530]) -> [u8; 1_060] {
+    tell_copy(out, "The first copy of its format table", first, 0);
+    tell_copy(out, "The second copy", second, 1);
     let mut images = [0u8; 1_060];
-    image::put_bytes(&mut images, 0, first);
-    image::put_bytes(&mut images, 530, second);
+    images[..530].copy_from_slice(first);
+    images[530..].copy_from_slice(second);
     images
 }
 
 // Writes how the spares stand.
-fn tell_spares(table: &[u32]) {
+fn tell_spares(out: &mut Output, table: &[u32]) {
     match spares::census(drive(), SPARES, table, &mut [0u32; NUMBERS]) {
-        Counted::Counts(census) => {
-            telling::number(b"Spares free: ", census.free);
-            telling::number(b", in use as a primary: ", census.primary);
-            telling::number(b", in use elsewhere: ", census.elsewhere);
-            telling::number(b", unusable: ", census.unusable);
-            telling::end();
+        Ok(census) => {
+            let _ = writeln!(
+                out,
+                "Spares free: {}, in use as a primary: {}, in use elsewhere: {}, unusable: {}",
+                census.free, census.primary, census.elsewhere, census.unusable
+            );
         }
-        Counted::Refused(fault) => refused(b"Refused ", fault),
+        Err(refusal) => refused(out, "Refused", refusal),
     }
 }
 
 // Writes where the gauge log lies.
-fn tell_place(words: &[u8], table: &[u32]) {
-    telling::text(words);
-    match spares::sector_of(drive(), SPARES, table, &mut [0u32; NUMBERS], GAUGE) {
-        Placed::At(sector) => telling::number(b" lies on sector ", sector),
-        Placed::Refused(fault) => telling::number(b" is refused ", fault),
-    }
-    telling::answers::located(
-        b": ",
-        spares::address_of(drive(), SPARES, table, &mut [0u32; NUMBERS], GAUGE),
-    );
+fn tell_place(out: &mut Output, words: &str, table: &[u32]) {
+    let mut scratch = [0u32; NUMBERS];
+    let _ = match spares::sector_of(drive(), SPARES, table, &mut scratch, GAUGE) {
+        Ok(sector) => write!(out, "{words} lies on sector {sector}"),
+        Err(refusal) => write!(out, "{words} is refused {}", refusal.number()),
+    };
+    let location = Location(spares::address_of(drive(), SPARES, table, &mut scratch, GAUGE));
+    let _ = writeln!(out, ": {location}");
 }
 
 // The sector that a block lies on; where that is refused, one that the drive does not have.
 fn sector_now(table: &[u32], block: u32) -> u32 {
-    match spares::sector_of(drive(), SPARES, table, &mut [0u32; NUMBERS], block) {
-        Placed::At(sector) => sector,
-        Placed::Refused(_) => SECTORS,
-    }
+    spares::sector_of(drive(), SPARES, table, &mut [0u32; NUMBERS], block).unwrap_or(SECTORS)
 }
 
 // Writes the image of a sector to the drive, where the drive has such a sector.
 fn put_sector(bytes: &mut [u8; BYTES], sector: u32, image: &[u8; SECTOR]) {
     if sector < SECTORS {
-        image::put_bytes(bytes, sector as usize * SECTOR, image);
+        let start = sector as usize * SECTOR;
+        bytes[start..start + SECTOR].copy_from_slice(image);
     }
 }
 
@@ -149,55 +138,63 @@ fn put_sector(bytes: &mut [u8; BYTES], sector: u32, image: &[u8; SECTOR]) {
 fn sector_at(bytes: &[u8; BYTES], sector: u32) -> [u8; SECTOR] {
     let mut image = [0u8; SECTOR];
     if sector < SECTORS {
-        let whole = &bytes[..];
         let start = sector as usize * SECTOR;
-        image::put_bytes(&mut image, 0, &whole[start..start + SECTOR]);
+        image.copy_from_slice(&bytes[start..start + SECTOR]);
     }
     image
 }
 
 // The image of a track of the drive; where the drive has no such track, an empty part.
 fn track_at(bytes: &[u8; BYTES], track: Track) -> &[u8] {
-    let whole = &bytes[..];
-    if CYLINDERS <= track.cylinder {
-        return &whole[0..0];
-    }
-    if HEADS <= track.head {
-        return &whole[0..0];
+    if CYLINDERS <= track.cylinder || HEADS <= track.head {
+        return &[];
     }
     let start = (track.cylinder * HEADS + track.head) as usize * TRACK;
-    &whole[start..start + TRACK]
+    &bytes[start..start + TRACK]
 }
 
 // Writes a reading of the gauge to the sector that the gauge log lies on, with the code that tells where that is.
-fn write_gauge(size: u32, table: &[u32], bytes: &mut [u8; BYTES], reading: &[u8; 13], code: u32) {
+fn write_gauge(
+    out: &mut Output,
+    size: u32,
+    table: &[u32],
+    bytes: &mut [u8; BYTES],
+    reading: &[u8; 13],
+    code: u32,
+) {
     let mut data = [0u8; 576];
-    image::put_bytes(&mut data, 0, reading);
+    data[..13].copy_from_slice(reading);
     let mut image = [0u8; SECTOR];
-    image::write(size, GAUGE, code, &data, false, &mut image);
+    let _ = image::write(size, GAUGE, code, &data, false, &mut image);
     put_sector(bytes, sector_now(table, GAUGE), &image);
-    telling::text(b"The gauge is written: ");
-    telling::line(reading);
-    telling::answers::headed(b"The sector's header says: ", image::header(size, &image));
+    let header = Header(image::header(size, &image));
+    let _ = writeln!(out, "The gauge is written: {}", Text(reading));
+    let _ = writeln!(out, "The sector's header says: {header}");
 }
 
 // Writes a block whose data is lost on the spare that it has gone to, as forced, so that no older image is taken for it.
-fn write_lost(size: u32, table: &[u32], bytes: &mut [u8; BYTES], block: u32, code: u32) {
+fn write_lost(
+    out: &mut Output,
+    size: u32,
+    table: &[u32],
+    bytes: &mut [u8; BYTES],
+    block: u32,
+    code: u32,
+) {
     let mut image = [0u8; SECTOR];
-    image::write(size, block, code, &[0u8; 576], true, &mut image);
+    let _ = image::write(size, block, code, &[0u8; 576], true, &mut image);
     put_sector(bytes, sector_now(table, block), &image);
-    telling::line(b"Its data is lost, and it is written there as forced.");
+    let _ = writeln!(out, "Its data is lost, and it is written there as forced.");
 }
 
 // Writes where the bytes of the gauge begin and what they say.
-fn tell_part(words: &[u8], offset: u32, part: &[u8]) {
-    telling::number(words, offset);
-    telling::text(b": ");
-    telling::line(comparing::first_bytes(part, READING));
+fn tell_part(out: &mut Output, words: &str, offset: u32, part: &[u8]) {
+    let reading = Text(comparing::first(part, READING));
+    let _ = writeln!(out, "Read from its {words}, byte {offset}: {reading}");
 }
 
 // Reads the gauge from the images of its two tracks.
-fn tell_data<'a>(size: u32, table: &[u32], home: &'a [u8], second: &'a [u8]) {
+fn tell_data<'a>(out: &mut Output, size: u32, table: &[u32], home: &'a [u8], second: &'a [u8]) {
     let part = reading::data(
         size,
         drive(),
@@ -218,228 +215,237 @@ fn tell_data<'a>(size: u32, table: &[u32], home: &'a [u8], second: &'a [u8]) {
         home,
         second,
     ) {
-        Spot::InHome(offset) => tell_part(b"Read from its home track, byte ", offset, part),
-        Spot::InSpare(offset) => tell_part(b"Read from its spare's track, byte ", offset, part),
-        Spot::Refused(fault) => {
-            refused(b"The read is refused, ", fault);
-            telling::count_line(b"Bytes handed back: ", part.len());
+        Ok(Spot::InHome(offset)) => tell_part(out, "home track", offset, part),
+        Ok(Spot::InSpare(offset)) => tell_part(out, "spare's track", offset, part),
+        Err(refusal) => {
+            refused(out, "The read is refused,", refusal);
+            let _ = writeln!(out, "Bytes handed back: {}", part.len());
         }
     }
 }
 
 // Reads the gauge: asks for its two tracks, fetches them from the drive, and reads from their images.
-fn tell_read(size: u32, table: &[u32], bytes: &[u8; BYTES]) {
+fn tell_read(out: &mut Output, size: u32, table: &[u32], bytes: &[u8; BYTES]) {
     let answer = reading::tracks(drive(), SPARES, table, &mut [0u32; NUMBERS], GAUGE);
-    telling::answers::fetched(b"To fetch: ", answer);
-    match answer {
-        Tracks::Fetch(pair) => tell_data(
-            size,
-            table,
-            track_at(bytes, pair.home),
-            track_at(bytes, pair.there),
-        ),
-        Tracks::Refused(_) => {}
+    let _ = writeln!(out, "To fetch: {}", Tracks(answer));
+    if let Ok(pair) = answer {
+        let home = track_at(bytes, pair.home);
+        let second = track_at(bytes, pair.there);
+        tell_data(out, size, table, home, second);
     }
 }
 
 // Writes how far a block was moved.
-fn tell_shift(table: &[u32], block: u32) {
+fn tell_shift(out: &mut Output, table: &[u32], block: u32) {
     match spares::shift(drive(), SPARES, table, &mut [0u32; NUMBERS], block) {
-        Shifted::By(shift) => {
-            telling::signed(b", shift ", shift);
-            if shift == 0 {
-                telling::line(b": on its own cylinder.");
-                return;
-            }
-            if shift == -1 {
-                telling::line(b": one cylinder toward cylinder 0.");
-                return;
-            }
-            telling::line(b": on another cylinder.");
+        Ok(shift) => {
+            let to = match shift {
+                0 => "on its own cylinder",
+                -1 => "one cylinder toward cylinder 0",
+                _ => "on another cylinder",
+            };
+            let _ = writeln!(out, ", shift {shift}: {to}.");
         }
-        Shifted::Refused(fault) => refused(b", refused ", fault),
+        Err(refusal) => refused(out, ", refused", refusal),
     }
 }
 
 // The code of the descriptor at a place of a table; where the table has no such place, that of a block at home.
 fn code_at(table: &[u32], place: u32) -> u32 {
-    let at = place as usize;
-    if at < table.len() {
-        return words::code_of(table[at]);
+    match table.get(place as usize) {
+        Some(word) => words::code_of(*word),
+        None => AT_HOME,
     }
-    AT_HOME
 }
 
 // Sends a block to a spare, and hands back the code of its descriptor there; where that is refused, the code of a block at home.
-fn tell_replacement(block: u32, words: &[u8], table: &mut [u32]) -> u32 {
-    telling::number(b"Block ", block);
-    telling::text(words);
+fn tell_replacement(out: &mut Output, block: u32, words: &str, table: &mut [u32]) -> u32 {
+    let _ = write!(out, "Block {block}, {words},");
     match spares::replace(drive(), SPARES, table, &mut [0u32; NUMBERS], block) {
-        Replaced::Place(place) => {
-            telling::number(b" goes to spare ", place);
-            tell_shift(table, block);
+        Ok(place) => {
+            let _ = write!(out, " goes to spare {place}");
+            tell_shift(out, table, block);
             code_at(table, place)
         }
-        Replaced::Refused(fault) => {
-            refused(b" is refused ", fault);
+        Err(refusal) => {
+            refused(out, " is refused", refusal);
             AT_HOME
         }
     }
 }
 
 // Writes the size of the drive's sectors and its shape, and where its second head starts.
-fn tell_drive(size: u32, shape: Shape) {
-    telling::number(b"The size of its sectors: ", size);
-    telling::line(b" bytes");
-    telling::number(b"The drive: ", shape.cylinders);
-    telling::number(b" cylinders, ", shape.heads);
-    telling::number(b" heads, ", shape.sectors);
-    telling::number(b" sectors to a track, the last ", SPARES);
-    telling::line(b" of them spares");
-    telling::number(b"Its heads are ", shape.groups);
-    telling::number(b" groups of ", shape.tracks);
-    telling::number(b" track, and each starts ", shape.offset);
-    telling::line(b" sectors after the one before it");
+fn tell_drive(out: &mut Output, size: u32, shape: Shape) {
+    let Shape {
+        cylinders,
+        heads,
+        sectors,
+        groups,
+        tracks,
+        offset,
+    } = shape;
+    let _ = writeln!(out, "The size of its sectors: {size} bytes");
+    let _ = writeln!(
+        out,
+        "The drive: {cylinders} cylinders, {heads} heads, {sectors} sectors to a track, the last {SPARES} of them spares"
+    );
+    let _ = writeln!(
+        out,
+        "Its heads are {groups} groups of {tracks} track, and each starts {offset} sectors after the one before it"
+    );
 }
 
 // The gauge log at home.
-fn morning(size: u32, table: &[u32], bytes: &mut [u8; BYTES]) {
-    telling::line(b"Morning: the pump runs");
-    telling::number(b"The gauge log is block ", GAUGE);
-    tell_place(b". It", table);
-    write_gauge(size, table, bytes, b"vacuum 82 kPa", AT_HOME);
-    tell_read(size, table, bytes);
-    telling::end();
+fn morning(out: &mut Output, size: u32, table: &[u32], bytes: &mut [u8; BYTES]) {
+    let _ = writeln!(out, "Morning: the pump runs");
+    let _ = write!(out, "The gauge log is block {GAUGE}. ");
+    tell_place(out, "It", table);
+    write_gauge(out, size, table, bytes, b"vacuum 82 kPa", AT_HOME);
+    tell_read(out, size, table, bytes);
+    let _ = writeln!(out);
 }
 
 // The track of the gauge log goes bad, and its blocks are replaced. The code of the gauge log there is handed back.
-fn noon(size: u32, table: &mut [u32], bytes: &mut [u8; BYTES]) -> u32 {
-    telling::line(b"Noon: the track goes bad");
-    let seven = tell_replacement(7, b", a sound recording,", table);
-    write_lost(size, table, bytes, 7, seven);
-    let eight = tell_replacement(8, b", a sound recording,", table);
-    write_lost(size, table, bytes, 8, eight);
-    let code = tell_replacement(GAUGE, b", the gauge log,", table);
-    tell_place(b"The gauge log now", table);
-    telling::line(
-        b"A board that lost the sign sent the arm to the far end and gave out an old block.",
+fn noon(out: &mut Output, size: u32, table: &mut [u32], bytes: &mut [u8; BYTES]) -> u32 {
+    let _ = writeln!(out, "Noon: the track goes bad");
+    let seven = tell_replacement(out, 7, "a sound recording", table);
+    write_lost(out, size, table, bytes, 7, seven);
+    let eight = tell_replacement(out, 8, "a sound recording", table);
+    write_lost(out, size, table, bytes, 8, eight);
+    let code = tell_replacement(out, GAUGE, "the gauge log", table);
+    tell_place(out, "The gauge log now", table);
+    let _ = writeln!(
+        out,
+        "A board that lost the sign sent the arm to the far end and gave out an old block."
     );
-    telling::end();
+    let _ = writeln!(out);
     code
 }
 
 // The old sector of the gauge log is copied to its spare, which is no way to write it there.
-fn copy_old(size: u32, table: &[u32], bytes: &mut [u8; BYTES], home: u32) {
+fn copy_old(out: &mut Output, size: u32, table: &[u32], bytes: &mut [u8; BYTES], home: u32) {
     let old = sector_at(bytes, home);
     put_sector(bytes, sector_now(table, GAUGE), &old);
-    telling::line(b"The old sector is copied to the spare as it is.");
-    tell_read(size, table, bytes);
+    let _ = writeln!(out, "The old sector is copied to the spare as it is.");
+    tell_read(out, size, table, bytes);
 }
 
 // Writes what the old sector of the gauge log says.
-fn tell_old(size: u32, bytes: &[u8; BYTES], home: u32) {
+fn tell_old(out: &mut Output, size: u32, bytes: &[u8; BYTES], home: u32) {
     let old = sector_at(bytes, home);
-    telling::text(b"Its old sector is still good, and still says: ");
-    telling::line(comparing::first_bytes(image::data(size, &old, GAUGE, AT_HOME), READING));
+    let data = image::data(size, &old, GAUGE, AT_HOME);
+    let reading = Text(comparing::first(data, READING));
+    let _ = writeln!(
+        out,
+        "Its old sector is still good, and still says: {reading}"
+    );
 }
 
 // One bit of the data turns over on the sector that the gauge log lies on.
-fn turn_bit(table: &[u32], bytes: &mut [u8; BYTES]) {
+fn turn_bit(out: &mut Output, table: &[u32], bytes: &mut [u8; BYTES]) {
     let sector = sector_now(table, GAUGE);
     let mut image = sector_at(bytes, sector);
-    image[16] = image[16] ^ 1;
+    image[16] ^= 1;
     put_sector(bytes, sector, &image);
-    telling::line(b"The spare goes bad: one bit turns over.");
+    let _ = writeln!(out, "The spare goes bad: one bit turns over.");
 }
 
 // The gauge log on its spare, while its home still holds the morning's reading; then the spare goes bad, and the gauge log moves again.
-fn afternoon(size: u32, table: &mut [u32], bytes: &mut [u8; BYTES], home: u32, code: u32) {
-    telling::line(b"Afternoon: the pump slows down");
-    copy_old(size, table, bytes, home);
-    write_gauge(size, table, bytes, b"vacuum 79 kPa", code);
-    tell_read(size, table, bytes);
-    tell_old(size, bytes, home);
-    turn_bit(table, bytes);
-    tell_read(size, table, bytes);
-    let again = tell_replacement(GAUGE, b", the gauge log,", table);
-    tell_place(b"The gauge log now", table);
-    write_gauge(size, table, bytes, b"vacuum 78 kPa", again);
-    tell_read(size, table, bytes);
-    telling::end();
+fn afternoon(
+    out: &mut Output,
+    size: u32,
+    table: &mut [u32],
+    bytes: &mut [u8; BYTES],
+    home: u32,
+    code: u32,
+) {
+    let _ = writeln!(out, "Afternoon: the pump slows down");
+    copy_old(out, size, table, bytes, home);
+    write_gauge(out, size, table, bytes, b"vacuum 79 kPa", code);
+    tell_read(out, size, table, bytes);
+    tell_old(out, size, bytes, home);
+    turn_bit(out, table, bytes);
+    tell_read(out, size, table, bytes);
+    let again = tell_replacement(out, GAUGE, "the gauge log", table);
+    tell_place(out, "The gauge log now", table);
+    write_gauge(out, size, table, bytes, b"vacuum 78 kPa", again);
+    tell_read(out, size, table, bytes);
+    let _ = writeln!(out);
 }
 
 // Steps a job, and writes the sector of its block.
-fn tell_step(list: &[u32], cursor: Cursor) -> Cursor {
-    let job = cursor.step(UNITS, list);
-    match job {
-        Job::Ready(_) => {}
-        Job::At(sector, _) => {
-            telling::number(b"  block ", cursor.block);
-            telling::number(b": sector ", sector);
-            telling::end();
+fn tell_step(out: &mut Output, list: &[u32], cursor: Cursor) -> Cursor {
+    let (answer, next) = cursor.step(UNITS, list);
+    match answer {
+        Ok(sector) => {
+            let _ = writeln!(out, "  block {}: sector {sector}", cursor.block);
         }
-        Job::Refused(fault, _) => refused(b"  then refused, ", fault),
+        Err(refusal) => refused(out, "  then refused,", refusal),
     }
-    telling::asking::handed_back(job)
+    next
 }
 
 // The new map, and a job on it.
-fn tell_map(grown: &[u32], list: &[u32]) {
-    telling::list(b"The new grown list: ", grown);
-    telling::list(b"The new list: ", list);
-    telling::line(b"A job goes on at block 13 of the new map:");
-    let first = telling::asking::handed_back(Cursor::start(UNITS, list, 13));
-    let second = tell_step(list, first);
-    let third = tell_step(list, second);
-    let end = tell_step(list, third);
-    tell_step(list, end);
+fn tell_map(out: &mut Output, grown: &[u32], list: &[u32]) {
+    let _ = writeln!(out, "The new grown list: {}", Entries(grown));
+    let _ = writeln!(out, "The new list: {}", Entries(list));
+    let _ = writeln!(out, "A job goes on at block 13 of the new map:");
+    let start = Cursor {
+        block: 0,
+        skipped: 0,
+    };
+    let mut cursor = Cursor::start(UNITS, list, 13).unwrap_or(start);
+    for _ in 0..4 {
+        cursor = tell_step(out, list, cursor);
+    }
 }
 
 // The night's scan of the drive that skips.
-fn night() {
+fn night(out: &mut Output) {
     let bad = [3, 7];
     let found = [3, 16];
-    telling::line(b"Night: a scan of the drive that skips its bad sectors");
-    telling::number(b"Its sectors: ", UNITS);
-    telling::list(b", the bad ones: ", &bad);
-    telling::list(b"The scan finds these blocks bad: ", &found);
-    telling::asking::block(UNITS, &bad, 3);
-    telling::asking::block(UNITS, &bad, 16);
+    let _ = writeln!(out, "Night: a scan of the drive that skips its bad sectors");
+    let _ = writeln!(out, "Its sectors: {UNITS}, the bad ones: {}", Entries(&bad));
+    let _ = writeln!(out, "The scan finds these blocks bad: {}", Entries(&found));
+    telling::asking::block(out, UNITS, &bad, 3);
+    telling::asking::block(out, UNITS, &bad, 16);
     let mut grown = [0u32; 20];
     let mut list = [0u32; 20];
     match format::format(UNITS, &bad, &[], 3, 1, &found, &mut grown, &mut list) {
-        Formatted::Done(taken, listed, _) => tell_map(
-            comparing::first(&grown, taken),
-            comparing::first(&list, listed),
+        Ok(made) => tell_map(
+            out,
+            comparing::first(&grown, made.grown),
+            comparing::first(&list, made.list),
         ),
-        Formatted::Refused(fault) => refused(b"Format is refused, ", fault),
+        Err(refusal) => refused(out, "Format is refused,", refusal),
     }
 }
 
 // The day, once the size of the drive's sectors is known.
-fn day(size: u32) {
+fn day(out: &mut Output, size: u32) {
     let mut table = [0u32; 128];
-    spares::first_table(drive(), SPARES, &[], &mut table);
-    tell_drive(size, drive());
-    tell_spares(&table);
-    telling::end();
+    let _ = spares::first_table(drive(), SPARES, &[], &mut table);
+    tell_drive(out, size, drive());
+    tell_spares(out, &table);
+    let _ = writeln!(out);
     let mut bytes = [0u8; BYTES];
     let home = sector_now(&table, GAUGE);
-    morning(size, &table, &mut bytes);
-    let code = noon(size, &mut table, &mut bytes);
-    afternoon(size, &mut table, &mut bytes, home, code);
-    telling::line(b"Evening: the spares are counted");
-    tell_spares(&table);
-    telling::end();
-    night();
+    morning(out, size, &table, &mut bytes);
+    let code = noon(out, size, &mut table, &mut bytes);
+    afternoon(out, size, &mut table, &mut bytes, home, code);
+    let _ = writeln!(out, "Evening: the spares are counted");
+    tell_spares(out, &table);
+    let _ = writeln!(out);
+    night(out);
 }
 
 fn main() {
-    telling::line(b"A day of the gauge log");
-    telling::end();
-    telling::line(b"Dawn: the drive comes online");
-    match mode::find(&copies(&bad_copy_at(0), &copy_at(1)), APART) {
-        Mode::Of(size) => day(size),
-        Mode::Refused(fault) => refused(b"The drive stays offline, ", fault),
+    let mut out = Output;
+    let _ = writeln!(out, "A day of the gauge log");
+    let _ = writeln!(out);
+    let _ = writeln!(out, "Dawn: the drive comes online");
+    match mode::find(&copies(&mut out, &bad_copy_at(0), &copy_at(1)), APART) {
+        Ok(size) => day(&mut out, size),
+        Err(refusal) => refused(&mut out, "The drive stays offline,", refusal),
     }
 }

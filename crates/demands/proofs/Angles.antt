@@ -1,6 +1,7 @@
 -- Angles: every address that is answered is that of a sector number, so the laws of `shape` hold of its angle; and a chain of checks looks at the groups in its check of the shape alone, so that bad ones are refused there and good ones change nothing after it.
 -- Assumes nothing.
 use Prim.Native.Nat.{ℕ, zero, suc, ◌<◌}
+use Rattle.std.specs.Prelude.{Result, Ok, Err}
 use mathlib.Core.Path.{◌≡◌, refl, sym, ◌∙◌, ap, subst}
 use mathlib.Core.List.{List}
 use native.Mathlib.Nat.{mod-lt}
@@ -11,23 +12,21 @@ use Rattle.paper.specs.Limits.{is_size, data_size_fault}
 use Rattle.paper.specs.Refusals.{out_of_range}
 use Rattle.paper.proofs.Cases.{by_bool}
 use Rattle.paper.proofs.Chain.{or_else-first}
-use Rattle.paper.proofs.Kept.{gives_one, fills-refuses}
-use Rattle.paper.specs.declared.Written.TheVariants.{Refused as NotWritten}
+use Rattle.paper.proofs.Kept.{gives-accepted, gives-refused, gives-one, passes-one, refuses}
+use Rattle.paper.specs.Promise.{Gives}
+use Rattle.paper.specs.declared.Refusal.{Refusal}
+use Rattle.paper.specs.declared.Refusal.TheVariants.{OutOfRange}
 use Rattle.shape.specs.declared.Shape.{Shape}
 use Rattle.shape.specs.declared.Address.{Address}
-use Rattle.shape.specs.declared.Located.{Located}
-use Rattle.shape.specs.declared.Located.TheVariants.{At as LocatedAt}
 use Rattle.shape.specs.Shapes.{Shaped, shape_fault}
 use Rattle.shape.specs.Addresses.{angle_at, address_at}
-use Rattle.shape.specs.Promises.{said_located, GivesLocated}
+use Rattle.shape.specs.Promises.{said_located}
 use Rattle.shape.proofs.Exact.{shape-shows, shape-exactly}
 use Rattle.shape.proofs.Angles.{angle-below, angle-apart, angle-further, angle-one-group}
-use Rattle.shape.proofs.Answered.{located-passes, located-is}
 use Rattle.skipped.specs.Faults.{skipped_fault}
 use Rattle.layout.specs.Layouts.{drive_fault}
 use Rattle.table.specs.Rules.{table_fault}
 use Rattle.table.specs.Scratch.{scratch_fault}
-use Rattle.spares.specs.declared.Replaced.TheVariants.{Refused as NotReplaced}
 use Rattle.reading.specs.Faults.{lent_fault, block_read_fault}
 use Rattle.demands.specs.Angles.{Answered, for-sector, by-list, by-table, Angled, BothAngled, Alike, InAnyGroups, but_angle, EachCall, Angles}
 use Rattle.demands.proofs.Determined.{spares-replace, spares-first-table, reading-data, scratch, read-scratch}
@@ -40,14 +39,14 @@ record Found (shape : Shape) (address : Address) : Type 0 where
 
 found : (shape : Shape) (address : Address) → Answered shape address → Found shape address
 found shape address (for-sector x given) =
-    record { number = x; shaped = shape-shows shape (or_else-first _ _ (located-passes given)); is = located-is given }
+    record { number = x; shaped = shape-shows shape (or_else-first _ _ given.0); is = given.1 }
 found shape address (by-list a b given) =
-    record { number = _; shaped = shape-shows shape (or_else-first _ _ (or_else-first (skipped_fault shape a) _ (located-passes given))); is = located-is given }
+    record { number = _; shaped = shape-shows shape (or_else-first _ _ (or_else-first (skipped_fault shape a) _ given.0)); is = given.1 }
 found shape address (by-table r t scratch b given) =
     record {
       number = _;
-      shaped = shape-shows shape (or_else-first _ _ (or_else-first (drive_fault shape r) _ (or_else-first (scratch_fault shape r scratch) _ (or_else-first (table_fault shape r t scratch) _ (located-passes given)))));
-      is = located-is given;
+      shaped = shape-shows shape (or_else-first _ _ (or_else-first (drive_fault shape r) _ (or_else-first (scratch_fault shape r scratch) _ (or_else-first (table_fault shape r t scratch) _ given.0))));
+      is = given.1;
     }
 
 module _ {shape : Shape} {address : Address} (at : Found shape address) where
@@ -122,17 +121,14 @@ in-any-groups {Outcome} {shown = shown} Promise refuses keeps =
         (subst (λ (shape : Shape). Promise shape second) is there)
 
 -- addresses that agree but for the angle are answered alike but for the angle
-but-angle-answered :
-    (fault : ℕ) (one other : ℕ × ℕ × ℕ × ℕ × ℕ) → but_angle one ≡ but_angle other →
-    but_angle (answer fault (λ k. (k, 0, 0, 0, 0)) one) ≡ but_angle (answer fault (λ k. (k, 0, 0, 0, 0)) other)
-but-angle-answered zero one other same = same
-but-angle-answered (suc fault) one other same = refl
-
 same-but-angle :
-    (fault : ℕ) (one other : Address) {first second : Located} → but_angle (said_located (LocatedAt one)) ≡ but_angle (said_located (LocatedAt other)) →
-    GivesLocated fault (LocatedAt one) first → GivesLocated fault (LocatedAt other) second → but_angle (said_located first) ≡ but_angle (said_located second)
-same-but-angle fault one other same here there =
-    ap but_angle here.says ∙ (but-angle-answered fault (said_located (LocatedAt one)) (said_located (LocatedAt other)) same ∙ sym (ap but_angle there.says))
+    (fault : ℕ) (one other : Address) (first second : Result Address Refusal) → but_angle (said_located (Ok one)) ≡ but_angle (said_located (Ok other)) →
+    Gives fault one first → Gives fault other second → but_angle (said_located first) ≡ but_angle (said_located second)
+same-but-angle fault one other first (Ok there) same here given =
+    ap (λ (result : Result Address Refusal). but_angle (said_located result)) (gives-accepted fault one first given.0 here)
+    ∙ (same ∙ ap (λ (address : Address). but_angle (said_located (Ok address))) (sym given.1))
+same-but-angle fault one other first (Err refusal) same here given =
+    ap (λ (result : Result Address Refusal). but_angle (said_located result)) (gives-refused fault one first refusal given here)
 
 -- 1 for the size, or 1 after it, is 1
 one-either : (size : ℕ) → (data_size_fault size or_else out_of_range) ≡ out_of_range
@@ -148,27 +144,31 @@ each-call : EachCall
 unfolding lent_fault block_read_fault
 each-call =
     record {
-      shape-sector = λ cylinder head sector. in-any-groups _ (λ shape bad answer given. rw bad at given.answers) (λ shape g tracks offset one other first second here there. gives_one (rw one at here) (rw other at there));
-      shape-address = λ x. in-any-groups _ (λ shape bad located given. rw bad at given.answers) (λ shape g tracks offset one other first second here there. same-but-angle _ _ _ refl (rw one at here) (rw other at there));
-      skipped-address = λ a b. in-any-groups _ (λ shape bad located given. rw bad at given.answers) (λ shape g tracks offset one other first second here there. same-but-angle _ _ _ refl (rw one at here) (rw other at there));
-      skipped-block = λ a cylinder head sector. in-any-groups _ (λ shape bad answer given. rw bad at given.answers) (λ shape g tracks offset one other first second here there. gives_one (rw one at here) (rw other at there));
-      spare-sector = λ r t scratch b. in-any-groups _ (λ shape bad answer given. rw bad at given.answers) (λ shape g tracks offset one other first second here there. gives_one (rw one at here) (rw other at there));
-      spare-address = λ r t scratch b. in-any-groups _ (λ shape bad located given. rw bad at given.answers) (λ shape g tracks offset one other first second here there. same-but-angle _ _ _ refl (rw one at here) (rw other at there));
-      spare-shift = λ r t scratch b. in-any-groups _ (λ shape bad answer given. rw bad at given.answers) (λ shape g tracks offset one other first second here there. gives_one (rw one at here) (rw other at there));
-      spare-block = λ r t scratch s. in-any-groups _ (λ shape bad answer given. rw bad at given.answers) (λ shape g tracks offset one other first second here there. gives_one (rw one at here) (rw other at there));
-      spare-block-at = λ r t scratch cylinder head sector. in-any-groups _ (λ shape bad answer given. rw bad at given.answers) (λ shape g tracks offset one other first second here there. gives_one (rw one at here) (rw other at there));
-      spare-census = λ r t scratch. in-any-groups _ (λ shape bad answer given. rw bad at given.answers) (λ shape g tracks offset one other first second here there. gives_one (rw one at here) (rw other at there));
+      shape-sector = λ cylinder head sector. in-any-groups _ (λ shape bad answer given. gives-refused _ _ answer OutOfRange (rw bad) given) (λ shape g tracks offset one other first second here there. gives-one _ _ first second (rw one at here) (rw other at there));
+      shape-address = λ x. in-any-groups _ (λ shape bad located given. gives-refused _ _ located OutOfRange (rw bad) given) (λ shape g tracks offset one other first second here there. same-but-angle _ _ _ first second refl (rw one at here) (rw other at there));
+      skipped-address = λ a b. in-any-groups _ (λ shape bad located given. gives-refused _ _ located OutOfRange (rw bad) given) (λ shape g tracks offset one other first second here there. same-but-angle _ _ _ first second refl (rw one at here) (rw other at there));
+      skipped-block = λ a cylinder head sector. in-any-groups _ (λ shape bad answer given. gives-refused _ _ answer OutOfRange (rw bad) given) (λ shape g tracks offset one other first second here there. gives-one _ _ first second (rw one at here) (rw other at there));
+      spare-sector = λ r t scratch b. in-any-groups _ (λ shape bad answer given. gives-refused _ _ answer OutOfRange (rw bad) given) (λ shape g tracks offset one other first second here there. gives-one _ _ first second (rw one at here) (rw other at there));
+      spare-address = λ r t scratch b. in-any-groups _ (λ shape bad located given. gives-refused _ _ located OutOfRange (rw bad) given) (λ shape g tracks offset one other first second here there. same-but-angle _ _ _ first second refl (rw one at here) (rw other at there));
+      spare-shift = λ r t scratch b. in-any-groups _ (λ shape bad answer given. gives-refused _ _ answer OutOfRange (rw bad) given) (λ shape g tracks offset one other first second here there. gives-one _ _ first second (rw one at here) (rw other at there));
+      spare-block = λ r t scratch s. in-any-groups _ (λ shape bad answer given. gives-refused _ _ answer OutOfRange (rw bad) given) (λ shape g tracks offset one other first second here there. gives-one _ _ first second (rw one at here) (rw other at there));
+      spare-block-at = λ r t scratch cylinder head sector. in-any-groups _ (λ shape bad answer given. gives-refused _ _ answer OutOfRange (rw bad) given) (λ shape g tracks offset one other first second here there. gives-one _ _ first second (rw one at here) (rw other at there));
+      spare-census = λ r t scratch. in-any-groups _ (λ shape bad answer given. gives-refused _ _ answer OutOfRange (rw bad) given) (λ shape g tracks offset one other first second here there. gives-one _ _ first second (rw one at here) (rw other at there));
       spare-replace = λ r t scratch b.
           in-any-groups _
-          (λ shape bad outcome given. spares-replace shape r t scratch b outcome (NotReplaced out_of_range, t) given (fills-refuses (λ k. refl) out_of_range (rw bad) (omega arith)))
+          (λ shape bad outcome given. spares-replace shape r t scratch b outcome (Err OutOfRange, t) given (refuses (rw bad)))
           (λ shape g tracks offset one other first second here there. spares-replace shape r t scratch b first second here (rw one (rw other at there)));
       spare-first = λ r list room.
           in-any-groups _
-          (λ shape bad outcome given. spares-first-table shape r list room outcome (NotWritten out_of_range, room) given (fills-refuses (λ k. refl) out_of_range (rw bad) (omega arith)))
+          (λ shape bad outcome given. spares-first-table shape r list room outcome (Err OutOfRange, room) given (refuses (rw bad)))
           (λ shape g tracks offset one other first second here there. spares-first-table shape r list room first second here (rw one (rw other at there)));
-      read-tracks = λ r t scratch b. in-any-groups _ (λ shape bad answer given. rw bad at given.answers) (λ shape g tracks offset one other first second here there. gives_one (rw one at here) (rw other at there));
-      read-judge = λ size r t scratch b home spare. in-any-groups _ (λ shape bad answer given. (rw bad at given.answers) ∙ rw (one-either size)) (λ shape g tracks offset one other first second here there. gives_one (rw one at here) (rw other at there));
-      read-spot = λ size r t scratch b home spare. in-any-groups _ (λ shape bad answer given. (rw bad at given.answers) ∙ rw (one-either size)) (λ shape g tracks offset one other first second here there. gives_one (rw one at here) (rw other at there));
+      read-tracks = λ r t scratch b. in-any-groups _ (λ shape bad answer given. gives-refused _ _ answer OutOfRange (rw bad) given) (λ shape g tracks offset one other first second here there. gives-one _ _ first second (rw one at here) (rw other at there));
+      read-judge = λ size r t scratch b home spare.
+          in-any-groups _ (λ shape bad answer given. passes-one _ answer (Err OutOfRange) given (rw bad (one-either size)))
+          (λ shape g tracks offset one other first second here there. passes-one _ first second (rw one at here) (rw other at there));
+      read-spot = λ size r t scratch b home spare.
+          in-any-groups _ (λ shape bad answer given. gives-refused _ _ answer OutOfRange (rw bad (one-either size)) given)
+          (λ shape g tracks offset one other first second here there. gives-one _ _ first second (rw one at here) (rw other at there));
       read-data = λ size r t scratch b home spare.
           in-any-groups _
           (λ shape bad part given. rw (one-either size) at (rw bad at given))

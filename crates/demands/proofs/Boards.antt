@@ -1,44 +1,41 @@
 -- Wrong boards, each wrong in one respect, with the inputs that they are tried at.
 use Prim.Native.Nat.{ℕ, zero, suc, ◌+◌, ◌-◌, ◌*◌, ◌%◌, ◌^◌}
+use Rattle.std.specs.Prelude.{Result, Err}
 use mathlib.Core.Path.{◌≡◌}
 use mathlib.Core.Bool.{Bool, false, not, ◌&&◌, ◌||◌}
 use mathlib.Core.List.{List, [], ◌∷◌, ◌++◌, map}
 use lib.Dec.{eqb, ltb, leb}
-use lib.IntN.{pos, ◌+ℤ◌}
+use lib.IntN.{ℤ, pos, ◌+ℤ◌}
 use lib.ListN.{length, get_or, set, replicate}
 use lib.Seq.{sets}
 use denote.Ref.{Bor}
 use Rattle.paper.specs.Checks.{pick, refuse, ◌or_else◌, answer}
 use Rattle.paper.specs.Limits.{table_block, data_size, header_size, image_extra, is_size, data_size_fault}
 use Rattle.paper.specs.Refusals.{out_of_range, no_such_block, no_room, bad_table, no_spare, other_block, forced_error, no_mode, unknown_code}
-use Rattle.paper.specs.declared.Placed.{Placed}
-use Rattle.paper.specs.declared.Placed.TheVariants.{At, Refused as NotPlaced}
 use Rattle.seek.specs.Search.{first_or, rising}
 use Rattle.seek.specs.Lowest.{first_below}
 use Rattle.seek.specs.Every.{all_below}
 use Rattle.words.specs.Words.{bytes_of}
 use Rattle.lists.specs.Union.{is_in, union}
 use Rattle.paper.specs.Promise.{written}
+use Rattle.paper.specs.declared.Refusal.{Refusal}
+use Rattle.paper.specs.declared.Refusal.TheVariants.{NoSpare}
 use Rattle.shape.specs.declared.Shape.{Shape}
-use Rattle.shape.specs.declared.Located.{Located}
-use Rattle.shape.specs.declared.Located.TheVariants.{At as LocatedAt, Refused as NotLocated}
 use Rattle.shape.specs.Addresses.{group_of, address_at, address_of_fault}
+use Rattle.shape.specs.declared.Address.{Address}
 use Rattle.skip.specs.Skipping.{goods_before, place, after}
 use Rattle.skip.specs.Walk.{entries_below}
 use Rattle.skip.specs.Translation.{sector_of_fault}
 use Rattle.skip.specs.Cursors.{cursor_at, step_fault}
-use Rattle.skip.specs.Promises.{said_job, handed_back}
+use Rattle.skip.specs.Promises.{said_step}
 use Rattle.skip.specs.declared.Cursor.{Cursor}
-use Rattle.skip.specs.declared.Job.{Job}
-use Rattle.skip.specs.declared.Job.TheVariants.{At as SteppedTo, Refused as NotStepped}
 use Rattle.page.specs.Layout.{kind_of, units_of, entries_of}
 use Rattle.page.specs.Pages.{read_fault}
 use Rattle.page.specs.declared.Paged.{Paged}
-use Rattle.page.specs.declared.Paged.TheVariants.{Page, Refused as NotPaged}
+use Rattle.page.specs.Promises.{paged_of}
 use Rattle.format.specs.Options.{add, grown_by}
 use Rattle.format.specs.Spaces.{list_of, new_grown, new_list, new_space, format_fault}
 use Rattle.format.specs.declared.Formatted.{Formatted}
-use Rattle.format.specs.declared.Formatted.TheVariants.{Done, Refused as NotFormatted}
 use Rattle.layout.specs.declared.Drive.{Drive}
 use Rattle.layout.specs.Layouts.{drive_of, drive_fault, home_sector, spare_sector, home_cylinder, spare_cylinder}
 use Rattle.layout.specs.Descriptors.{free, unusable, code_unit, word_of, code_of, number_of, primary, is_allocated, names}
@@ -52,28 +49,18 @@ use Rattle.holes.specs.Steps.{none_free, clear_before}
 use Rattle.table.specs.declared.Census.{Census}
 use Rattle.replacing.specs.Replacing.{spare_for, descriptor_at, replaced_in, killed_in, moved_in}
 use Rattle.spares.specs.Spares.{replace_fault}
-use Rattle.spares.specs.declared.Replaced.{Replaced}
-use Rattle.spares.specs.declared.Replaced.TheVariants.{Place, Refused as NotReplaced}
-use Rattle.spares.specs.declared.Shifted.{Shifted}
-use Rattle.spares.specs.declared.Shifted.TheVariants.{By, Refused as NotShifted}
-use Rattle.spares.specs.declared.Counted.{Counted}
-use Rattle.spares.specs.declared.Counted.TheVariants.{Counts, Refused as NotCounted}
 use Rattle.image.specs.Header.{at_home, is_known}
 use Rattle.image.specs.Image.{copies_made, header_of, stored_in, found_in, data_of, image_of, length_fault, copies_fault, code_fault, contents_fault, image_fault}
 use Rattle.image.specs.declared.Head.{Head}
-use Rattle.image.specs.declared.Head.TheVariants.{Of, Refused as NoHead}
-use Rattle.image.specs.declared.Verdict.{Verdict}
-use Rattle.image.specs.declared.Verdict.TheVariants.{Good, Refused as NotGood}
-use Rattle.mode.specs.declared.Mode.{Mode}
-use Rattle.mode.specs.declared.Mode.TheVariants.{Of as ModeOf, Refused as NoMode}
+use Rattle.image.specs.Promises.{head_in}
 use Rattle.mode.specs.Modes.{xbn_image, first_word, size_in, mode_of}
 use Rattle.reading.specs.Tracks.{bytes_in, image_at, image_for, code_for}
 use Rattle.reading.specs.Faults.{lent_fault}
 use Rattle.reading.specs.Promises.{pair_of}
-use Rattle.reading.specs.declared.answers.Tracks.{Tracks}
-use Rattle.reading.specs.declared.answers.Tracks.TheVariants.{Fetch, Refused as NotFetched}
+use Rattle.reading.specs.declared.answers.Pair.{Pair}
 use Rattle.demands.specs.Inputs.{few, eight}
 use Rattle.demands.specs.Ledgers.{Contents}
+use Rattle.demands.proofs.Answered.{answered}
 use Rattle.demands.proofs.Putting.{put, image_made}
 
 -- demand 3's law over any map from blocks to units: each new block lies where you arrive by skipping the named blocks in the old numbering and following the old map
@@ -126,50 +113,53 @@ damaged = bytes_of (replicate copies_made 6) ++ (older ++ (0 ∷ 0 ∷ []))
 -- Boards for a skipped drive.
 
 -- skip::sector_of: refuses whatever it is asked
-abbrev pub refuses_all : ℕ → ℕ → List ℕ → ℕ → Placed
-refuses_all k n a b = NotPlaced k
+abbrev pub refuses_all : Refusal → ℕ → List ℕ → ℕ → Result ℕ Refusal
+refuses_all refusal n a b = Err refusal
 
 -- skip::sector_of: one sector for all blocks
-abbrev pub same_sector : ℕ → ℕ → List ℕ → ℕ → Placed
-same_sector s n a b = answer (sector_of_fault n a b) NotPlaced (At s)
+abbrev pub same_sector : ℕ → ℕ → List ℕ → ℕ → Result ℕ Refusal
+same_sector s n a b = answered (sector_of_fault n a b) s
 
 -- skip::sector_of: counts the entries up to the block once, and does not look again from where that leads
-abbrev pub adds_once : ℕ → List ℕ → ℕ → Placed
-adds_once n a b = answer (sector_of_fault n a b) NotPlaced (At (b + entries_below a (suc b)))
+abbrev pub adds_once : ℕ → List ℕ → ℕ → Result ℕ Refusal
+adds_once n a b = answered (sector_of_fault n a b) (b + entries_below a (suc b))
 
 -- skip::sector_of: skips nothing
-abbrev pub skips_nothing : ℕ → List ℕ → ℕ → Placed
-skips_nothing n a b = answer (sector_of_fault n a b) NotPlaced (At b)
+abbrev pub skips_nothing : ℕ → List ℕ → ℕ → Result ℕ Refusal
+skips_nothing n a b = answered (sector_of_fault n a b) b
 
 -- Cursor::step: goes on by two blocks at block 0, and then stays
-abbrev pub runs_ahead : ℕ → List ℕ → Cursor → Job
-runs_ahead n a c =
-    answer (step_fault n a c) (λ fault. NotStepped fault c)
-    (SteppedTo (place (is_in a) n c.block) (cursor_at n a (pick (eqb c.block 0) 2 c.block)))
+abbrev pub runs_ahead : ℕ → List ℕ → Cursor → Result ℕ Refusal × Cursor
+runs_ahead n a c = (
+  answered (step_fault n a c) (place (is_in a) n c.block),
+  answer (step_fault n a c) (λ fault. c) (cursor_at n a (pick (eqb c.block 0) 2 c.block)),
+)
 
 -- the cursor after so many steps, and the sectors that they answer
-unfoldable pub cursor_after : (Cursor → Job) → ℕ → Cursor → Cursor
+unfoldable pub cursor_after : (Cursor → Result ℕ Refusal × Cursor) → ℕ → Cursor → Cursor
 cursor_after step zero c = c
-cursor_after step (suc steps) c = cursor_after step steps (handed_back (step c))
+cursor_after step (suc steps) c = cursor_after step steps (step c).1
 
-unfoldable pub sectors_after : (Cursor → Job) → ℕ → Cursor → List ℕ
+unfoldable pub sectors_after : (Cursor → Result ℕ Refusal × Cursor) → ℕ → Cursor → List ℕ
 sectors_after step zero c = []
-sectors_after step (suc steps) c = (said_job (step c)).1 ∷ sectors_after step steps (handed_back (step c))
+sectors_after step (suc steps) c = (said_step (step c).0 (step c).1).1 ∷ sectors_after step steps (step c).1
 
 -- page::read: any number of entries
-abbrev pub made_up_entries : ℕ → List ℕ → List ℕ → Paged × List ℕ
-made_up_entries count page room =
-    (answer (read_fault page room) NotPaged (Page (kind_of page) (units_of page) count), answer (read_fault page room) (λ fault. room) (written (entries_of page) room))
+abbrev pub made_up_entries : ℕ → List ℕ → List ℕ → Result Paged Refusal × List ℕ
+made_up_entries count page room = (
+  answered (read_fault page room) (record { kind = kind_of page; n = units_of page; entries = count }),
+  answer (read_fault page room) (λ fault. room) (written (entries_of page) room),
+)
 
 -- page::read: puts the entries into the room whether or not it refuses
-abbrev pub writes_early : List ℕ → List ℕ → Paged × List ℕ
+abbrev pub writes_early : List ℕ → List ℕ → Result Paged Refusal × List ℕ
 writes_early page room =
-    (answer (read_fault page room) NotPaged (Page (kind_of page) (units_of page) (length (entries_of page))), written (entries_of page) room)
+    (answered (read_fault page room) (paged_of page), written (entries_of page) room)
 
 -- format::format: any lengths
-abbrev pub made_up_lengths : ℕ → ℕ → ℕ → List ℕ → List ℕ → ℕ → ℕ → List ℕ → List ℕ → List ℕ → Formatted × List ℕ × List ℕ
+abbrev pub made_up_lengths : ℕ → ℕ → ℕ → List ℕ → List ℕ → ℕ → ℕ → List ℕ → List ℕ → List ℕ → Result Formatted Refusal × List ℕ × List ℕ
 made_up_lengths long other n p g space option d grown list = (
-  answer (format_fault n p g space option d grown list) NotFormatted (Done long other (new_space space option)),
+  answered (format_fault n p g space option d grown list) (record { grown = long; list = other; space = new_space space option }),
   answer (format_fault n p g space option d grown list) (λ fault. grown) (written (new_grown n p g space option d) grown),
   answer (format_fault n p g space option d grown list) (λ fault. list) (written (new_list n p g space option d) list),
 )
@@ -183,10 +173,14 @@ abbrev pub list_as_sectors : ℕ → List ℕ → List ℕ → ℕ → ℕ → L
 list_as_sectors n p g space option d = list_of (new_space space option) p (grown_as_sectors n p g space option d)
 
 -- format::format: takes D so
-abbrev pub takes_sectors : ℕ → List ℕ → List ℕ → ℕ → ℕ → List ℕ → List ℕ → List ℕ → Formatted × List ℕ × List ℕ
+abbrev pub takes_sectors : ℕ → List ℕ → List ℕ → ℕ → ℕ → List ℕ → List ℕ → List ℕ → Result Formatted Refusal × List ℕ × List ℕ
 takes_sectors n p g space option d grown list = (
-  answer (format_fault n p g space option d grown list) NotFormatted
-      (Done (length (grown_as_sectors n p g space option d)) (length (list_as_sectors n p g space option d)) (new_space space option)),
+  answered (format_fault n p g space option d grown list)
+      (record {
+        grown = length (grown_as_sectors n p g space option d);
+        list = length (list_as_sectors n p g space option d);
+        space = new_space space option;
+      }),
   answer (format_fault n p g space option d grown list) (λ fault. grown) (written (grown_as_sectors n p g space option d) grown),
   answer (format_fault n p g space option d grown list) (λ fault. list) (written (list_as_sectors n p g space option d) list),
 )
@@ -194,40 +188,40 @@ takes_sectors n p g space option d grown list = (
 -- Boards for angles.
 
 -- shape::address_of: the right place, with an angle of its own
-abbrev pub angled_by : (Shape → ℕ → ℕ → ℕ) → Shape → ℕ → Located
+abbrev pub angled_by : (Shape → ℕ → ℕ → ℕ) → Shape → ℕ → Result Address Refusal
 angled_by angle shape x =
     let there = address_at shape x in
-    answer (address_of_fault shape x) NotLocated
-    (LocatedAt (record { cylinder = there.cylinder; head = there.head; sector = there.sector; angle = angle shape there.head there.sector }))
+    answered (address_of_fault shape x)
+    (record { cylinder = there.cylinder; head = there.head; sector = there.sector; angle = angle shape there.head there.sector })
 
 -- shape::address_of: takes the place of a head in its group for the group
-abbrev pub group_by_remainder : Shape → ℕ → Located
+abbrev pub group_by_remainder : Shape → ℕ → Result Address Refusal
 group_by_remainder = angled_by (λ shape head sector. (sector + shape.offset * (head % shape.tracks)) % shape.sectors)
 
 -- shape::address_of: adds the offset once, whatever the group
-abbrev pub offset_once : Shape → ℕ → Located
+abbrev pub offset_once : Shape → ℕ → Result Address Refusal
 offset_once = angled_by (λ shape head sector. (sector + shape.offset) % shape.sectors)
 
 -- shape::address_of: does not begin again at 0 after the last sector of a track
-abbrev pub never_round : Shape → ℕ → Located
+abbrev pub never_round : Shape → ℕ → Result Address Refusal
 never_round = angled_by (λ shape head sector. sector + shape.offset * group_of shape head)
 
 -- Boards for a revectored drive.
 
 -- spares::sector_of: one sector for all blocks
-abbrev pub same_spare : ℕ → Shape → ℕ → List ℕ → List ℕ → ℕ → Placed
-same_spare s shape r t scratch b = answer (spare_block_fault shape r t scratch b) NotPlaced (At s)
+abbrev pub same_spare : ℕ → Shape → ℕ → List ℕ → List ℕ → ℕ → Result ℕ Refusal
+same_spare s shape r t scratch b = answered (spare_block_fault shape r t scratch b) s
 
 -- spares::replace: says that no spare is free
-abbrev pub spares_none : Shape → ℕ → List ℕ → List ℕ → ℕ → Replaced × List ℕ
-spares_none shape r t scratch b = (NotReplaced no_spare, t)
+abbrev pub spares_none : Shape → ℕ → List ℕ → List ℕ → ℕ → Result ℕ Refusal × List ℕ
+spares_none shape r t scratch b = (Err NoSpare, t)
 
 -- what spares::replace promises to answer
-abbrev pub place_promised : Shape → ℕ → List ℕ → List ℕ → ℕ → Replaced
-place_promised shape r t scratch b = answer (replace_fault shape r t scratch b) NotReplaced (Place (spare_for (drive_of shape r) t b))
+abbrev pub place_promised : Shape → ℕ → List ℕ → List ℕ → ℕ → Result ℕ Refusal
+place_promised shape r t scratch b = answered (replace_fault shape r t scratch b) (spare_for (drive_of shape r) t b)
 
 -- spares::replace: answers it and leaves the table
-abbrev pub leaves_table : Shape → ℕ → List ℕ → List ℕ → ℕ → Replaced × List ℕ
+abbrev pub leaves_table : Shape → ℕ → List ℕ → List ℕ → ℕ → Result ℕ Refusal × List ℕ
 leaves_table shape r t scratch b = (place_promised shape r t scratch b, t)
 
 -- how far the nearer end of the table block lies from an offset
@@ -250,34 +244,34 @@ abbrev pub stopped_fault : Shape → ℕ → List ℕ → List ℕ → ℕ → �
 stopped_fault shape r t scratch b = spare_block_fault shape r t scratch b or_else refuse (leb (length t) (stopped_spare (drive_of shape r) t b)) no_spare
 
 -- spares::replace: searches in that order
-abbrev pub stops_search : Shape → ℕ → List ℕ → List ℕ → ℕ → Replaced × List ℕ
+abbrev pub stops_search : Shape → ℕ → List ℕ → List ℕ → ℕ → Result ℕ Refusal × List ℕ
 stops_search shape r t scratch b = (
-  answer (stopped_fault shape r t scratch b) NotReplaced (Place (stopped_spare (drive_of shape r) t b)),
+  answered (stopped_fault shape r t scratch b) (stopped_spare (drive_of shape r) t b),
   answer (stopped_fault shape r t scratch b) (λ fault. t)
       (set (killed_in t b) (stopped_spare (drive_of shape r) t b) (descriptor_at (drive_of shape r) (stopped_spare (drive_of shape r) t b) b)),
 )
 
 -- spares::replace: leaves the descriptor that the block had
-abbrev pub leaves_old : Shape → ℕ → List ℕ → List ℕ → ℕ → Replaced × List ℕ
+abbrev pub leaves_old : Shape → ℕ → List ℕ → List ℕ → ℕ → Result ℕ Refusal × List ℕ
 leaves_old shape r t scratch b = (place_promised shape r t scratch b, answer (replace_fault shape r t scratch b) (λ fault. t) (replaced_in (drive_of shape r) t b))
 
 -- spares::replace: sets it free
-abbrev pub frees_old : Shape → ℕ → List ℕ → List ℕ → ℕ → Replaced × List ℕ
+abbrev pub frees_old : Shape → ℕ → List ℕ → List ℕ → ℕ → Result ℕ Refusal × List ℕ
 frees_old shape r t scratch b = (
   place_promised shape r t scratch b,
   answer (replace_fault shape r t scratch b) (λ fault. t) (set (replaced_in (drive_of shape r) t b) (place_of t b) (word_of free 0)),
 )
 
 -- spares::replace: marks it unusable as soon as 1, 7, 11 and 5 pass, before it looks for a spare
-abbrev pub kills_early : Shape → ℕ → List ℕ → List ℕ → ℕ → Replaced × List ℕ
+abbrev pub kills_early : Shape → ℕ → List ℕ → List ℕ → ℕ → Result ℕ Refusal × List ℕ
 kills_early shape r t scratch b = (
   place_promised shape r t scratch b,
   answer (spare_block_fault shape r t scratch b) (λ fault. t) (answer (replace_fault shape r t scratch b) (λ fault. killed_in t b) (moved_in (drive_of shape r) t b)),
 )
 
 -- spares::census: any census
-abbrev pub made_up_census : Census → Shape → ℕ → List ℕ → List ℕ → Counted
-made_up_census census shape r t scratch = answer (table_fault shape r t scratch) NotCounted (Counts census)
+abbrev pub made_up_census : Census → Shape → ℕ → List ℕ → List ℕ → Result Census Refusal
+made_up_census census shape r t scratch = answered (table_fault shape r t scratch) census
 
 -- free, primary, elsewhere, unusable, null
 abbrev pub census_with : ℕ → ℕ → ℕ → ℕ → ℕ → Census
@@ -285,10 +279,10 @@ census_with free primary elsewhere unusable null =
     record { free = free; primary = primary; elsewhere = elsewhere; unusable = unusable; null = null }
 
 -- spares::shift: a difference that stops at 0
-abbrev pub truncated_shift : Shape → ℕ → List ℕ → List ℕ → ℕ → Shifted
+abbrev pub truncated_shift : Shape → ℕ → List ℕ → List ℕ → ℕ → Result ℤ Refusal
 truncated_shift shape r t scratch b =
-    answer (spare_block_fault shape r t scratch b) NotShifted
-    (By (pick (is_replaced t b) (pos (spare_cylinder (drive_of shape r) (place_of t b) - home_cylinder (drive_of shape r) b)) (pos 0)))
+    answered (spare_block_fault shape r t scratch b)
+    (pick (is_replaced t b) (pos (spare_cylinder (drive_of shape r) (place_of t b) - home_cylinder (drive_of shape r) b)) (pos 0))
 
 -- a difference of 32 bits without a sign
 abbrev pub unsigned_shift : Shape → ℕ → List ℕ → ℕ → ℕ
@@ -296,8 +290,8 @@ unsigned_shift shape r t b =
     pick (is_replaced t b) ((2 ^ 32 + spare_cylinder (drive_of shape r) (place_of t b) - home_cylinder (drive_of shape r) b) % 2 ^ 32) 0
 
 -- spares::shift: answers it
-abbrev pub wrapped_shift : Shape → ℕ → List ℕ → List ℕ → ℕ → Shifted
-wrapped_shift shape r t scratch b = answer (spare_block_fault shape r t scratch b) NotShifted (By (pos (unsigned_shift shape r t b)))
+abbrev pub wrapped_shift : Shape → ℕ → List ℕ → List ℕ → ℕ → Result ℤ Refusal
+wrapped_shift shape r t scratch b = answered (spare_block_fault shape r t scratch b) (pos (unsigned_shift shape r t b))
 
 -- Boards for scratch: what each leaves of it.
 
@@ -341,72 +335,70 @@ obeys_near g t =
     && all_below (λ q. not (is_allocated (get_or t q 0)) || clear_near t (primary g (number_of (get_or t q 0))) q) (length t)))
 
 -- spares::sector_of: looks for holes so
-abbrev pub holes_near : Shape → ℕ → List ℕ → List ℕ → ℕ → Placed
+abbrev pub holes_near : Shape → ℕ → List ℕ → List ℕ → ℕ → Result ℕ Refusal
 holes_near shape r t scratch b =
-    answer
+    answered
     (scratch_fault shape r scratch
     or_else (refuse (not (obeys_near (drive_of shape r) t)) bad_table
     or_else refuse (leb (drive_of shape r).blocks b) no_such_block))
-    NotPlaced (At (lies_on (drive_of shape r) t b))
+    (lies_on (drive_of shape r) t b)
 
 -- where a search stops that takes an unusable place for the end of the blocks
 abbrev pub unusable_stop : Drive → List ℕ → ℕ → ℕ
 unusable_stop g t b = first_or (length t) (λ q. eqb (get_or t q 0) (word_of unusable 0) || names (get_or t q 0) b) (order (length t) (primary g b))
 
 -- spares::sector_of: looks a block up so
-abbrev pub stops_unusable : Shape → ℕ → List ℕ → List ℕ → ℕ → Placed
+abbrev pub stops_unusable : Shape → ℕ → List ℕ → List ℕ → ℕ → Result ℕ Refusal
 stops_unusable shape r t scratch b =
-    answer (spare_block_fault shape r t scratch b) NotPlaced
-    (At
+    answered (spare_block_fault shape r t scratch b)
     (pick (names (get_or t (unusable_stop (drive_of shape r) t b) 0) b)
     (spare_sector (drive_of shape r) (unusable_stop (drive_of shape r) t b))
-    (home_sector (drive_of shape r) b)))
+    (home_sector (drive_of shape r) b))
 
 -- the lowest free place of all
 abbrev pub lowest_free : List ℕ → ℕ
 lowest_free t = first_below (free_at t) (length t)
 
 -- spares::replace: takes it
-abbrev pub takes_lowest : Shape → ℕ → List ℕ → List ℕ → ℕ → Replaced × List ℕ
+abbrev pub takes_lowest : Shape → ℕ → List ℕ → List ℕ → ℕ → Result ℕ Refusal × List ℕ
 takes_lowest shape r t scratch b = (
-  answer (replace_fault shape r t scratch b) NotReplaced (Place (lowest_free t)),
+  answered (replace_fault shape r t scratch b) (lowest_free t),
   answer (replace_fault shape r t scratch b) (λ fault. t) (set (killed_in t b) (lowest_free t) (descriptor_at (drive_of shape r) (lowest_free t) b)),
 )
 
 -- Boards for images. Each is handed the size first and looks at it before all else, as the call that it stands for.
 
 -- image::judge: takes every mismatch for a forced error
-abbrev pub every_forced : ℕ → List ℕ → ℕ → ℕ → Verdict
+abbrev pub every_forced : ℕ → List ℕ → ℕ → ℕ → Result Unit Refusal
 every_forced size image block code =
-    answer
+    answered
     (data_size_fault size
     or_else (length_fault (size + image_extra) image
     or_else (copies_fault image
     or_else (refuse (not (is_known code && (eqb (code_of (header_of image)) code && eqb (number_of (header_of image)) block))) other_block
     or_else refuse (not (eqb (stored_in size image) (found_in size image))) forced_error))))
-    NotGood Good
+    tt
 
 -- image::judge: codes 256 words at either size
-abbrev pub codes_short : ℕ → List ℕ → ℕ → ℕ → Verdict
+abbrev pub codes_short : ℕ → List ℕ → ℕ → ℕ → Result Unit Refusal
 codes_short size image block code =
-    answer
+    answered
     (data_size_fault size
     or_else (length_fault (size + image_extra) image
     or_else (copies_fault image
     or_else (refuse (not (is_known code && (eqb (code_of (header_of image)) code && eqb (number_of (header_of image)) block))) other_block
     or_else code_fault (stored_in size image) (found_in data_size image)))))
-    NotGood Good
+    tt
 
 -- image::judge: makes a word of whatever block and code are expected, and compares it
-abbrev pub compares_word : ℕ → List ℕ → ℕ → ℕ → Verdict
+abbrev pub compares_word : ℕ → List ℕ → ℕ → ℕ → Result Unit Refusal
 compares_word size image block code =
-    answer (data_size_fault size or_else (length_fault (size + image_extra) image or_else contents_fault size image (word_of code block))) NotGood Good
+    answered (data_size_fault size or_else (length_fault (size + image_extra) image or_else contents_fault size image (word_of code block))) tt
 
 -- image::header: answers whatever code the header has
-abbrev pub answers_fourth : ℕ → List ℕ → Head
+abbrev pub answers_fourth : ℕ → List ℕ → Result Head Refusal
 answers_fourth size image =
-    answer (data_size_fault size or_else (length_fault (size + image_extra) image or_else copies_fault image)) NoHead
-    (Of (code_of (header_of image)) (number_of (header_of image)))
+    answered (data_size_fault size or_else (length_fault (size + image_extra) image or_else copies_fault image)) (head_in image)
 
 -- image::write: checks 1, 14, 22, 5, 7
 abbrev pub code_first : ℕ → ℕ → ℕ → List ℕ → List ℕ → ℕ
@@ -418,16 +410,16 @@ code_first size block code bytes room =
     or_else refuse (ltb (length room) (size + image_extra)) no_room)))
 
 -- reading::judge: of the header compares the block alone
-abbrev pub compares_block : ℕ → Shape → ℕ → List ℕ → List ℕ → ℕ → List ℕ → List ℕ → Verdict
+abbrev pub compares_block : ℕ → Shape → ℕ → List ℕ → List ℕ → ℕ → List ℕ → List ℕ → Result Unit Refusal
 compares_block size shape r t scratch b home spare =
     let image = image_for size (drive_of shape r) t b home spare in
-    answer
+    answered
     (data_size_fault size
     or_else (lent_fault size shape r t scratch b home spare
     or_else (copies_fault image
     or_else (refuse (not (eqb (number_of (header_of image)) b)) other_block
     or_else code_fault (stored_in size image) (found_in size image)))))
-    NotGood Good
+    tt
 
 -- the part of lent bytes that begins at a place of them
 abbrev pub part_at : Bor (List ℕ) → ℕ → List ℕ → Bor (List ℕ)
@@ -456,11 +448,11 @@ arm_at shape r t b =
     pick (ltb cylinder shape.cylinders) cylinder (shape.cylinders - 1)
 
 -- reading::tracks: names the track there; this is the board of the incident
-abbrev pub loses_sign : Shape → ℕ → List ℕ → List ℕ → ℕ → Tracks
+abbrev pub loses_sign : Shape → ℕ → List ℕ → List ℕ → ℕ → Result Pair Refusal
 loses_sign shape r t scratch b =
     let pair = pair_of shape r t b in
-    answer (spare_block_fault shape r t scratch b) NotFetched
-    (Fetch (record { home = pair.home; there = record { cylinder = arm_at shape r t b; head = pair.there.head }; shift = pos (unsigned_shift shape r t b) }))
+    answered (spare_block_fault shape r t scratch b)
+    (record { home = pair.home; there = record { cylinder = arm_at shape r t b; head = pair.there.head }; shift = pos (unsigned_shift shape r t b) })
 
 -- of a block that was replaced, puts the image on its home
 abbrev pub puts_home : ℕ → Shape → ℕ → List ℕ → ℕ → List ℕ → Contents → Contents
@@ -469,8 +461,8 @@ puts_home size shape r t b bytes = put (home_sector (drive_of shape r) b) (image
 -- Boards for the mode sector.
 
 -- what mode::find answers where it comes to this size, or to none, which is 0
-abbrev pub mode_from : ℕ → ℕ → Mode
-mode_from apart size = answer (refuse (eqb apart 0) out_of_range or_else refuse (eqb size 0) no_mode) NoMode (ModeOf size)
+abbrev pub mode_from : ℕ → ℕ → Result ℕ Refusal
+mode_from apart size = answered (refuse (eqb apart 0) out_of_range or_else refuse (eqb size 0) no_mode) size
 
 -- the XBN of the first copy whose image passes a test
 abbrev pub first_copy : (List ℕ → ℕ → Bool) → List ℕ → ℕ → ℕ
@@ -482,17 +474,17 @@ size_forced image xbn =
     pick ((eqb (image_fault data_size image xbn at_home) 0 || eqb (image_fault data_size image xbn at_home) forced_error) && is_size (first_word image)) (first_word image) 0
 
 -- mode::find: takes a forced copy
-abbrev pub takes_forced : List ℕ → ℕ → Mode
+abbrev pub takes_forced : List ℕ → ℕ → Result ℕ Refusal
 takes_forced images apart =
     let xbn = first_copy (λ image number. not (eqb (size_forced image number) 0)) images apart in
     mode_from apart (size_forced (xbn_image images xbn) xbn)
 
 -- mode::find: goes one sector on to the next copy, however far apart they are
-abbrev pub goes_one_on : List ℕ → ℕ → Mode
+abbrev pub goes_one_on : List ℕ → ℕ → Result ℕ Refusal
 goes_one_on images apart = mode_from apart (mode_of images 1)
 
 -- mode::find: looks no further than the first copy that is good, whatever its first word is
-abbrev pub stops_unknown : List ℕ → ℕ → Mode
+abbrev pub stops_unknown : List ℕ → ℕ → Result ℕ Refusal
 stops_unknown images apart =
     let xbn = first_copy (λ image number. eqb (image_fault data_size image number at_home) 0) images apart in
     mode_from apart (size_in (xbn_image images xbn) xbn)

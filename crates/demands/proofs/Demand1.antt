@@ -1,31 +1,28 @@
 -- Demand 1 holds. A call's promise makes its answer by a chain of checks, and the chain gives exactly the numbers of the paper's table; so each call answers and refuses by the numbers, and what it is lent keeps its bytes where it refuses. `demand1`, at the end, is the demand whole.
 -- Assumes nothing.
-use Rattle.paper.proofs.Kept.{fills-gives}
 use Prim.Native.Nat.{ℕ}
+use Rattle.std.specs.Prelude.{Result, Option, ℤ}
 use mathlib.Core.Path.{refl, ◌∙◌, ap}
 use mathlib.Core.Bool.{Bool}
 use mathlib.Core.List.{List}
 use lib.ListN.{length}
 use denote.Ref.{Bor}
-use Rattle.paper.specs.Answers.{said_written}
+use Rattle.paper.specs.Answers.{said_number}
 use Rattle.paper.specs.Checks.{◌or_else◌}
 use Rattle.paper.specs.Exactly.{◌and_then◌}
 use Rattle.paper.specs.Limits.{data_size_fault, DataSizeJudged}
 use Rattle.paper.proofs.Chain.{or_else-next}
 use Rattle.paper.proofs.Rows.{sized-exactly}
-use Rattle.paper.specs.declared.Placed.{Placed}
-use Rattle.paper.specs.declared.Named.{Named}
-use Rattle.paper.specs.declared.Written.{Written}
+use Rattle.paper.specs.declared.Refusal.{Refusal}
 use Rattle.shape.specs.declared.Shape.{Shape}
-use Rattle.shape.specs.declared.Located.{Located}
-use Rattle.shape.specs.Addresses.{sector_at, SectorOfJudged as ShapeSectorOfJudged, AddressOfJudged as ShapeAddressOfJudged}
+use Rattle.shape.specs.Addresses.{SectorOfJudged as ShapeSectorOfJudged, AddressOfJudged as ShapeAddressOfJudged}
 use Rattle.shape.specs.Promises.{SectorOf as ShapeSectorOf, AddressOf as ShapeAddressOf}
 use Rattle.shape.proofs.Exact.{sector-of-exactly as shape-sector-of-exactly, address-of-exactly as shape-address-of-exactly}
+use Rattle.shape.specs.declared.Address.{Address}
 use Rattle.skip.specs.Translation.{SectorOfJudged, BlockOnJudged}
-use Rattle.skip.specs.Cursors.{no_cursor, CheckJudged, StepJudged}
+use Rattle.skip.specs.Cursors.{CheckJudged, StepJudged}
 use Rattle.skip.specs.Promises.{SectorOf, BlockOn, Starts, Checks, Steps}
 use Rattle.skip.specs.declared.Cursor.{Cursor}
-use Rattle.skip.specs.declared.Job.{Job}
 use Rattle.skip.proofs.Exact.{sector-of-exactly, block-on-exactly, check-exactly, step-exactly}
 use Rattle.skipped.specs.Faults.{AddressOfJudged as SkippedAddressOfJudged, BlockAtJudged as SkippedBlockAtJudged}
 use Rattle.skipped.specs.Promises.{AddressOf as SkippedAddressOf, BlockAt as SkippedBlockAt}
@@ -38,45 +35,38 @@ use Rattle.format.specs.Spaces.{FormatJudged}
 use Rattle.format.specs.Promises.{said_formatted, Formats}
 use Rattle.format.specs.declared.Formatted.{Formatted}
 use Rattle.format.proofs.Exact.{format-exactly}
-use Rattle.layout.specs.Layouts.{drive_of}
 use Rattle.table.specs.Rules.{TableJudged, BlockJudged}
-use Rattle.table.specs.Lookup.{is_replaced}
 use Rattle.table.proofs.Exact.{table-exactly}
 use Rattle.first_table.specs.Tables.{FirstTableJudged}
 use Rattle.first_table.specs.Promises.{FirstTable}
 use Rattle.first_table.proofs.Exact.{first-exactly}
 use Rattle.spares.specs.Spares.{BlockOnJudged as SpareBlockOnJudged, BlockAtJudged as SpareBlockAtJudged, ReplaceJudged}
-use Rattle.spares.specs.Promises.{said_replaced, SectorOf as SpareSectorOf, AddressOf as SpareAddressOf, ShiftOf, BlockOn as SpareBlockOn, BlockAt as SpareBlockAt, Replacement, CensusOf}
-use Rattle.spares.specs.declared.Shifted.{Shifted}
-use Rattle.spares.specs.declared.Replaced.{Replaced}
-use Rattle.spares.specs.declared.Counted.{Counted}
+use Rattle.spares.specs.Promises.{SectorOf as SpareSectorOf, AddressOf as SpareAddressOf, ShiftOf, BlockOn as SpareBlockOn, BlockAt as SpareBlockAt, Replacement, CensusOf}
 use Rattle.spares.proofs.Exact.{block-on-exactly as spare-block-on-exactly, block-at-exactly as spare-block-at-exactly, replace-exactly}
 use Rattle.table.proofs.Exact.{block-exactly}
+use Rattle.table.specs.declared.Census.{Census}
 use Rattle.image.specs.Image.{image_fault}
 use Rattle.image.specs.Judged.{HeaderJudged, ImageJudged, WriteJudged}
 use Rattle.image.specs.Promises.{Write, Header, Judge, Data}
 use Rattle.image.specs.declared.Head.{Head}
-use Rattle.image.specs.declared.Verdict.{Verdict}
 use Rattle.image.proofs.Exact.{header-exactly, judge-exactly, write-exactly, image-length}
 use Rattle.image.proofs.Images.{length-data}
 use Rattle.image.proofs.Lent.{data-refused, data-accepted}
-use Rattle.mode.specs.declared.Mode.{Mode}
 use Rattle.mode.specs.Modes.{ModeJudged}
 use Rattle.mode.specs.Promises.{Finds}
 use Rattle.mode.proofs.Exact.{mode-exactly}
-use Rattle.reading.specs.Tracks.{data_start}
 use Rattle.reading.specs.Faults.{block_read_fault}
 use Rattle.reading.specs.Judged.{BlockReadJudged}
 use Rattle.reading.specs.Promises.{TracksOf, Judge as ReadJudge, Data as ReadData, Spots}
-use Rattle.reading.specs.declared.answers.Tracks.{Tracks}
 use Rattle.reading.specs.declared.answers.Spot.{Spot}
 use Rattle.reading.proofs.Exact.{read-exactly}
 use Rattle.reading.proofs.Parts.{read_length, data-refused as read-refused, data-accepted as read-accepted}
+use Rattle.reading.specs.declared.answers.Pair.{Pair}
 use Rattle.demands.specs.Relations.{Keeps, PartBy}
-use Rattle.demands.specs.Numbered.{PlacedBy, NamedBy, WrittenBy, LocatedBy, JobBy, PagedBy, FormattedBy, ShiftedBy, ReplacedBy, CountedBy, HeadBy, VerdictBy, ModeBy, TracksBy, SpotBy}
+use Rattle.demands.specs.Numbered.{NumberBy, NamedBy, LocatedBy, JobBy, StepBy, PagedBy, FormattedBy, ShiftedBy, CountedBy, HeadBy, VerdictBy, TracksBy, SpotBy}
 use Rattle.demands.specs.Demand1.{EachByTheNumbers, EachKeeps, Demand1}
 use Rattle.demands.proofs.Chains.{keeps}
-use Rattle.demands.proofs.ByKind.{found-naming, lying-naming, placed_by, named_by, written-by, located-by, ready_by, stepped_by, paged-by, formatted-by, shifted_by, replaced-by, counted-by, head-by, verdict-by, mode-by, tracks-by, spot-by}
+use Rattle.demands.proofs.ByKind.{number-by, named_by, located-by, job-by, step-by, paged-by, formatted-by, shifted_by, counted-by, head-by, verdict-by, tracks-by, spot-by}
 use Rattle.demands.proofs.Rooms.{each-hands}
 use Rattle.demands.proofs.Determined.{each-determined}
 use Rattle.demands.proofs.ThereAndBack.{each_again}
@@ -84,57 +74,57 @@ use Rattle.demands.proofs.ThereAndBack.{each_again}
 -- a drive by its shape
 module _ (shape : Shape) where
   pub shape-sector-of :
-      (cylinder head sector : ℕ) (result : Placed) → ShapeSectorOf shape cylinder head sector result →
-      PlacedBy (ShapeSectorOfJudged shape cylinder head sector) result
-  shape-sector-of cylinder head sector result promise = placed_by (shape-sector-of-exactly shape cylinder head sector) promise
+      (cylinder head sector : ℕ) (result : Result ℕ Refusal) → ShapeSectorOf shape cylinder head sector result →
+      NumberBy (ShapeSectorOfJudged shape cylinder head sector) result
+  shape-sector-of cylinder head sector result promise = number-by (shape-sector-of-exactly shape cylinder head sector) _ result promise
 
-  pub shape-address-of : (sector : ℕ) (result : Located) → ShapeAddressOf shape sector result → LocatedBy (ShapeAddressOfJudged shape sector) result
-  shape-address-of sector result promise = located-by (shape-address-of-exactly shape sector) promise
+  pub shape-address-of : (sector : ℕ) (result : Result Address Refusal) → ShapeAddressOf shape sector result → LocatedBy (ShapeAddressOfJudged shape sector) result
+  shape-address-of sector result promise = located-by (shape-address-of-exactly shape sector) _ result promise
 
 -- a skipped drive: N sectors and a list
 module _ (n : ℕ) (a : List ℕ) where
-  pub skip-sector-of : (b : ℕ) (result : Placed) → SectorOf n a b result → PlacedBy (SectorOfJudged n a b) result
-  skip-sector-of b result promise = placed_by (sector-of-exactly n a b) promise
+  pub skip-sector-of : (b : ℕ) (result : Result ℕ Refusal) → SectorOf n a b result → NumberBy (SectorOfJudged n a b) result
+  skip-sector-of b result promise = number-by (sector-of-exactly n a b) _ result promise
 
-  pub skip-block-on : (s : ℕ) (result : Named) → BlockOn n a s result → NamedBy (BlockOnJudged n a s) result
-  skip-block-on s result promise = named_by (block-on-exactly n a s) (found-naming a s) promise
+  pub skip-block-on : (s : ℕ) (result : Result (Option ℕ) Refusal) → BlockOn n a s result → NamedBy (BlockOnJudged n a s) result
+  skip-block-on s result promise = named_by (block-on-exactly n a s) _ result promise
 
-  -- a refusal of these two comes with an empty cursor
-  pub cursor-start : (b : ℕ) (result : Job) → Starts n a b result → JobBy no_cursor (SectorOfJudged n a b) result
-  cursor-start b result promise = ready_by (sector-of-exactly n a b) promise
+  -- a refusal of these two says an empty cursor
+  pub cursor-start : (b : ℕ) (result : Result Cursor Refusal) → Starts n a b result → JobBy (SectorOfJudged n a b) result
+  cursor-start b result promise = job-by (sector-of-exactly n a b) _ result promise
 
-  pub cursor-check : (c : Cursor) (result : Job) → Checks n a c result → JobBy no_cursor (CheckJudged n a c) result
-  cursor-check c result promise = ready_by (check-exactly n a c) promise
+  pub cursor-check : (c : Cursor) (result : Result Cursor Refusal) → Checks n a c result → JobBy (CheckJudged n a c) result
+  cursor-check c result promise = job-by (check-exactly n a c) _ result promise
 
-  -- a refused step returns its cursor
-  pub cursor-step : (c : Cursor) (result : Job) → Steps n a c result → JobBy c (StepJudged n a c) result
-  cursor-step c result promise = stepped_by (step-exactly n a c) promise
+  -- a refused step leaves its cursor
+  pub cursor-step : (c : Cursor) (result : Result ℕ Refusal) (after : Cursor) → Steps n a c result after → StepBy c (StepJudged n a c) (result, after)
+  cursor-step c result after promise = step-by (step-exactly n a c) _ result after promise
 
 -- a skipped drive by its shape
 module _ (shape : Shape) (a : List ℕ) where
-  pub skipped-address-of : (b : ℕ) (result : Located) → SkippedAddressOf shape a b result → LocatedBy (SkippedAddressOfJudged shape a b) result
-  skipped-address-of b result promise = located-by (skipped-address-of-exactly shape a b) promise
+  pub skipped-address-of : (b : ℕ) (result : Result Address Refusal) → SkippedAddressOf shape a b result → LocatedBy (SkippedAddressOfJudged shape a b) result
+  skipped-address-of b result promise = located-by (skipped-address-of-exactly shape a b) _ result promise
 
   pub skipped-block-at :
-      (cylinder head sector : ℕ) (result : Named) → SkippedBlockAt shape a cylinder head sector result →
+      (cylinder head sector : ℕ) (result : Result (Option ℕ) Refusal) → SkippedBlockAt shape a cylinder head sector result →
       NamedBy (SkippedBlockAtJudged shape a cylinder head sector) result
   skipped-block-at cylinder head sector result promise =
-      named_by (skipped-block-at-exactly shape a cylinder head sector) (found-naming a (sector_at shape cylinder head sector)) promise
+      named_by (skipped-block-at-exactly shape a cylinder head sector) _ result promise
 
 -- the list page
-module _ (page room : List ℕ) (result : Paged) (after : List ℕ) (promise : Reads page room result after) where
+module _ (page room : List ℕ) (result : Result Paged Refusal) (after : List ℕ) (promise : Reads page room result after) where
   pub page-read : PagedBy (PageReadJudged page room) result
-  page-read = paged-by (page-read-exactly page room) (fills-gives promise)
+  page-read = paged-by (page-read-exactly page room) _ result promise.gives
 
   pub page-read-keeps : Keeps (said_paged result).0 room after
-  page-read-keeps = keeps (λ said. said.0) (λ k. refl) refl promise
+  page-read-keeps = keeps said_paged (λ numbers. numbers.0) (λ k. (k, 0, 0, 0)) (λ answer. refl) (λ refusal. refl) (λ k. refl) result promise
 
-module _ (n kind : ℕ) (list room : List ℕ) (result : Written) (after : List ℕ) (promise : Writes n kind list room result after) where
-  pub page-write : WrittenBy (PageWriteJudged n kind list room) result
-  page-write = written-by (page-write-exactly n kind list room) (fills-gives promise)
+module _ (n kind : ℕ) (list room : List ℕ) (result : Result ℕ Refusal) (after : List ℕ) (promise : Writes n kind list room result after) where
+  pub page-write : NumberBy (PageWriteJudged n kind list room) result
+  page-write = number-by (page-write-exactly n kind list room) _ result promise.gives
 
-  pub page-write-keeps : Keeps (said_written result).0 room after
-  page-write-keeps = keeps (λ said. said.0) (λ k. refl) refl promise
+  pub page-write-keeps : Keeps (said_number result).0 room after
+  page-write-keeps = keeps said_number (λ numbers. numbers.0) (λ k. (k, 0)) (λ answer. refl) (λ refusal. refl) (λ k. refl) result promise
 
 -- Format
 module _
@@ -142,72 +132,72 @@ module _
     (p g : List ℕ)
     (space option : ℕ)
     (d grown list : List ℕ)
-    (result : Formatted)
+    (result : Result Formatted Refusal)
     (grown_after list_after : List ℕ)
     (promise : Formats n p g space option d grown list result grown_after list_after)
   where
     pub format-format : FormattedBy (FormatJudged n p g space option d grown list) result
-    format-format = formatted-by (format-exactly n p g space option d grown list) (fills-gives promise)
+    format-format = formatted-by (format-exactly n p g space option d grown list) _ result promise.gives
 
     -- neither room is written where either is short
     pub format-keeps : Keeps {Lent = List ℕ × List ℕ} (said_formatted result).0 (grown, list) (grown_after, list_after)
-    format-keeps = keeps (λ said. said.0) (λ k. refl) refl promise
+    format-keeps = keeps said_formatted (λ numbers. numbers.0) (λ k. (k, 0, 0, 0)) (λ answer. refl) (λ refusal. refl) (λ k. refl) result promise
 
 -- a revectored drive: shape, spares of a track and table
 module _ (shape : Shape) (r : ℕ) (t scratch : List ℕ) where
-  pub spares-sector-of : (b : ℕ) (result : Placed) → SpareSectorOf shape r t scratch b result → PlacedBy (BlockJudged shape r t scratch b) result
-  spares-sector-of b result promise = placed_by (block-exactly shape r t scratch b) promise
+  pub spares-sector-of : (b : ℕ) (result : Result ℕ Refusal) → SpareSectorOf shape r t scratch b result → NumberBy (BlockJudged shape r t scratch b) result
+  spares-sector-of b result promise = number-by (block-exactly shape r t scratch b) _ result promise
 
-  pub spares-address-of : (b : ℕ) (result : Located) → SpareAddressOf shape r t scratch b result → LocatedBy (BlockJudged shape r t scratch b) result
-  spares-address-of b result promise = located-by (block-exactly shape r t scratch b) promise
+  pub spares-address-of : (b : ℕ) (result : Result Address Refusal) → SpareAddressOf shape r t scratch b result → LocatedBy (BlockJudged shape r t scratch b) result
+  spares-address-of b result promise = located-by (block-exactly shape r t scratch b) _ result promise
 
-  pub spares-shift : (b : ℕ) (result : Shifted) → ShiftOf shape r t scratch b result → ShiftedBy (BlockJudged shape r t scratch b) result
-  spares-shift b result promise = shifted_by (block-exactly shape r t scratch b) promise
+  pub spares-shift : (b : ℕ) (result : Result ℤ Refusal) → ShiftOf shape r t scratch b result → ShiftedBy (BlockJudged shape r t scratch b) result
+  spares-shift b result promise = shifted_by (block-exactly shape r t scratch b) _ result promise
 
-  pub spares-block-on : (s : ℕ) (result : Named) → SpareBlockOn shape r t scratch s result → NamedBy (SpareBlockOnJudged shape r t scratch s) result
-  spares-block-on s result promise = named_by (spare-block-on-exactly shape r t scratch s) (lying-naming (drive_of shape r) t s) promise
+  pub spares-block-on : (s : ℕ) (result : Result (Option ℕ) Refusal) → SpareBlockOn shape r t scratch s result → NamedBy (SpareBlockOnJudged shape r t scratch s) result
+  spares-block-on s result promise = named_by (spare-block-on-exactly shape r t scratch s) _ result promise
 
   pub spares-block-at :
-      (cylinder head sector : ℕ) (result : Named) → SpareBlockAt shape r t scratch cylinder head sector result →
+      (cylinder head sector : ℕ) (result : Result (Option ℕ) Refusal) → SpareBlockAt shape r t scratch cylinder head sector result →
       NamedBy (SpareBlockAtJudged shape r t scratch cylinder head sector) result
   spares-block-at cylinder head sector result promise =
-      named_by (spare-block-at-exactly shape r t scratch cylinder head sector) (lying-naming (drive_of shape r) t (sector_at shape cylinder head sector)) promise
+      named_by (spare-block-at-exactly shape r t scratch cylinder head sector) _ result promise
 
-  pub reading-tracks : (b : ℕ) (result : Tracks) → TracksOf shape r t scratch b result → TracksBy (BlockJudged shape r t scratch b) result
-  reading-tracks b result promise = tracks-by (block-exactly shape r t scratch b) promise
+  pub reading-tracks : (b : ℕ) (result : Result Pair Refusal) → TracksOf shape r t scratch b result → TracksBy (BlockJudged shape r t scratch b) result
+  reading-tracks b result promise = tracks-by (block-exactly shape r t scratch b) _ result promise
 
-  pub spares-census : (result : Counted) → CensusOf shape r t scratch result → CountedBy (TableJudged shape r t scratch) result
-  spares-census result promise = counted-by (table-exactly shape r t scratch) promise
+  pub spares-census : (result : Result Census Refusal) → CensusOf shape r t scratch result → CountedBy (TableJudged shape r t scratch) result
+  spares-census result promise = counted-by (table-exactly shape r t scratch) _ result promise
 
-module _ (shape : Shape) (r : ℕ) (t scratch : List ℕ) (b : ℕ) (result : Replaced) (after : List ℕ) (promise : Replacement shape r t scratch b result after) where
-  pub spares-replace : ReplacedBy (ReplaceJudged shape r t scratch b) result
-  spares-replace = replaced-by (replace-exactly shape r t scratch b) (fills-gives promise)
+module _ (shape : Shape) (r : ℕ) (t scratch : List ℕ) (b : ℕ) (result : Result ℕ Refusal) (after : List ℕ) (promise : Replacement shape r t scratch b result after) where
+  pub spares-replace : NumberBy (ReplaceJudged shape r t scratch b) result
+  spares-replace = number-by (replace-exactly shape r t scratch b) _ result promise.gives
 
-  pub spares-replace-keeps : Keeps (said_replaced result).0 t after
-  spares-replace-keeps = keeps (λ said. said.0) (λ k. refl) refl promise
+  pub spares-replace-keeps : Keeps (said_number result).0 t after
+  spares-replace-keeps = keeps said_number (λ numbers. numbers.0) (λ k. (k, 0)) (λ answer. refl) (λ refusal. refl) (λ k. refl) result promise
 
-module _ (shape : Shape) (r : ℕ) (list room : List ℕ) (result : Written) (after : List ℕ) (promise : FirstTable shape r list room result after) where
-  pub spares-first-table : WrittenBy (FirstTableJudged shape r list room) result
-  spares-first-table = written-by (first-exactly shape r list room) (fills-gives promise)
+module _ (shape : Shape) (r : ℕ) (list room : List ℕ) (result : Result ℕ Refusal) (after : List ℕ) (promise : FirstTable shape r list room result after) where
+  pub spares-first-table : NumberBy (FirstTableJudged shape r list room) result
+  spares-first-table = number-by (first-exactly shape r list room) _ result promise.gives
 
-  pub spares-first-table-keeps : Keeps (said_written result).0 room after
-  spares-first-table-keeps = keeps (λ said. said.0) (λ k. refl) refl promise
+  pub spares-first-table-keeps : Keeps (said_number result).0 room after
+  spares-first-table-keeps = keeps said_number (λ numbers. numbers.0) (λ k. (k, 0)) (λ answer. refl) (λ refusal. refl) (λ k. refl) result promise
 
 -- the sector image
-module _ (size block code : ℕ) (bytes : List ℕ) (forced : Bool) (room : List ℕ) (result : Written) (after : List ℕ) (promise : Write size block code bytes forced room result after) where
-  pub image-write : WrittenBy (DataSizeJudged size and_then WriteJudged size block code bytes room) result
-  image-write = written-by (sized-exactly size (WriteJudged size block code bytes room) (write-exactly size block code bytes room)) (fills-gives promise)
+module _ (size block code : ℕ) (bytes : List ℕ) (forced : Bool) (room : List ℕ) (result : Result ℕ Refusal) (after : List ℕ) (promise : Write size block code bytes forced room result after) where
+  pub image-write : NumberBy (DataSizeJudged size and_then WriteJudged size block code bytes room) result
+  image-write = number-by (sized-exactly size (WriteJudged size block code bytes room) (write-exactly size block code bytes room)) _ result promise.gives
 
-  pub image-write-keeps : Keeps (said_written result).0 room after
-  image-write-keeps = keeps (λ said. said.0) (λ k. refl) refl promise
+  pub image-write-keeps : Keeps (said_number result).0 room after
+  image-write-keeps = keeps said_number (λ numbers. numbers.0) (λ k. (k, 0)) (λ answer. refl) (λ refusal. refl) (λ k. refl) result promise
 
-pub image-header : (size : ℕ) (image : List ℕ) (result : Head) → Header size image result → HeadBy (DataSizeJudged size and_then HeaderJudged size image) result
-image-header size image result promise = head-by (sized-exactly size (HeaderJudged size image) (header-exactly image size)) promise
+pub image-header : (size : ℕ) (image : List ℕ) (result : Result Head Refusal) → Header size image result → HeadBy (DataSizeJudged size and_then HeaderJudged size image) result
+image-header size image result promise = head-by (sized-exactly size (HeaderJudged size image) (header-exactly image size)) _ result promise
 
 pub image-judge :
-    (size : ℕ) (image : List ℕ) (block code : ℕ) (result : Verdict) → Judge size image block code result →
+    (size : ℕ) (image : List ℕ) (block code : ℕ) (result : Result Unit Refusal) → Judge size image block code result →
     VerdictBy (DataSizeJudged size and_then ImageJudged size image block code) result
-image-judge size image block code result promise = verdict-by (sized-exactly size (ImageJudged size image block code) (judge-exactly image size block code)) promise
+image-judge size image block code result promise = verdict-by (sized-exactly size (ImageJudged size image block code) (judge-exactly image size block code)) result promise
 
 -- the part is empty exactly where the verdict refuses
 pub image-data :
@@ -226,23 +216,23 @@ image-data size image block code part promise =
     }
 
 -- the mode sector
-pub mode-find : (images : List ℕ) (apart : ℕ) (result : Mode) → Finds images apart result → ModeBy (ModeJudged images apart) result
-mode-find images apart result promise = mode-by (mode-exactly images apart) promise
+pub mode-find : (images : List ℕ) (apart : ℕ) (result : Result ℕ Refusal) → Finds images apart result → NumberBy (ModeJudged images apart) result
+mode-find images apart result promise = number-by (mode-exactly images apart) _ result promise
 
 -- a read of a revectored block
 module _ (size : ℕ) (shape : Shape) (r : ℕ) (t scratch : List ℕ) (b : ℕ) where
   pub reading-judge :
-      (home spare : List ℕ) (result : Verdict) → ReadJudge size shape r t scratch b home spare result →
+      (home spare : List ℕ) (result : Result Unit Refusal) → ReadJudge size shape r t scratch b home spare result →
       VerdictBy (DataSizeJudged size and_then BlockReadJudged size shape r t scratch b home spare) result
   reading-judge home spare result promise =
-      verdict-by (sized-exactly size (BlockReadJudged size shape r t scratch b home spare) (read-exactly size shape r t scratch b home spare)) promise
+      verdict-by (sized-exactly size (BlockReadJudged size shape r t scratch b home spare) (read-exactly size shape r t scratch b home spare)) result promise
 
   pub reading-spot :
-      (home spare : List ℕ) (result : Spot) → Spots size shape r t scratch b home spare result →
+      (home spare : List ℕ) (result : Result Spot Refusal) → Spots size shape r t scratch b home spare result →
       SpotBy (DataSizeJudged size and_then BlockReadJudged size shape r t scratch b home spare) result
   reading-spot home spare result promise =
       spot-by (sized-exactly size (BlockReadJudged size shape r t scratch b home spare) (read-exactly size shape r t scratch b home spare))
-      (is_replaced t b) (data_start size (drive_of shape r) t b) promise
+      _ result promise
 
   pub reading-data :
       (home spare part : Bor (List ℕ)) → ReadData size shape r t scratch b home spare part →

@@ -7,14 +7,15 @@ use mathlib.Core.Logic.{◌⊎◌, inl, inr}
 use mathlib.Core.List.{List}
 use native.Mathlib.Omega.{arith}
 use lib.ListN.{length, take}
+use Rattle.std.specs.Prelude.{Result, Ok, Err}
 use borrow.Author.Tests.{lt-leb}
 use Rattle.paper.specs.Limits.{units_most, option_most}
 use Rattle.paper.specs.Refusals.{no_room}
 use Rattle.paper.specs.Conditions.{NoRoom}
-use Rattle.paper.specs.declared.Placed.TheVariants.{At}
+use Rattle.paper.specs.declared.Refusal.{Refusal}
+use Rattle.paper.specs.declared.Refusal.TheVariants.{NoRoom as NoRoomLeft}
 use Rattle.paper.proofs.Cases.{by_bool}
-use Rattle.paper.proofs.Chain.{answer-accepted, answer-refused}
-use Rattle.paper.proofs.Kept.{accepts, gives_one, gives-number}
+use Rattle.paper.proofs.Kept.{gives-accepted, gives-refused, gives-one}
 use Rattle.paper.proofs.Rows.{and_left, and_right, size-passes}
 use Rattle.lists.specs.Proper.{Rising, Inside, Proper}
 use Rattle.lists.specs.Union.{is_in, union}
@@ -33,7 +34,6 @@ use Rattle.format.specs.Spaces.{list_of, new_grown, new_list, new_space, format_
 use Rattle.format.specs.Nights.{ScanNight, joined}
 use Rattle.format.specs.Promises.{Formats}
 use Rattle.format.specs.declared.Formatted.{Formatted}
-use Rattle.format.specs.declared.Formatted.TheVariants.{Done, Refused}
 use Rattle.format.proofs.Held.{done-passes}
 use Rattle.format.proofs.Answering.{Fitting, format-shows, format-passes, format-lacks-room}
 use Rattle.format.proofs.Scans.{Scans, option-1-in-space-3, option-3-in-space-2, grown-is, scan-places, list-is, A-proper, d-proper, new-proper, new-blocks, nights-grown, nights-list, joined-fits}
@@ -47,20 +47,17 @@ Arrives n old named new b = place (is_in new) n b ≡ place (is_in old) n (place
 
 -- what an answered sector shows, and when it is answered
 module _ (n : ℕ) (a : List ℕ) (b : ℕ) where
-  answered-passes : {s : ℕ} → SectorOf n a b (At s) → sector_of_fault n a b ≡ 0
-  answered-passes promise = sym (gives-number promise (λ said. said.0) (λ k. refl) refl)
+  answered-passes : {s : ℕ} → SectorOf n a b (Ok s) → sector_of_fault n a b ≡ 0
+  answered-passes promise = promise.0
 
-  answered-place : {s : ℕ} → SectorOf n a b (At s) → place (is_in a) n b ≡ s
-  answered-place promise = sym (rw (answered-passes promise) at (ap (λ (said : ℕ × ℕ). said.1) promise.says))
+  answered-place : {s : ℕ} → SectorOf n a b (Ok s) → place (is_in a) n b ≡ s
+  answered-place promise = sym promise.1
 
   block-lies : Proper n a → b < blocks n a → Lies (is_in a) n b (place (is_in a) n b)
   block-lies proper below = place-lies (is_in a) n b (rw (goods-are-blocks n a proper.rising proper.inside) below)
 
-  answers : {s : ℕ} → n ≤ units_most → Proper n a → b < blocks n a → place (is_in a) n b ≡ s → SectorOf n a b (At s)
-  answers fits proper below here =
-      accepts (λ k. refl)
-      (rw (size-passes n (omega arith, fits), list-passes n a proper, lt-leb (blocks n a) b below))
-      (sym (ap At here))
+  answers : {s : ℕ} → n ≤ units_most → Proper n a → b < blocks n a → place (is_in a) n b ≡ s → SectorOf n a b (Ok s)
+  answers fits proper below here = (rw (size-passes n (omega arith, fits), list-passes n a proper, lt-leb (blocks n a) b below), sym here)
 
 -- a list with the sectors of named blocks gains exactly these
 module _ (n : ℕ) (a : List ℕ) (fits : n ≤ units_most) (proper : Proper n a) (d : List ℕ) (rising-d : Rising d) (inside-d : Inside (blocks n a) d) where
@@ -149,7 +146,7 @@ module _ {n : ℕ} {p g : List ℕ} {space option : ℕ} {d g' new : List ℕ} {
   one-night =
       record {
         arrives = λ b s way result promise.
-            gives_one promise
+            gives-one (sector_of_fault n new b) (place (is_in new) n b) result (Ok s) promise
             (answers n new b few made-proper
             (rw made-blocks (block-below (blocks n used) d b (answered-passes (blocks n used) d b way.skips)))
             (new-block-place b ∙ (ap (place (is_in used) n) (answered-place (blocks n used) d b way.skips) ∙ answered-place n used way.old way.follows)));
@@ -226,26 +223,26 @@ module _
 
     module _
         (grown list : List ℕ)
-        (result : Formatted)
+        (result : Result Formatted Refusal)
         (grown_after list_after : List ℕ)
         (promise : Formats n p g space option both grown list result grown_after list_after)
       where
         module _ (room-grown : length g'' ≤ length grown) (room-list : length last ≤ length list) where
-          both-done : result ≡ Done (length g'') (length last) end
+          both-done : result ≡ Ok (record { grown = length g''; list = length last; space = end })
           both-done =
-              promise.answers
-              ∙ (answer-accepted _ Refused _ (format-passes n p g space option both grown list both-fits (rw both-grown at room-grown) (rw both-list at room-list))
-              ∙ sym (rw (both-grown, both-list, both-space)))
+              gives-accepted _ _ result
+              (format-passes n p g space option both grown list both-fits (rw both-grown at room-grown) (rw both-list at room-list)) promise.gives
+              ∙ sym (rw (both-grown, both-list, both-space))
 
           both-hands : (take (length g'') grown_after ≡ g'') × (take (length last) list_after ≡ last)
           both-hands =
               let handed = format-hands n p g space option both grown list (length g'') (length last) end grown_after list_after (rw both-done at promise) in
               (handed.0.first ∙ sym both-grown, handed.1.0.first ∙ sym both-list)
 
-        both-refused : NoRoom (length g'') grown ⊎ NoRoom (length last) list → result ≡ Refused no_room
+        both-refused : NoRoom (length g'') grown ⊎ NoRoom (length last) list → result ≡ Err NoRoomLeft
         both-refused lacks =
             let fault : format_fault n p g space option both grown list ≡ no_room = format-lacks-room n p g space option both grown list both-fits (rw (both-grown, both-list) at lacks) in
-            promise.answers ∙ (answer-refused _ Refused _ (λ none. absurd (omega (arith, fault, none))) ∙ ap Refused fault)
+            gives-refused _ _ result NoRoomLeft fault promise.gives
 
     two-nights : TwoNights n p g space option (list_of space p g) d option' e both g'' last end
     two-nights =

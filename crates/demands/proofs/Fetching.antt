@@ -1,13 +1,13 @@
 -- What a read sees of a drive's sectors: the image of a track is that of its sectors one after another, each of the same length, so that the sector image which the read looks into, in the tracks that `reading::tracks` names, is the one on the sector that the block lies on.
 -- Assumes nothing.
 use Prim.Native.Nat.{ℕ, zero, suc, ◌+◌, ◌%◌, ◌<◌}
-use mathlib.Core.Path.{◌≡◌, refl, sym, ◌∙◌, ap}
+use mathlib.Core.Path.{◌≡◌, sym, ◌∙◌, ap}
 use mathlib.Core.Bool.{true, false}
 use mathlib.Core.List.{List, []}
 use native.Mathlib.Nat.{mod-lt}
 use native.Mathlib.Omega.{arith}
-use lib.IntN.{ℤ, pos}
 use lib.ListN.{length, length-append}
+use Rattle.std.specs.Prelude.{Ok}
 use lib.Seq.{take_at, drop-append-add}
 use denote.Ref.{Bor}
 use Rattle.paper.specs.Checks.{◌or_else◌}
@@ -15,14 +15,13 @@ use Rattle.paper.specs.Limits.{image_extra, Size, data_size_fault}
 use Rattle.paper.specs.Refusals.{forced_error}
 use Rattle.paper.proofs.Cases.{by_bool, by_fault}
 use Rattle.paper.proofs.Chain.{or_else-first, or_else-next}
-use Rattle.paper.proofs.Kept.{accepts, gives-number}
+use Rattle.paper.specs.declared.Refusal.TheVariants.{ForcedError}
 use Rattle.paper.proofs.Rows.{data-size-passes}
 use Rattle.words.specs.Words.{Bytes}
 use Rattle.shape.specs.declared.Shape.{Shape}
 use Rattle.shape.specs.declared.Address.{Address}
 use Rattle.shape.specs.Shapes.{Shaped, size_of}
 use Rattle.shape.specs.Addresses.{sector_at, address_at}
-use Rattle.shape.proofs.Answered.{located-is}
 use Rattle.shape.proofs.Inverse.{there_and_back}
 use Rattle.layout.specs.declared.Drive.{Drive}
 use Rattle.layout.specs.Layouts.{drive_of}
@@ -33,7 +32,6 @@ use Rattle.table.specs.Scratch.{Enough}
 use Rattle.table.proofs.Lookups.{tells-replaced}
 use Rattle.table.proofs.Exact.{sound-laid, block-sound, block-below}
 use Rattle.arm.proofs.Shifts.{shift-reaches}
-use Rattle.image.specs.declared.Verdict.TheVariants.{Good}
 use Rattle.image.specs.Image.{image_of, data_of, contents_fault, image_fault}
 use Rattle.image.specs.Promises.{Judge as JudgeImage}
 use Rattle.image.proofs.Exact.{image-pair, pair-says}
@@ -42,8 +40,6 @@ use Rattle.reading.specs.Faults.{lent_fault, block_read_fault}
 use Rattle.reading.specs.Promises.{TracksOf, track_at, pair_of, Data}
 use Rattle.reading.specs.declared.answers.Track.{Track}
 use Rattle.reading.specs.declared.answers.Pair.{Pair}
-use Rattle.reading.specs.declared.answers.Tracks.{Tracks}
-use Rattle.reading.specs.declared.answers.Tracks.TheVariants.{Fetch, Refused as NotFetched}
 use Rattle.reading.proofs.Exact.{Lent, block-few, lent-passes}
 use Rattle.reading.proofs.Parts.{data-refused, data-accepted}
 use Rattle.reading.proofs.Spots.{read-shows}
@@ -54,8 +50,7 @@ use Rattle.demands.specs.Ledgers.{Contents, Whole}
 use Rattle.demands.specs.NeverStale.{images_from, track_image, Fetched, Leads, Answers, GoodImage}
 use Rattle.demands.proofs.Demand2Revectored.{lies-inside}
 use Rattle.demands.proofs.ReadsInPlace.{lent-in-place}
-use Rattle.demands.proofs.Examples.{allows}
-use Rattle.demands.proofs.Incident.{allows-part}
+use Rattle.demands.proofs.Incident.{allows-passed, allows-refused, allows-part}
 
 module _ (size : ℕ) (held : Contents) (whole : Whole size held) where
   -- images one after another
@@ -89,15 +84,10 @@ module _ (size : ℕ) (held : Contents) (whole : Whole size held) where
         let back : first + s % shape.sectors ≡ s = omega (arith, there_and_back shaped inside) in
         image-among first shape.sectors (s % shape.sectors) (mod-lt s some) ∙ ap held back
 
--- the pair of an answer
-abbrev pair_in : Tracks → Pair
-pair_in (Fetch pair) = pair
-pair_in (NotFetched fault) = record { home = record { cylinder = 0; head = 0 }; there = record { cylinder = 0; head = 0 }; shift = pos 0 }
-
 -- tracks that are named pass the check, and are those of the definition
-module _ (shape : Shape) (r : ℕ) (t asked : List ℕ) (b : ℕ) (pair : Pair) (named : TracksOf shape r t asked b (Fetch pair)) where
+module _ (shape : Shape) (r : ℕ) (t asked : List ℕ) (b : ℕ) (pair : Pair) (named : TracksOf shape r t asked b (Ok pair)) where
   pub named-passes : block_fault shape r t asked b ≡ 0
-  named-passes = sym (gives-number named (λ said. said.0) (λ k. refl) refl)
+  named-passes = named.0
 
   pub named-sound : Sound shape r t
   named-sound = block-sound shape r t asked b named-passes
@@ -106,7 +96,7 @@ module _ (shape : Shape) (r : ℕ) (t asked : List ℕ) (b : ℕ) (pair : Pair) 
   named-below = block-below shape r t asked b named-passes
 
   pub named-pair : pair ≡ pair_of shape r t b
-  named-pair = ap pair_in (rw named-passes at named.answers)
+  named-pair = named.1
 
 -- two images that are fetched as they were named
 module _ (size : ℕ) (shape : Shape) (r : ℕ) (t : List ℕ) (held : Contents) (b : ℕ) (home spare : List ℕ) (whole : Whole size held) (fetched : Fetched shape r t held b home spare) where
@@ -178,7 +168,8 @@ module _
         let passes : (scratch : List ℕ) → Enough shape r scratch → block_read_fault size shape r t scratch b home.now spare.now ≡ 0 =
         λ scratch enough. good-read size shape r t scratch b bytes long are-bytes (lends scratch enough) seat (image-seen ∙ stands) in
         record {
-          accepted = λ scratch enough. allows (λ k. refl) (rw (data-size-passes sized, passes scratch enough));
+          accepted = λ scratch enough.
+              allows-passed (data_size_fault size or_else block_read_fault size shape r t scratch b home.now spare.now) (rw (data-size-passes sized, passes scratch enough));
           bytes-lent = λ scratch enough asked s placed track lies.
               allows-part size shape r t scratch b sized home spare
               (λ part lent.
@@ -193,7 +184,8 @@ module _
     forced-refuses stands =
         record {
           refused = λ scratch enough.
-              allows (λ k. refl) (rw (data-size-passes sized, forced-read size shape r t scratch b bytes long are-bytes (lends scratch enough) seat (image-seen ∙ stands)));
+              allows-refused (data_size_fault size or_else block_read_fault size shape r t scratch b home.now spare.now) ForcedError
+              (rw (data-size-passes sized, forced-read size shape r t scratch b bytes long are-bytes (lends scratch enough) seat (image-seen ∙ stands)));
           none_lent = λ scratch enough.
               allows-part size shape r t scratch b sized home spare (λ part lent. forced-part size shape r t scratch b bytes long are-bytes home spare part lent (lends scratch enough) seat (image-seen ∙ stands));
         }
@@ -205,14 +197,14 @@ module _ (size : ℕ) (shape : Shape) (r : ℕ) (t scratch : List ℕ) (b : ℕ)
     unfolding block_read_fault
     lying-passes fits = rw seen at (or_else-next (lent_fault size shape r t scratch b home spare) _ fits)
 
-    pub passing-good : (data_size_fault size or_else block_read_fault size shape r t scratch b home spare) ≡ 0 → JudgeImage size image b (code_for t b) Good
+    pub passing-good : (data_size_fault size or_else block_read_fault size shape r t scratch b home spare) ≡ 0 → JudgeImage size image b (code_for t b) (Ok tt)
     passing-good passes =
         let fits : block_read_fault size shape r t scratch b home spare ≡ 0 = or_else-next (data_size_fault size) _ passes in
         let lent = read-shows size shape r t scratch b home spare fits in
         let none : image_fault size image b (code_for t b) ≡ 0 =
         image-pair image size b (code_for t b) long
         ∙ (pair-says image size b (code_for t b) (header_for t b) (header-says t b (block-few lent.sound lent.below)) ∙ lying-passes fits) in
-        accepts (λ k. refl) (rw (or_else-first (data_size_fault size) _ passes) none) refl
+        rw (or_else-first (data_size_fault size) _ passes) none
 
   -- so a part that is not empty is the data of that image
   module _ (home spare part : Bor (List ℕ)) (seen : image_for size (drive_of shape r) t b home.now spare.now ≡ image) (lent : Data size shape r t scratch b home spare part) where
@@ -228,21 +220,20 @@ module _ (size : ℕ) (shape : Shape) (r : ℕ) (t scratch : List ℕ) (b : ℕ)
         (λ refused. absurd (some (data-refused size shape r t scratch b home spare part lent refused).holds))
 
     -- and where no good image of the block is there, it is empty
-    pub part_none : (JudgeImage size image b (code_for t b) Good → ⊥) → part.now ≡ []
+    pub part_none : (JudgeImage size image b (code_for t b) (Ok tt) → ⊥) → part.now ≡ []
     part_none none =
         (data-refused size shape r t scratch b home spare part lent (λ passes. none (passing-good home.now spare.now seen passes))).holds
 
 -- the tracks that are named, and the other calls
-module _ (shape : Shape) (r : ℕ) (t scratch : List ℕ) (b : ℕ) (pair : Pair) (named : TracksOf shape r t scratch b (Fetch pair)) where
+module _ (shape : Shape) (r : ℕ) (t scratch : List ℕ) (b : ℕ) (pair : Pair) (named : TracksOf shape r t scratch b (Ok pair)) where
   pub tracks-lead : Leads shape r t b pair
   tracks-lead =
       rw (named-pair shape r t scratch b pair named)
       (record {
-        home-track = λ address given. (ap (λ (at : Address). at.cylinder) (sym (located-is given)), ap (λ (at : Address). at.head) (sym (located-is given)));
-        lying-track = λ other address given. (ap (λ (at : Address). at.cylinder) (sym (located-is given)), ap (λ (at : Address). at.head) (sym (located-is given)));
+        home-track = λ address given. (ap (λ (at : Address). at.cylinder) (sym given.1), ap (λ (at : Address). at.head) (sym given.1));
+        lying-track = λ other address given. (ap (λ (at : Address). at.cylinder) (sym given.1), ap (λ (at : Address). at.head) (sym given.1));
         same-shift = λ other shift given.
-            let none : block_fault shape r t other b ≡ 0 = sym (gives-number given (λ said. said.0) (λ k. refl) refl) in
-            sym (rw none at (ap (λ (said : ℕ × ℤ). said.1) given.says));
+            sym given.1;
         leads = shift-reaches (named-sound shape r t scratch b pair named) b;
         one-at-home = λ at_home. by_bool (is_replaced t b) (λ e. absurd (at_home ((tells-replaced t b).holds e))) (λ e. rw e);
       })

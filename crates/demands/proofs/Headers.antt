@@ -1,21 +1,24 @@
 -- What Q-4 asks of headers holds: the header that a read expects is the word of the block and of the code that the table says, and an image with it is judged as it was written, with any other refused 16.
 -- Assumes nothing.
 use Prim.Native.Nat.{ℕ, ◌+◌, ◌<◌}
-use mathlib.Core.Path.{◌≡◌, refl, sym, ◌∙◌, ap}
-use mathlib.Core.Bool.{Bool}
+use Rattle.std.specs.Prelude.{Result, Ok, Err}
+use mathlib.Core.Path.{◌≡◌, sym, ◌∙◌, ap}
+use mathlib.Core.Bool.{Bool, false}
 use mathlib.Core.Logic.{◌⊎◌, ⊎_elim}
 use mathlib.Core.List.{List, ◌++◌}
 use native.Mathlib.Omega.{arith}
 use lib.ListN.{length, take, replicate}
 use Rattle.paper.specs.Conditions.{NotBelow}
-use Rattle.paper.specs.Limits.{image_extra, Size}
+use Rattle.paper.specs.Checks.{◌or_else◌}
+use Rattle.paper.specs.Limits.{image_extra, Size, data_size_fault}
 use Rattle.paper.specs.Refusals.{other_block}
-use Rattle.paper.specs.declared.Written.TheVariants.{Length}
 use Rattle.paper.proofs.Cases.{by_bool}
-use Rattle.paper.proofs.Kept.{gives-number}
+use Rattle.paper.proofs.Kept.{passes-one}
 use Rattle.paper.proofs.Rows.{data-size-passes}
+use Rattle.paper.specs.declared.Refusal.{Refusal}
+use Rattle.paper.specs.declared.Refusal.TheVariants.{OtherBlock, ForcedError}
 use Rattle.words.specs.Coded.{code_unit, word_of, code_of}
-use Rattle.words.specs.Words.{bytes16, bytes_of}
+use Rattle.words.specs.Words.{bytes16, bytes_of, Bytes}
 use Rattle.words.proofs.Coded.{code-of-word, word_fits}
 use Rattle.shape.specs.declared.Shape.{Shape}
 use Rattle.layout.specs.Layouts.{drive_of}
@@ -24,8 +27,6 @@ use Rattle.table.specs.Rules.{Sound, block_fault}
 use Rattle.table.specs.Scratch.{Enough}
 use Rattle.table.proofs.Exact.{sound-obeys, block-sound, block-below}
 use Rattle.table.proofs.Lookups.{tells-replaced}
-use Rattle.image.specs.declared.Verdict.{Verdict}
-use Rattle.image.specs.declared.Verdict.TheVariants.{Refused as NotGood}
 use Rattle.image.specs.Code.{carried}
 use Rattle.image.specs.Header.{at_home, Known}
 use Rattle.image.specs.Image.{copies_made, Stands, image_of}
@@ -34,7 +35,7 @@ use Rattle.image.specs.Promises.{Write, Judge}
 use Rattle.image.proofs.Headers.{says-below}
 use Rattle.image.proofs.Exact.{image-unsaid}
 use Rattle.reading.specs.Tracks.{sector_in, header_for, image_at, track_of, bytes_in}
-use Rattle.reading.specs.Faults.{lent_fault}
+use Rattle.reading.specs.Faults.{lent_fault, block_read_fault}
 use Rattle.reading.proofs.Exact.{block-few, lent-passes}
 use Rattle.reading.proofs.Seats.{seated, header-home, header-named}
 use Rattle.reading.proofs.Sized.{part_of}
@@ -46,7 +47,7 @@ use Rattle.demands.proofs.Rooms.{image-write-hands}
 -- what is written with code 0
 home-plain :
     (size block : ℕ) (bytes : List ℕ) (forced : Bool) (room : List ℕ) (long : ℕ) (after : List ℕ) →
-    Write size block at_home bytes forced room (Length long) after →
+    Write size block at_home bytes forced room (Ok long) after →
     take long after ≡ bytes_of (replicate copies_made block) ++ (bytes ++ bytes16 (carried forced bytes))
 unfolding image_of
 home-plain size block bytes forced room long after wrote =
@@ -57,26 +58,26 @@ home-plain size block bytes forced room long after wrote =
 never_met :
     (size : ℕ) → Size size → (image : List ℕ) (block code : ℕ) → (Known code → ⊥) ⊎ NotBelow code_unit block →
     (m : ℕ) → Stands image m → length image ≡ size + image_extra →
-    (verdict : Verdict) → Judge size image block code verdict → verdict ≡ NotGood other_block
+    (verdict : Result Unit Refusal) → Judge size image block code verdict → verdict ≡ Err OtherBlock
 never_met size sized image block code unsaid m stands long verdict judged =
-    judged.answers
-    ∙ rw (
+    passes-one _ verdict (Err OtherBlock) judged
+    (rw (
       data-size-passes sized,
       image-unsaid image size block code long m stands
           (λ says. ⊎_elim (λ fourth. fourth says.known) (λ over. omega (arith, says-below says)) unsaid),
-    )
+    ))
 
 -- a fourth code in the header
 fourth-refused :
     (size : ℕ) → Size size → (image : List ℕ) (block code : ℕ) → FourthCode image → length image ≡ size + image_extra →
-    (verdict : Verdict) → Judge size image block code verdict → verdict ≡ NotGood other_block
+    (verdict : Result Unit Refusal) → Judge size image block code verdict → verdict ≡ Err OtherBlock
 fourth-refused size sized image block code other long verdict judged =
-    judged.answers
-    ∙ rw (data-size-passes sized, image-unsaid image size block code long other.number other.stands (λ says. other.fourth (rw says.code_is says.known)))
+    passes-one _ verdict (Err OtherBlock) judged
+    (rw (data-size-passes sized, image-unsaid image size block code long other.number other.stands (λ says. other.fourth (rw says.code_is says.known))))
 
 module _ {size : ℕ} {shape : Shape} {r : ℕ} {t : List ℕ} {b : ℕ} {home spare : List ℕ} {number : ℕ} {bytes : List ℕ} {forced : Bool} (held : Holding size shape r t b home spare number bytes forced) where
   asked-passes : block_fault shape r t held.asked b ≡ 0
-  asked-passes = sym (gives-number held.lies-on (λ said. said.0) (λ k. refl) refl)
+  asked-passes = held.lies-on.0
 
   is-sound : Sound shape r t
   is-sound = block-sound shape r t held.asked b asked-passes
@@ -104,6 +105,30 @@ module _ {shape : Shape} {r : ℕ} {t : List ℕ} {b number code : ℕ} (sound :
   coded-other other same =
       other (ap code_of (sym (expected-is sound expected) ∙ sym same) ∙ code-of-word code b (block-few sound below))
 
+module _ (size : ℕ) (shape : Shape) (r : ℕ) (t judged : List ℕ) (b : ℕ) (home spare : List ℕ) (number : ℕ) (bytes : List ℕ) where
+  -- a read of a good image with the number that is expected passes
+  pub expected-passes :
+      Expected t b number → Bytes bytes → Holding size shape r t b home spare number bytes false → Enough shape r judged →
+      (data_size_fault size or_else block_read_fault size shape r t judged b home spare) ≡ 0
+  expected-passes expected are-bytes held enough =
+      rw (
+        data-size-passes held.sized,
+        good-read size shape r t judged b bytes held.long are-bytes (passes held judged enough) (seated (drive_of shape r) t b home spare)
+            (on-sector held ∙ rw (expected-is (is-sound held) expected)),
+      )
+
+  -- with another code of four bits it gives 16, good or forced
+  pub other-given :
+      (code : ℕ) (forced : Bool) → Expected t b number → code < 16 → (code_of number ≡ code → ⊥) → Holding size shape r t b home spare (word_of code b) bytes forced → Enough shape r judged →
+      (data_size_fault size or_else block_read_fault size shape r t judged b home spare) ≡ other_block
+  other-given code forced expected few other held enough =
+      rw (
+        data-size-passes held.sized,
+        other-read size shape r t judged b bytes (word_of code b) forced
+            (word_fits few (block-few (is-sound held) (is_below held))) (coded-other (is-sound held) (is_below held) expected other)
+            (passes held judged enough) (seated (drive_of shape r) t b home spare) (on-sector held),
+      )
+
 pub headers : Headers
 headers =
     record {
@@ -111,33 +136,22 @@ headers =
       never_met = never_met;
       fourth-refused = fourth-refused;
       expected-good = λ size shape r t judged b home spare number bytes expected are-bytes held enough verdict promise.
-          promise.answers
-          ∙ rw (
-            data-size-passes held.sized,
-            good-read size shape r t judged b bytes held.long are-bytes (passes held judged enough) (seated (drive_of shape r) t b home spare)
-                (on-sector held ∙ rw (expected-is (is-sound held) expected)),
-          );
+          passes-one _ verdict (Ok tt) promise (expected-passes size shape r t judged b home spare number bytes expected are-bytes held enough);
       expected-gives = λ size shape r t read b home spare number bytes expected are-bytes held enough part promise.
           good-part size shape r t read b bytes held.long are-bytes home spare part (part_of size shape r t read b held.sized home spare part promise) (passes held read enough) (seated (drive_of shape r) t b home.now spare.now)
           (on-sector held ∙ rw (expected-is (is-sound held) expected));
       expected-forced = λ size shape r t judged b home spare number bytes expected are-bytes held enough verdict promise.
-          promise.answers
-          ∙ rw (
+          passes-one _ verdict (Err ForcedError) promise
+          (rw (
             data-size-passes held.sized,
             forced-read size shape r t judged b bytes held.long are-bytes (passes held judged enough) (seated (drive_of shape r) t b home spare)
                 (on-sector held ∙ rw (expected-is (is-sound held) expected)),
-          );
+          ));
       forced-gives-none = λ size shape r t read b home spare number bytes expected are-bytes held enough part promise.
           forced-part size shape r t read b bytes held.long are-bytes home spare part (part_of size shape r t read b held.sized home spare part promise) (passes held read enough) (seated (drive_of shape r) t b home.now spare.now)
           (on-sector held ∙ rw (expected-is (is-sound held) expected));
       other-code = λ size shape r t judged b home spare number code bytes forced expected few other held enough verdict promise.
-          promise.answers
-          ∙ rw (
-            data-size-passes held.sized,
-            other-read size shape r t judged b bytes (word_of code b) forced
-                (word_fits few (block-few (is-sound held) (is_below held))) (coded-other (is-sound held) (is_below held) expected other)
-                (passes held judged enough) (seated (drive_of shape r) t b home spare) (on-sector held),
-          );
+          passes-one _ verdict (Err OtherBlock) promise (other-given size shape r t judged b home spare number bytes code forced expected few other held enough);
       other-gives-none = λ size shape r t read b home spare number code bytes forced expected few other held enough part promise.
           other-part size shape r t read b bytes (word_of code b) forced
           (word_fits few (block-few (is-sound held) (is_below held))) (coded-other (is-sound held) (is_below held) expected other)

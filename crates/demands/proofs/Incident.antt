@@ -1,23 +1,28 @@
 -- A read of a replaced block moves the right way and hands back the spare's bytes: in a table that passes one place alone names the block, and the shift and the read both go by that place. The header that is expected there is the descriptor, which no image that was made for the home carries.
 -- Assumes nothing.
-use Rattle.paper.proofs.Kept.{gives-number, fills-gives}
 use Prim.Native.Nat.{ℕ, zero, suc, ◌+◌, ◌-◌, ◌%◌, ◌^◌, ◌<◌}
 use mathlib.Core.Path.{◌≡◌, refl, sym, ◌∙◌, ap}
-use mathlib.Core.Bool.{Bool, true, false}
+use mathlib.Core.Bool.{Bool, true, false, not}
 use mathlib.Core.Logic.{⊎_elim}
 use mathlib.Core.List.{List, []}
 use native.Mathlib.Omega.{arith}
 use lib.IntN.{ℤ, pos, negsuc, ◌+ℤ◌, ◌-ℤ◌}
+use lib.Dec.{eqb, leb, ltb}
 use lib.ListN.{length, get_or, take, drop}
+use Rattle.std.specs.Prelude.{Result, Ok, Err}
 use denote.Ref.{Bor}
 use borrow.Author.Tests.{le-ltb}
-use Rattle.paper.specs.Answers.{said_written}
-use Rattle.paper.specs.Checks.{◌or_else◌, answer}
-use Rattle.paper.specs.Limits.{data_size, wide_size, image_extra, Size, data_size_fault}
+use Rattle.paper.specs.Answers.{said_verdict, said_number}
+use Rattle.paper.specs.Checks.{pick, refuse, ◌or_else◌, answer}
+use Rattle.paper.specs.Numbers.{number}
+use Rattle.paper.specs.Promise.{Passes, Gives}
+use Rattle.paper.specs.Limits.{data_size, wide_size, image_extra, Size, is_size, data_size_fault}
 use Rattle.paper.specs.Refusals.{other_block}
-use Rattle.paper.specs.declared.Written.{Written}
+use Rattle.paper.specs.declared.Refusal.{Refusal}
+use Rattle.paper.specs.declared.Refusal.TheVariants.{OutOfRange, NoSuchBlock, NoRoom, BadTable, WrongLength, NoAddress, OtherBlock, ForcedError, BadCode}
 use Rattle.paper.proofs.Cases.{by_fault}
-use Rattle.paper.proofs.Chain.{or_else-next}
+use Rattle.paper.proofs.Chain.{or_else-none, or_else-next}
+use Rattle.paper.proofs.Kept.{number-some, earlier-number, gives-accepted, passes-one}
 use Rattle.paper.proofs.Rows.{data-size-passes, sized-shows, normal-size, wide-size}
 use Rattle.words.specs.Coded.{code_unit, word_of, code_of}
 use Rattle.words.specs.Words.{Bytes}
@@ -26,44 +31,112 @@ use Rattle.seek.specs.Every.{all_below}
 use Rattle.seek.specs.Lowest.{first_below}
 use Rattle.seek.specs.Search.{first_or, rising}
 use Rattle.shape.specs.declared.Shape.{Shape}
-use Rattle.layout.specs.Layouts.{drive_of, home_cylinder, spare_cylinder}
+use Rattle.shape.specs.Shapes.{shaped, shape_fault}
+use Rattle.layout.specs.Layouts.{spared, drive_of, drive_fault, home_cylinder, spare_cylinder}
 use Rattle.layout.specs.Descriptors.{Names}
-use Rattle.table.specs.Rules.{Sound}
-use Rattle.table.specs.Scratch.{Enough}
+use Rattle.table.specs.Rules.{Sound, table_fault, block_fault}
+use Rattle.table.specs.Scratch.{Enough, scratch_fault}
+use Rattle.table.specs.Steps.{obeys}
 use Rattle.table.specs.Lookup.{place_of, Replaced, is_replaced}
 use Rattle.table.proofs.Lookups.{tells-replaced, replaced-place}
 use Rattle.order.specs.Order.{outward}
 use Rattle.order.proofs.Signs.{minus-below}
 use Rattle.replacing.specs.Replacing.{spare_for, Moved}
-use Rattle.spares.specs.declared.Replaced as Answers
-use Rattle.spares.specs.declared.Replaced.TheVariants.{Place, Refused as NotReplaced}
 use Rattle.spares.specs.Spares.{replace_fault}
-use Rattle.spares.specs.Promises.{Replacement}
+use Rattle.spares.specs.Promises.{said_shifted, Replacement}
 use Rattle.table.proofs.Exact.{sound-obeys, block-passes}
 use Rattle.arm.specs.Shifts.{shift_of}
 use Rattle.arm.proofs.Shifts.{shift-replaced, shift-leads}
-use Rattle.image.specs.declared.Verdict.{Verdict}
-use Rattle.image.specs.Image.{data_of, image_of, write_fault}
+use Rattle.image.specs.Image.{header_of, data_of, image_of, copies_fault, contents_fault, write_fault}
 use Rattle.image.specs.Promises.{Lends, WriteSized, Write}
 use Rattle.image.proofs.Exact.{write-shows}
 use Rattle.image.proofs.Lent.{part_at, part-some}
 use Rattle.image.proofs.Sized.{write-sized}
 use Rattle.image.proofs.ThereAndBack.{room-image}
 use Rattle.reading.specs.Tracks.{data_start, header_for, image_at, image_for, on-spare, sector_in, track_of}
-use Rattle.reading.specs.Faults.{lent_fault, block_read_fault}
-use Rattle.reading.specs.Promises.{DataSized, JudgeSized, Data}
-use Rattle.reading.proofs.Alike.{home-unread, verdict-alike, part-alike}
+use Rattle.reading.specs.declared.answers.Spot.{Spot}
+use Rattle.reading.specs.Faults.{other_tracks, lent_fault, block_read_fault}
+use Rattle.reading.specs.Promises.{said_spot, spot_of, Judge, DataSized, Data, Spots}
+use Rattle.reading.proofs.Alike.{home-unread, read_alike, part-alike}
 use Rattle.reading.proofs.Parts.{refused-empty, accepted-data, accepted-part}
 use Rattle.reading.proofs.Exact.{block-few, lent-passes}
 use Rattle.reading.proofs.Seats.{seated-only, header-named, data-inside}
-use Rattle.reading.proofs.Sized.{data-sized, spot-sized, verdict-of, part_of}
+use Rattle.reading.proofs.Sized.{data-sized, part_of}
 use Rattle.reading.proofs.Written.{good-read, other-read, good-part, other-part}
-use Rattle.demands.proofs.ByKind.{spot-says}
 use Rattle.demands.specs.Relations.{AllowsOnly}
 use Rattle.demands.specs.Inputs.{small, after_eight}
 use Rattle.demands.specs.Incident.{spare_start, spare_data, image_from, WholeTrack, SamePart, HandsBack, Safe}
 use Rattle.demands.proofs.Demand2Revectored.{taken-below, taken-after, replacement-moves}
-use Rattle.demands.proofs.Examples.{allows, allows-where}
+
+-- what holds of every answer that a chain allows: one that passes, or whose fault a refusal has, allows some
+module _ (fault : ℕ) where
+  pub allows-passed : fault ≡ 0 → AllowsOnly (Passes fault) (λ answer. said_verdict answer ≡ 0)
+  allows-passed none = record { some = Ok tt; allowed = none; every = λ answer given. ap said_verdict (passes-one fault answer (Ok tt) given none) }
+
+  pub allows-refused : (refusal : Refusal) → fault ≡ number refusal → AllowsOnly (Passes fault) (λ answer. said_verdict answer ≡ number refusal)
+  allows-refused refusal is = record { some = Err refusal; allowed = is; every = λ answer given. ap said_verdict (passes-one fault answer (Err refusal) given is) }
+
+  -- a chain finds no fault, or the fault of a refusal
+  data Found : Type 0 where
+    finds-none : fault ≡ 0 → Found
+    finds : (refusal : Refusal) → fault ≡ number refusal → Found
+
+  module _ {Answer : Type 0} (accepted : Answer) {Figures : Result Answer Refusal → Type 0} (every : (answer : Result Answer Refusal) → Gives fault accepted answer → Figures answer) where
+    pub allows-given : fault ≡ 0 → AllowsOnly (Gives fault accepted) Figures
+    allows-given none = record { some = Ok accepted; allowed = (none, refl); every = every }
+
+    allows-found : Found → AllowsOnly (Gives fault accepted) Figures
+    allows-found (finds-none none) = allows-given none
+    allows-found (finds refusal is) = record { some = Err refusal; allowed = is; every = every }
+
+-- a chain of checks, each with a refusal of its own, finds none or that of one of them
+found-refuse : (test : Bool) (refusal : Refusal) → Found (refuse test (number refusal))
+found-refuse true refusal = finds refusal refl
+found-refuse false refusal = finds-none refl
+
+found_pick : (test : Bool) (first second : ℕ) → Found first → Found second → Found (pick test first second)
+found_pick true first second one other = one
+found_pick false first second one other = other
+
+found_or_else : (fault next : ℕ) → Found fault → Found next → Found (fault or_else next)
+found_or_else fault next (finds refusal is) then = finds refusal (earlier-number fault next refusal is)
+found_or_else fault next (finds-none none) (finds refusal is) = finds refusal (or_else-none fault next none ∙ is)
+found_or_else fault next (finds-none none) (finds-none none') = finds-none (or_else-none fault next none ∙ none')
+
+found-block : (shape : Shape) (r : ℕ) (t scratch : List ℕ) (b : ℕ) → Found (block_fault shape r t scratch b)
+found-block shape r t scratch b =
+    found_or_else (table_fault shape r t scratch) _
+    (found_or_else (scratch_fault shape r scratch) _
+    (found_or_else (drive_fault shape r) _
+    (found_or_else (shape_fault shape) _ (found-refuse (not (shaped shape)) OutOfRange) (found-refuse (not (spared shape r)) OutOfRange))
+    (found-refuse (ltb (length scratch) (drive_of shape r).spares) NoRoom))
+    (found-refuse (not (obeys (drive_of shape r) t)) BadTable))
+    (found-refuse (leb (drive_of shape r).blocks b) NoSuchBlock)
+
+found-contents : (size : ℕ) (image : List ℕ) (word : ℕ) → Found (contents_fault size image word)
+unfolding contents_fault copies_fault
+found-contents size image word =
+    found_or_else (copies_fault image) _
+    (found-refuse _ NoAddress)
+    (found_or_else (refuse (not (eqb (header_of image) word)) other_block) _
+    (found-refuse (not (eqb (header_of image) word)) OtherBlock)
+    (found_pick _ _ _ (finds-none refl) (found_pick _ _ _ (finds ForcedError refl) (finds BadCode refl))))
+
+found-read :
+    (size : ℕ) (shape : Shape) (r : ℕ) (t scratch : List ℕ) (b : ℕ) (home spare : List ℕ) →
+    Found (data_size_fault size or_else block_read_fault size shape r t scratch b home spare)
+unfolding data_size_fault block_read_fault lent_fault
+found-read size shape r t scratch b home spare =
+    found_or_else (data_size_fault size) _
+    (found-refuse (not (is_size size)) OutOfRange)
+    (found_or_else (lent_fault size shape r t scratch b home spare) _
+    (found_or_else (block_fault shape r t scratch b) _ (found-block shape r t scratch b) (found-refuse (other_tracks size shape home spare) WrongLength))
+    (found-contents size (image_for size (drive_of shape r) t b home spare) (header_for t b)))
+
+-- a call that says number 0 has passed
+said-passes : (fault accepted : ℕ) (answer : Result ℕ Refusal) → Gives fault accepted answer → (said_number answer).0 ≡ 0 → fault ≡ 0
+said-passes fault accepted (Ok given) gives none = gives.0
+said-passes fault accepted (Err refusal) gives none = absurd (number-some refusal none)
 
 -- a read allows what holds of every part that the read for any number of data bytes hands back, and nothing else
 pub allows-part :
@@ -166,12 +239,18 @@ module _
           }
 
       verdict-unread :
-          (home other spare : List ℕ) (verdict again : Verdict) → length home ≡ length other →
-          JudgeSized size shape r t scratch b home spare verdict → JudgeSized size shape r t again-scratch b other spare again → verdict ≡ again
+          (home other spare : List ℕ) (verdict again : Result Unit Refusal) → length home ≡ length other →
+          Judge size shape r t scratch b home spare verdict → Judge size shape r t again-scratch b other spare again → verdict ≡ again
       verdict-unread home other spare verdict again long first second =
-          first.answers
-          ∙ verdict-alike size shape r t scratch again-scratch enough enough' b (home-unread size shape r t b home spare other is-named long)
-          ∙ sym second.answers
+          let alike = read_alike size shape r t scratch again-scratch enough enough' b (home-unread size shape r t b home spare other is-named long) in
+          passes-one (data_size_fault size or_else block_read_fault size shape r t again-scratch b other spare) verdict again (rw alike at first) second
+
+    -- a spot that is answered is in the second image, where the spare's data begins
+    spot-there :
+        (scratch home spare : List ℕ) (spot : Result Spot Refusal) → Spots size shape r t scratch b home spare spot →
+        (said_spot spot).0 ≡ 0 → said_spot spot ≡ (0, 1, spare_data size shape r q)
+    spot-there scratch home spare (Ok spot) given none = ap (λ (found : Spot). said_spot (Ok found)) given.1 ∙ rw (is-replaced, its-sector)
+    spot-there scratch home spare (Err refusal) given none = absurd (number-some refusal none)
 
     module _
         (home spare : Bor (List ℕ))
@@ -218,28 +297,32 @@ module _
     pub named-safe : Safe size shape r t b q (pos (spare_cylinder (drive_of shape r) q) -ℤ pos (home_cylinder (drive_of shape r) b))
     named-safe =
         record {
-          answers = λ scratch enough. allows (λ k. refl) (rw (block-passes shape r t scratch sound enough b below, its-shift));
+          answers = λ scratch enough.
+              let passes : block_fault shape r t scratch b ≡ 0 = block-passes shape r t scratch sound enough b below in
+              allows-given (block_fault shape r t scratch b) (shift_of (drive_of shape r) t b)
+              (λ answer given. ap said_shifted (gives-accepted (block_fault shape r t scratch b) (shift_of (drive_of shape r) t b) answer passes given) ∙ rw its-shift)
+              passes;
           leads = rw its-shift at shift-goes;
           spots = λ scratch home spare.
-              rw (spot-sized size shape r t scratch b sized home spare)
-              (allows-where (λ k. refl)
-              (λ answer given-spot none.
-              let passes : block_read_fault size shape r t scratch b home spare ≡ 0 = sym (gives-number given-spot (λ said. said.0) (λ k. refl) (spot-says (is_replaced t b) (data_start size (drive_of shape r) t b))) ∙ none in
-              given-spot.says ∙ rw (passes, is-replaced, its-sector)));
+              allows-found (data_size_fault size or_else block_read_fault size shape r t scratch b home spare) (spot_of size shape r t b) (spot-there scratch home spare)
+              (found-read size shape r t scratch b home spare);
           lends = λ scratch home spare. allows-part size shape r t scratch b sized home spare (part_filled scratch home spare);
           same-part = λ scratch again-scratch enough enough' home other spare part again long first second.
               part-unread scratch again-scratch enough enough' home other spare part again long (part_of size shape r t scratch b sized home spare part first) (part_of size shape r t again-scratch b sized other spare again second);
           same-verdict = λ scratch again-scratch enough enough' home other spare verdict again long first second.
-              verdict-unread scratch again-scratch enough enough' home other spare verdict again long
-              (verdict-of size shape r t scratch b sized home spare first) (verdict-of size shape r t again-scratch b sized other spare second);
+              verdict-unread scratch again-scratch enough enough' home other spare verdict again long first second;
           gives_back = λ home spare bytes whole whole' long h stands.
               record {
-                accepted = λ scratch enough. allows (λ k. refl) (rw (data-size-passes sized, read-passes home spare bytes whole whole' scratch enough long h stands));
+                accepted = λ scratch enough.
+                    allows-passed (data_size_fault size or_else block_read_fault size shape r t scratch b home.now spare.now)
+                    (rw (data-size-passes sized, read-passes home spare bytes whole whole' scratch enough long h stands));
                 bytes-lent = λ scratch enough. allows-part size shape r t scratch b sized home spare (data-lent home spare bytes whole whole' scratch enough long h stands);
               };
           refuses-moved = λ home spare bytes forced whole whole' stands.
               record {
-                refused = λ scratch enough. allows (λ k. refl) (rw (data-size-passes sized, moved-refused home spare bytes whole whole' scratch enough forced stands));
+                refused = λ scratch enough.
+                    allows-refused (data_size_fault size or_else block_read_fault size shape r t scratch b home.now spare.now) OtherBlock
+                    (rw (data-size-passes sized, moved-refused home spare bytes whole whole' scratch enough forced stands));
                 none_lent = λ scratch enough. allows-part size shape r t scratch b sized home spare (moved-empty home spare bytes whole whole' scratch enough forced stands);
               };
         }
@@ -250,7 +333,7 @@ one_less a zero one = absurd (omega arith)
 one_less a (suc c) one = let none : suc c - suc a ≡ 0 = omega arith in minus-below a (suc c) (omega arith) ∙ ap negsuc none
 
 -- an accepted replacement, and the table that it leaves
-module _ (size : ℕ) (sized : Size size) (shape : Shape) (r : ℕ) (t scratch : List ℕ) (b q : ℕ) (after : List ℕ) (replacement : Replacement shape r t scratch b (Place q) after) where
+module _ (size : ℕ) (sized : Size size) (shape : Shape) (r : ℕ) (t scratch : List ℕ) (b q : ℕ) (after : List ℕ) (replacement : Replacement shape r t scratch b (Ok q) after) where
   moved : Moved (drive_of shape r) t b q after
   moved = replacement-moves shape r t scratch b q after replacement
 
@@ -285,12 +368,12 @@ module _
     -- by the writer's call: the image of an accepted good write of the block, with the code of its descriptor, stands on the spare's sector
     pub written_back :
         Names (get_or t q 0) b →
-        (room image : List ℕ) (answer : Written) → Write size b (code_of (get_or t q 0)) bytes false room answer image → (said_written answer).0 ≡ 0 →
+        (room image : List ℕ) (answer : Result ℕ Refusal) → Write size b (code_of (get_or t q 0)) bytes false room answer image → (said_number answer).0 ≡ 0 →
         image_from size (spare_start size shape r q) spare.now ≡ take (size + image_extra) image →
         HandsBack size shape r t b q home spare bytes
     written_back named room image answer writes none stands =
         let code = code_of (get_or t q 0) in
-        let passes : (data_size_fault size or_else write_fault size b code bytes room) ≡ 0 = sym (gives-number (fills-gives writes) (λ said. said.0) (λ k. refl) refl) ∙ none in
+        let passes : (data_size_fault size or_else write_fault size b code bytes room) ≡ 0 = said-passes _ (size + image_extra) answer writes.gives none in
         let fits : write_fault size b code bytes room ≡ 0 = or_else-next (data_size_fault size) _ passes in
         let promise : WriteSized size b code bytes false room answer image = rw (write-sized (sized-shows size _ passes) b code bytes false room) at writes in
         let image-is : take (size + image_extra) image ≡ image_of (word_of code b) bytes false = rw promise.holds (room-image size b code bytes false room fits) in
@@ -299,13 +382,18 @@ module _
         (stands ∙ image-is ∙ ap (λ (number : ℕ). image_of number bytes false) word)
 
 -- the paper's own numbers: C 2, H 2, S 5, r 2, and block 6 goes to place 3, from cylinder 1 to cylinder 0
-module _ (scratch : List ℕ) (enough : Enough small 2 scratch) (given : Answers.Replaced) (after : List ℕ) (replacement : Replacement small 2 after_eight scratch 6 given after) where
-  goes-to-3 : answer (replace_fault small 2 after_eight scratch 6) NotReplaced (Place (spare_for (drive_of small 2) after_eight 6)) ≡ Place 3
+module _ (scratch : List ℕ) (enough : Enough small 2 scratch) (given : Result ℕ Refusal) (after : List ℕ) (replacement : Replacement small 2 after_eight scratch 6 given after) where
+  goes-to-3 : (replace_fault small 2 after_eight scratch 6 ≡ 0) × (spare_for (drive_of small 2) after_eight 6 ≡ 3)
   unfolding all_below place_of first_below first_or outward rising
-  goes-to-3 = rw (le-ltb (length scratch) 8 enough)
+  goes-to-3 = (rw (le-ltb (length scratch) 8 enough), refl)
+
+  given-3 : given ≡ Ok 3
+  given-3 =
+      gives-accepted (replace_fault small 2 after_eight scratch 6) (spare_for (drive_of small 2) after_eight 6) given goes-to-3.0 replacement.gives
+      ∙ ap Ok goes-to-3.1
 
   pub six-safe : (size : ℕ) → Size size → Safe size small 2 after 6 3 (negsuc 0)
-  six-safe size sized = outward-safe size sized small 2 after_eight scratch 6 3 after (rw (replacement.answers ∙ goes-to-3) at replacement) refl
+  six-safe size sized = outward-safe size sized small 2 after_eight scratch 6 3 after (rw given-3 at replacement) refl
 
   -- its data begins at (3 + 3 mod 2) × 530 + 16 of the second image, and at (3 + 3 mod 2) × 594 + 16 on a wide drive
   pub six-part :

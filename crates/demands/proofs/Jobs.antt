@@ -5,118 +5,104 @@ use mathlib.Core.Path.{◌≡◌, refl, sym, ◌∙◌, ap}
 use mathlib.Core.List.{List, [], ◌∷◌}
 use native.Mathlib.Omega.{arith}
 use lib.ListN.{length, get_or}
+use Rattle.std.specs.Prelude.{Result, Ok, Err}
 use borrow.Author.Tests.{lt-leb, le-leb}
 use Rattle.paper.specs.Refusals.{no_such_block}
-use Rattle.paper.specs.declared.Placed.{Placed}
-use Rattle.paper.specs.declared.Placed.TheVariants.{At}
-use Rattle.paper.proofs.Chain.{answer-refused, answer-accepted}
-use Rattle.paper.proofs.Kept.{gives-number, accepts}
+use Rattle.paper.specs.declared.Refusal.{Refusal}
+use Rattle.paper.specs.declared.Refusal.TheVariants.{NoSuchBlock}
+use Rattle.paper.proofs.Kept.{gives-accepted, gives-refused, fills-accepted, fills-refused, accepts}
 use Rattle.lists.specs.Proper.{space_fault}
 use Rattle.lists.specs.Union.{is_in}
 use Rattle.lists.proofs.Exact.{space-exactly}
 use Rattle.skip.specs.Skipping.{place}
 use Rattle.skip.specs.Translation.{blocks, sector_of_fault}
-use Rattle.skip.specs.Cursors.{Belongs, count_at, cursor_at, check_fault, step_fault}
+use Rattle.skip.specs.Cursors.{Belongs, cursor_at, check_fault, step_fault}
 use Rattle.skip.specs.Promises.{SectorOf, Starts, Checks, Steps}
 use Rattle.skip.specs.declared.Cursor.{Cursor}
-use Rattle.skip.specs.declared.Job.{Job}
-use Rattle.skip.specs.declared.Job.TheVariants.{Ready, At as SteppedAt, Refused as NotReady}
 use Rattle.skip.proofs.Shown.{block-space, block-below}
-use Rattle.skip.proofs.Cursoring.{tells-belongs, belongs-one, cursor-belongs, step-fresh as fresh-passes, step_block}
+use Rattle.skip.proofs.Cursoring.{tells-belongs, cursor-belongs, step-fresh as fresh-passes, step_block}
 use Rattle.demands.specs.Relations.{Onward}
 use Rattle.demands.specs.Demand2Skipped.{Opens, GoesOn, JobCalls, Run, stays, steps, RunsFrom, StepsOn}
 
 module _ (n : ℕ) (a : List ℕ) where
   -- the cursor of a block belongs
-  cursor-at-belongs : (b : ℕ) (c : Cursor) → b ≤ n - length a → c.block ≡ b → c.skipped ≡ count_at n a b → Belongs n a c
-  cursor-at-belongs b c h block count = record { within = omega (arith, block, h); counts = rw block count }
+  cursor-at-belongs : (b : ℕ) → b ≤ n - length a → Belongs n a (cursor_at n a b)
+  cursor-at-belongs b h = record { within = h; counts = refl }
 
   -- a start that is accepted gives the cursor of its block, which belongs
-  started-passes : (b : ℕ) (c : Cursor) → Starts n a b (Ready c) → sector_of_fault n a b ≡ 0
-  started-passes b c promise = sym (gives-number promise (λ said. said.0) (λ k. refl) refl)
+  module _ (b : ℕ) (c : Cursor) (promise : Starts n a b (Ok c)) where
+    pub started-at : c.block ≡ b
+    started-at = ap (λ (given : Cursor). given.block) promise.1
 
-  pub started-at : (b : ℕ) (c : Cursor) → Starts n a b (Ready c) → c.block ≡ b
-  started-at b c promise = rw (started-passes b c promise) at (ap (λ (said : ℕ × ℕ × ℕ × ℕ). said.2) promise.says)
-
-  pub started-belongs : (b : ℕ) (c : Cursor) → Starts n a b (Ready c) → Belongs n a c
-  started-belongs b c promise =
-      let passes : sector_of_fault n a b ≡ 0 = started-passes b c promise in
-      let count : c.skipped ≡ count_at n a b = rw passes at (ap (λ (said : ℕ × ℕ × ℕ × ℕ). said.3) promise.says) in
-      cursor-at-belongs b c (omega (arith, block-below n a b passes)) (started-at b c promise) count
+    pub started-belongs : Belongs n a c
+    started-belongs = rw promise.1 (cursor-at-belongs b (omega (arith, block-below n a b promise.0)))
 
   -- a check that is accepted hands its cursor back, which belongs
-  checked-passes : (c back : Cursor) → Checks n a c (Ready back) → check_fault n a c ≡ 0
-  checked-passes c back promise = sym (gives-number promise (λ said. said.0) (λ k. refl) refl)
+  pub checked-belongs : (c back : Cursor) → Checks n a c (Ok back) → Belongs n a c
+  checked-belongs c back promise = cursor-belongs n a c promise.0
 
-  pub checked-belongs : (c back : Cursor) → Checks n a c (Ready back) → Belongs n a c
-  checked-belongs c back promise = cursor-belongs n a c (checked-passes c back promise)
-
-  pub checked-same : (c back : Cursor) → Checks n a c (Ready back) → back ≡ c
-  checked-same c back promise =
-      let passes : check_fault n a c ≡ 0 = checked-passes c back promise in
-      let belongs : Belongs n a c = checked-belongs c back promise in
-      let block : back.block ≡ c.block = rw passes at (ap (λ (said : ℕ × ℕ × ℕ × ℕ). said.2) promise.says) in
-      let count : back.skipped ≡ c.skipped = rw passes at (ap (λ (said : ℕ × ℕ × ℕ × ℕ). said.3) promise.says) in
-      belongs-one n a (cursor-at-belongs c.block back belongs.within block (count ∙ belongs.counts)) belongs block
+  pub checked-same : (c back : Cursor) → Checks n a c (Ok back) → back ≡ c
+  checked-same c back promise = promise.1
 
   -- a step that is accepted
-  module _ (c next : Cursor) (s : ℕ) (promise : Steps n a c (SteppedAt s next)) where
-    stepped-passes : step_fault n a c ≡ 0
-    stepped-passes = sym (gives-number promise (λ said. said.0) (λ k. refl) refl)
-
+  module _ (c next : Cursor) (s : ℕ) (promise : Steps n a c (Ok s) next) where
     -- answers what a fresh translation answers
-    pub step-fresh : (fresh : Placed) → SectorOf n a c.block fresh → fresh ≡ At s
+    pub step-fresh : (fresh : Result ℕ Refusal) → SectorOf n a c.block fresh → fresh ≡ Ok s
     step-fresh fresh translation =
-        let here : s ≡ place (is_in a) n c.block = rw stepped-passes at (ap (λ (said : ℕ × ℕ × ℕ × ℕ). said.1) promise.says) in
-        translation.answers ∙ (answer-accepted _ _ _ (fresh-passes n a c stepped-passes) ∙ ap At (sym here))
+        gives-accepted (sector_of_fault n a c.block) (place (is_in a) n c.block) fresh (fresh-passes n a c promise.gives.0) translation
+        ∙ ap Ok (sym promise.gives.1)
 
     -- and hands on the cursor of the next block, which belongs
     pub step-onward : Onward n a c next
     step-onward =
-        let block : next.block ≡ suc c.block = rw stepped-passes at (ap (λ (said : ℕ × ℕ × ℕ × ℕ). said.2) promise.says) in
-        let count : next.skipped ≡ count_at n a (suc c.block) = rw stepped-passes at (ap (λ (said : ℕ × ℕ × ℕ × ℕ). said.3) promise.says) in
+        let left : next ≡ cursor_at n a (suc c.block) = fills-accepted promise promise.gives.0 in
         record {
-          follows = block;
-          belongs = cursor-at-belongs (suc c.block) next (omega (arith, step_block n a c stepped-passes)) block count;
+          follows = ap (λ (given : Cursor). given.block) left;
+          belongs = rw left (cursor-at-belongs (suc c.block) (omega (arith, step_block n a c promise.gives.0)));
         }
 
   -- where N and the list pass
   module _ (space : space_fault n a ≡ 0) where
     -- a job opens at any block
-    pub any-opens : (b : ℕ) → b < n - length a → (result : Job) → Starts n a b result → Opens result
+    pub any-opens : (b : ℕ) → b < n - length a → (result : Result Cursor Refusal) → Starts n a b result → Opens result
     any-opens b h result promise =
         let passes : sector_of_fault n a b ≡ 0 = rw (space, lt-leb (blocks n a) b h) in
-        record { cursor = cursor_at n a b; is = promise.answers ∙ answer-accepted _ _ _ passes }
+        record { cursor = cursor_at n a b; is = gives-accepted (sector_of_fault n a b) (cursor_at n a b) result passes promise }
 
     cursor-passes : (c : Cursor) → Belongs n a c → check_fault n a c ≡ 0
     cursor-passes c belongs = rw (space, (tells-belongs n a c).told belongs)
 
     -- a cursor of this list passes the check
-    pub belongs-checked : (c : Cursor) → Belongs n a c → (result : Job) → Checks n a c result → result ≡ Ready c
-    belongs-checked c belongs result promise = promise.answers ∙ answer-accepted _ _ _ (cursor-passes c belongs)
+    pub belongs-checked : (c : Cursor) → Belongs n a c → (result : Result Cursor Refusal) → Checks n a c result → result ≡ Ok c
+    belongs-checked c belongs result promise = gives-accepted (check_fault n a c) c result (cursor-passes c belongs) promise
 
     step-passes : (c : Cursor) → Belongs n a c → c.block < n - length a → step_fault n a c ≡ 0
     step-passes c belongs h = rw (cursor-passes c belongs, lt-leb (blocks n a) c.block h)
 
     -- it steps on until the last block
-    pub step-before-end : (c : Cursor) → Belongs n a c → c.block < n - length a → (result : Job) → Steps n a c result → GoesOn result
-    step-before-end c belongs h result promise =
+    pub step-before-end :
+        (c : Cursor) → Belongs n a c → c.block < n - length a → (result : Result ℕ Refusal) (after : Cursor) → Steps n a c result after → GoesOn result after
+    step-before-end c belongs h result after promise =
+        let passes : step_fault n a c ≡ 0 = step-passes c belongs h in
         record {
           sector = place (is_in a) n c.block;
           next = cursor_at n a (suc c.block);
-          is = promise.answers ∙ answer-accepted _ _ _ (step-passes c belongs h);
+          is = (gives-accepted (step_fault n a c) (place (is_in a) n c.block) result passes promise.gives, fills-accepted promise passes);
         }
 
     -- after the last block a step refuses 5 and the cursor stays
     pub step-at-end :
-        (c : Cursor) → Belongs n a c → c.block ≡ n - length a → (result : Job) → Steps n a c result → result ≡ NotReady no_such_block c
-    step-at-end c belongs end result promise =
-        let fault : step_fault n a c ≡ no_such_block = rw (cursor-passes c belongs, le-leb (blocks n a) c.block (omega (arith, end))) in
-        promise.answers ∙ (answer-refused (step_fault n a c) _ _ (λ none. absurd (omega (arith, fault, none))) ∙ ap (λ (k : ℕ). NotReady k c) fault)
+        (c : Cursor) → Belongs n a c → c.block ≡ n - length a → (result : Result ℕ Refusal) (after : Cursor) → Steps n a c result after →
+        (result ≡ Err NoSuchBlock) × (after ≡ c)
+    step-at-end c belongs end result after promise =
+        let fault : step_fault n a c ≡ no_such_block = rw (cursor-passes c belongs, le-leb (blocks n a) c.block (omega (arith, end))) in (
+          gives-refused (step_fault n a c) (place (is_in a) n c.block) result NoSuchBlock fault promise.gives,
+          fills-refused promise (λ none. absurd (omega (arith, fault, none))),
+        )
 
     -- a job that answered one sector more answered that of the block before
     one_more :
-        (b s : ℕ) (sectors : List ℕ) (last : Cursor) → ((result : Placed) → SectorOf n a b result → result ≡ At s) →
+        (b s : ℕ) (sectors : List ℕ) (last : Cursor) → ((result : Result ℕ Refusal) → SectorOf n a b result → result ≡ Ok s) →
         RunsFrom n a (suc b) sectors last → RunsFrom n a b (s ∷ sectors) last
     one_more b s sectors last first run =
         record {
@@ -130,7 +116,7 @@ module _ (n : ℕ) (a : List ℕ) where
         longer : suc b + length sectors ≡ b + length (s ∷ sectors)
         longer = omega arith
 
-        turns : (i : ℕ) → i < length (s ∷ sectors) → (result : Placed) → SectorOf n a (b + i) result → result ≡ At (get_or (s ∷ sectors) i 0)
+        turns : (i : ℕ) → i < length (s ∷ sectors) → (result : Result ℕ Refusal) → SectorOf n a (b + i) result → result ≡ Ok (get_or (s ∷ sectors) i 0)
         turns zero h result promise = let here : b + 0 ≡ b = omega arith in first result (rw here at promise)
         turns (suc i) h result promise =
             let here : b + suc i ≡ suc b + i = omega arith in
@@ -155,8 +141,8 @@ module _ (n : ℕ) (a : List ℕ) where
     pub steps_on : (k : ℕ) (c : Cursor) → Belongs n a c → c.block + k ≤ n - length a → StepsOn n a c k
     steps_on zero c belongs h = record { sectors = []; last = c; taken = refl; run = stays }
     steps_on (suc k) c belongs h =
-        let step : Steps n a c (SteppedAt (place (is_in a) n c.block) (cursor_at n a (suc c.block))) =
-        accepts (λ fault. refl) (step-passes c belongs (omega (arith, h))) refl in
+        let step : Steps n a c (Ok (place (is_in a) n c.block)) (cursor_at n a (suc c.block)) =
+        accepts (step-passes c belongs (omega (arith, h))) refl refl in
         let rest : StepsOn n a (cursor_at n a (suc c.block)) k = steps_on k (cursor_at n a (suc c.block)) (record { within = omega (arith, h); counts = refl }) (omega (arith, h)) in
         record {
           sectors = place (is_in a) n c.block ∷ rest.sectors;
@@ -181,11 +167,11 @@ module _ (n : ℕ) (a : List ℕ) where
       }
 
   -- the whole job
-  module _ (b : ℕ) (c : Cursor) (promise : Starts n a b (Ready c)) where
+  module _ (b : ℕ) (c : Cursor) (promise : Starts n a b (Ok c)) where
     pub whole-job : (sectors : List ℕ) (last : Cursor) → Run n a c sectors last → RunsFrom n a b sectors last
     whole-job sectors last =
-        runs-from (block-space n a b (started-passes b c promise)) b (started-at b c promise) (started-belongs b c promise)
+        runs-from (block-space n a b promise.0) b (started-at b c promise) (started-belongs b c promise)
 
     pub job-reaches : (k : ℕ) → b + k ≤ n - length a → StepsOn n a c k
     job-reaches k h =
-        steps_on (block-space n a b (started-passes b c promise)) k c (started-belongs b c promise) (omega (arith, h, started-at b c promise))
+        steps_on (block-space n a b promise.0) k c (started-belongs b c promise) (omega (arith, h, started-at b c promise))

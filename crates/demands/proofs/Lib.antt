@@ -24,6 +24,7 @@ pub mod ThereAndBack
 pub mod Examples
 pub mod Incident
 pub mod Determined
+pub mod Answered
 pub mod Boards
 pub mod WrongBoards
 pub mod WrongSizes

@@ -1,20 +1,20 @@
 -- A skipped drive in time. After a scan night a block lies where an old block of no lower number lay, so its sector never falls, and a good image of it stands on a lower sector than the block lies on or is its last write. Where a list shrinks, a block comes back to a sector that it had left, and to what it left there.
 -- Assumes nothing.
 use Prim.Native.Nat.{ℕ, ◌≤◌}
-use mathlib.Core.Path.{◌≡◌, refl, sym, ◌∙◌}
+use mathlib.Core.Path.{◌≡◌, refl, ◌∙◌}
 use mathlib.Core.Bool.{true≢false, Bool, true, false, not}
 use mathlib.Core.Logic.{inl, inr}
 use mathlib.Core.List.{List, [], ◌∷◌}
 use native.Mathlib.Omega.{arith}
 use lib.ListN.{length, take}
+use Rattle.std.specs.Prelude.{Ok, Err}
 use denote.Ref.{Bor}
 use borrow.Author.Tests.{lt-leb}
 use Rattle.paper.specs.Checks.{◌or_else◌, answer}
 use Rattle.paper.specs.Limits.{header_size, Size, data_size_fault}
-use Rattle.paper.specs.Refusals.{other_block, forced_error}
-use Rattle.paper.specs.declared.Placed.TheVariants.{At}
+use Rattle.paper.specs.declared.Refusal.TheVariants.{OtherBlock, ForcedError}
 use Rattle.paper.proofs.Cases.{by_lt, by_eq, by_fault}
-use Rattle.paper.proofs.Kept.{accepts, fills-accepts, gives-number}
+use Rattle.paper.proofs.Kept.{accepts}
 use Rattle.words.specs.Words.{Bytes}
 use Rattle.seek.specs.Count.{count_below}
 use Rattle.seek.specs.Lowest.{first_below, fault_below}
@@ -28,11 +28,9 @@ use Rattle.skip.proofs.Shown.{block-space, block-below}
 use Rattle.format.specs.Spaces.{list_of}
 use Rattle.format.specs.Nights.{ScanNight}
 use Rattle.format.specs.Promises.{Formats}
-use Rattle.format.specs.declared.Formatted.TheVariants.{Done}
 use Rattle.image.specs.Header.{at_home}
 use Rattle.image.specs.Image.{data_of, image_fault}
 use Rattle.image.specs.Promises.{Judge, Data}
-use Rattle.image.specs.declared.Verdict.TheVariants.{Good, Refused as NotGood}
 use Rattle.image.proofs.Lent.{part_at, part-some, data-refused}
 use Rattle.demands.specs.Demand1.{WrittenImage}
 use Rattle.demands.specs.Demand3.{Night, Way}
@@ -51,25 +49,25 @@ goods-most bad s = count-le (λ t. not (bad t)) s
 -- a block lies on sector s
 record Mapped (n : ℕ) (a : List ℕ) (s : ℕ) : Type 0 where
   block : ℕ
-  lies-on : SectorOf n a block (At s)
+  lies-on : SectorOf n a block (Ok s)
 
 -- block b is answered, on no later sector than s
 record Before (n : ℕ) (a : List ℕ) (b s : ℕ) : Type 0 where
   sector : ℕ
-  lies-on : SectorOf n a b (At sector)
+  lies-on : SectorOf n a b (Ok sector)
   no-later : sector ≤ s
 
 module _ (n : ℕ) (a : List ℕ) (b s : ℕ) where
   -- a call answers one sector
-  one-sector : (t : ℕ) → SectorOf n a b (At s) → SectorOf n a b (At t) → s ≡ t
+  one-sector : (t : ℕ) → SectorOf n a b (Ok s) → SectorOf n a b (Ok t) → s ≡ t
   one-sector t first second = lies-one-unit (is_in a) n (answered-lies n a b s first) (answered-lies n a b t second)
 
   -- a block of no higher number than an answered one is answered too, and lies no later
-  answered-before : (c : ℕ) → b ≤ c → SectorOf n a c (At s) → Before n a b s
+  answered-before : (c : ℕ) → b ≤ c → SectorOf n a c (Ok s) → Before n a b s
   answered-before c lower answered =
-      let passes : sector_of_fault n a c ≡ 0 = sym (gives-number answered (λ said. said.0) (λ k. refl) refl) in
-      let its : SectorOf n a b (At (place (is_in a) n b)) =
-      accepts (λ k. refl) (rw (block-space n a c passes, lt-leb (blocks n a) b (omega (arith, block-below n a c passes)))) refl in
+      let passes : sector_of_fault n a c ≡ 0 = answered.0 in
+      let its : SectorOf n a b (Ok (place (is_in a) n b)) =
+      (rw (block-space n a c passes, lt-leb (blocks n a) b (omega (arith, block-below n a c passes))), refl) in
       let here : Lies (is_in a) n b (place (is_in a) n b) = answered-lies n a b (place (is_in a) n b) its in
       let there : Lies (is_in a) n c s = answered-lies n a c s answered in
       record {
@@ -84,7 +82,7 @@ module _ (n : ℕ) (a : List ℕ) (b s : ℕ) where
 -- a scan night: a new block lies where an old block of no lower number lay, so the old block of its own number lay no later
 night-before :
     {n : ℕ} {p g : List ℕ} {space option : ℕ} {d g' new : List ℕ} {next : ℕ} → Night n p g space option d g' new next →
-    (b s : ℕ) → SectorOf n (list_of next p g') b (At s) → Before n (list_of space p g) b s
+    (b s : ℕ) → SectorOf n (list_of next p g') b (Ok s) → Before n (list_of space p g) b s
 night-before {n} {p} {g} {space} {option} {d} {g'} {new} {next} night b s answered =
     let does = demand3.one-night n p g space option d g' new next night in
     let way : Way n (list_of space p g) d b s = does.came b s (rw does.in_use at answered) in
@@ -105,7 +103,7 @@ night-mapped {n} {p} {g} {space} {option} {d} {g'} {new} {next} night s mapped =
 its-night :
     {n : ℕ} {p g : List ℕ} {space option : ℕ} → ScanNight space option →
     (d grown list : List ℕ) (grown_long list_long next : ℕ) (grown_after list_after : List ℕ) →
-    Formats n p g space option d grown list (Done grown_long list_long next) grown_after list_after →
+    Formats n p g space option d grown list (Ok (record { grown = grown_long; list = list_long; space = next })) grown_after list_after →
     Night n p g space option d (take grown_long grown_after) (take list_long list_after) next
 its-night pair d grown list grown_long list_long next grown_after list_after accepted =
     record { pair = pair; grown = grown; list = list; grown_long = grown_long; list_long = list_long; grown_after = grown_after; list_after = list_after; accepted = accepted; answers-grown = refl; answers-list = refl }
@@ -129,18 +127,18 @@ record Kept (size : ℕ) (ledger : Ledger) (image : List ℕ) (b s now : ℕ) : 
   is_last : s ≡ now → Last size b image ledger
 
 -- a good verdict on an image that was written is on its block
-good-block : (size b c : ℕ) (bytes image : List ℕ) (forced : Bool) → WrittenImage size c at_home bytes forced image → Judge size image b at_home Good → b ≡ c
+good-block : (size b c : ℕ) (bytes image : List ℕ) (forced : Bool) → WrittenImage size c at_home bytes forced image → Judge size image b at_home (Ok tt) → b ≡ c
 good-block size b c bytes image forced left good =
     by_eq b c (λ same. same)
     (λ other.
-    let clash : Good ≡ NotGood other_block = each_again.written-other-judges size c at_home bytes forced image left b at_home (λ same. other same.0) Good good in
+    let clash : Ok tt ≡ Err OtherBlock = each_again.written-other-judges size c at_home bytes forced image left b at_home (λ same. other same.0) (Ok tt) good in
     let z : ◌≡◌ {A = ℕ} 0 1 = cc in
     absurd (omega arith))
 
 -- and the image was not forced
-good-mark : (size c : ℕ) (bytes image : List ℕ) (forced : Bool) → WrittenImage size c at_home bytes forced image → Judge size image c at_home Good → forced ≡ false
+good-mark : (size c : ℕ) (bytes image : List ℕ) (forced : Bool) → WrittenImage size c at_home bytes forced image → Judge size image c at_home (Ok tt) → forced ≡ false
 good-mark size c bytes image true left good =
-    let clash : Good ≡ NotGood forced_error = each_again.written-forced-judges size c at_home bytes image left Good good in
+    let clash : Ok tt ≡ Err ForcedError = each_again.written-forced-judges size c at_home bytes image left (Ok tt) good in
     let z : ◌≡◌ {A = ℕ} 0 1 = cc in
     absurd (omega arith)
 good-mark size c bytes image false left good = refl
@@ -148,8 +146,8 @@ good-mark size c bytes image false left good = refl
 -- a write keeps it: the image on its sector is of the last write now, and the written block lies on no other sector
 write_keeps :
     {size n : ℕ} {a : List ℕ} {c : ℕ} {bytes : List ℕ} {forced : Bool} {held after : Contents} → WritesSkipped size n a c bytes forced held after →
-    {ledger : Ledger} (s b now : ℕ) → Judge size (after s) b at_home Good → SectorOf n a b (At now) →
-    (Judge size (held s) b at_home Good → Kept size ledger (held s) b s now) → Kept size (record { block = c; bytes = bytes; forced = forced } ∷ ledger) (after s) b s now
+    {ledger : Ledger} (s b now : ℕ) → Judge size (after s) b at_home (Ok tt) → SectorOf n a b (Ok now) →
+    (Judge size (held s) b at_home (Ok tt) → Kept size ledger (held s) b s now) → Kept size (record { block = c; bytes = bytes; forced = forced } ∷ ledger) (after s) b s now
 write_keeps {size} {n} {a} {c} {bytes} {forced} {held} {after} writes {ledger} s b now good answered given =
     by_eq s writes.sector
     (λ same.
@@ -175,7 +173,7 @@ module _ {size n : ℕ} {p g₀ : List ℕ} {space₀ : ℕ} {held₀ : Contents
   -- a block that is answered at the end of a life was answered at its beginning, on no later sector
   life-before :
       {ledger : Ledger} {g : List ℕ} {space : ℕ} {held : Contents} → Life ScanNight size n p g₀ space₀ held₀ ledger g space held →
-      (b s : ℕ) → SectorOf n (list_of space p g) b (At s) → Before n (list_of space₀ p g₀) b s
+      (b s : ℕ) → SectorOf n (list_of space p g) b (Ok s) → Before n (list_of space₀ p g₀) b s
   life-before begun b s answered = record { sector = s; lies-on = answered; no-later = omega arith }
   life-before (wrote life c bytes forced after writes) b s answered = life-before life b s answered
   life-before (formatted life option pair d grown list grown_long list_long next grown_after list_after accepted) b s answered =
@@ -188,7 +186,7 @@ module _ {size n : ℕ} {p g₀ : List ℕ} {space₀ : ℕ} {held₀ : Contents
     -- every good image on a sector that a block lies on is kept so through the life
     life-keeps :
         {ledger : Ledger} {g : List ℕ} {space : ℕ} {held : Contents} → Life ScanNight size n p g₀ space₀ held₀ ledger g space held →
-        (s b now : ℕ) → Mapped n (list_of space p g) s → Judge size (held s) b at_home Good → SectorOf n (list_of space p g) b (At now) → Kept size ledger (held s) b s now
+        (s b now : ℕ) → Mapped n (list_of space p g) s → Judge size (held s) b at_home (Ok tt) → SectorOf n (list_of space p g) b (Ok now) → Kept size ledger (held s) b s now
     life-keeps begun s b now mapped good answered = absurd (none mapped.block s mapped.lies-on b good)
     life-keeps (wrote life c bytes forced after writes) s b now mapped good answered =
         write_keeps writes s b now good answered (λ before. life-keeps life s b now mapped before answered)
@@ -201,33 +199,33 @@ module _ {size n : ℕ} {p g₀ : List ℕ} {space₀ : ℕ} {held₀ : Contents
     -- what is handed back of the sector that a block lies on
     last-write :
         {ledger : Ledger} {g : List ℕ} {space : ℕ} {held : Contents} → Life ScanNight size n p g₀ space₀ held₀ ledger g space held →
-        (b s : ℕ) → SectorOf n (list_of space p g) b (At s) →
+        (b s : ℕ) → SectorOf n (list_of space p g) b (Ok s) →
         (image part : Bor (List ℕ)) → image.now ≡ held s → Data size image b at_home part → (part.now ≡ [] → ⊥) → LastWritten b part.now false ledger
     last-write life b s answered image part is lent some =
         by_fault (data_size_fault size or_else image_fault size image.now b at_home)
         (λ passes.
-        let good : Judge size image.now b at_home Good = accepts (λ k. refl) passes refl in
+        let good : Judge size image.now b at_home (Ok tt) = passes in
         last-handed size b image part is lent ((life-keeps life s b s (record { block = b; lies-on = answered }) (rw is at good) answered).is_last refl))
         (λ refused. absurd (some (data-refused size image b at_home part lent refused).holds))
 
 -- N 10, P empty: where block 5 lies while G is empty, and once sector 5 is in G
-older-sector : SectorOf 10 [] 5 (At 5)
+older-sector : SectorOf 10 [] 5 (Ok 5)
 unfolding count_below first_below fault_below is_in goods_before place
-older-sector = accepts (λ k. refl) refl refl
+older-sector = (refl, refl)
 
-newer-sector : SectorOf 10 (5 ∷ []) 5 (At 6)
+newer-sector : SectorOf 10 (5 ∷ []) 5 (Ok 6)
 unfolding count_below first_below fault_below is_in goods_before place
-newer-sector = accepts (λ k. refl) refl refl
+newer-sector = (refl, refl)
 
 -- option 3 takes block 5, that is sector 5, into G
-scans : Formats 10 [] [] 2 3 (5 ∷ []) (0 ∷ []) (0 ∷ []) (Done 1 1 2) (5 ∷ []) (5 ∷ [])
+scans : Formats 10 [] [] 2 3 (5 ∷ []) (0 ∷ []) (0 ∷ []) (Ok (record { grown = 1; list = 1; space = 2 })) (5 ∷ []) (5 ∷ [])
 unfolding count_below first_below fault_below is_in into union goods_before place
-scans = fills-accepts (λ k. refl) refl refl refl
+scans = accepts refl refl refl
 
 -- and option 4 clears G
-clears : Formats 10 [] (5 ∷ []) 2 4 [] [] [] (Done 0 0 1) [] []
+clears : Formats 10 [] (5 ∷ []) 2 4 [] [] [] (Ok (record { grown = 0; list = 0; space = 1 })) [] []
 unfolding fault_below
-clears = fills-accepts (λ k. refl) refl refl refl
+clears = accepts refl refl refl
 
 module _ (size : ℕ) (sized : Size size) where
   -- the image of block 5

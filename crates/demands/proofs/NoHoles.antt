@@ -1,10 +1,11 @@
 -- Q-7: a table passes exactly where each search stops right there, the look-up finds what it found, and neither a first table nor a replacement leaves a hole.
 -- Assumes nothing.
 use Prim.Native.Nat.{ℕ, ◌<◌}
-use mathlib.Core.Path.{◌≡◌, sym, ◌∙◌, ap}
+use mathlib.Core.Path.{◌≡◌, sym, ◌∙◌}
 use mathlib.Core.Bool.{true, true≢false}
 use mathlib.Core.List.{List}
 use lib.ListN.{length, get_or, get_or-eq_default}
+use Rattle.std.specs.Prelude.{Ok}
 use Rattle.paper.specs.Checks.{pick}
 use Rattle.paper.proofs.Cases.{by_bool, by_lt}
 use Rattle.seek.specs.Search.{Before}
@@ -24,7 +25,6 @@ use Rattle.table.proofs.Stops.{stop_is, stop-none, obeys-stops, stops-obeys}
 use Rattle.table.proofs.Exact.{sound-laid, sound-obeys}
 use Rattle.replacing.specs.Replacing.{spare_for}
 use Rattle.replacing.proofs.Moves.{lands-later, lands-off-primary}
-use Rattle.spares.specs.declared.Replaced.TheVariants.{Place}
 use Rattle.spares.specs.Promises.{Replacement}
 use Rattle.spares.proofs.Accepted.{after-sound, replace-spare}
 use Rattle.demands.specs.NoHoles.{NoHoles}
@@ -67,9 +67,9 @@ look_up shape r t b sound below =
         (λ beyond. absurd (true≢false (sym named ∙ rw (get_or-eq_default t 0 beyond))))
 
 -- where a second replacement lands
-module _ (shape : Shape) (r : ℕ) (t scratch : List ℕ) (b p q : ℕ) (after : List ℕ) (promise : Replacement shape r t scratch b (Place q) after) (h : p < length t) (named : Names (get_or t p 0) b) where
+module _ (shape : Shape) (r : ℕ) (t scratch : List ℕ) (b p q : ℕ) (after : List ℕ) (promise : Replacement shape r t scratch b (Ok q) after) (h : p < length t) (named : Names (get_or t p 0) b) where
   place_is : q ≡ spare_for (drive_of shape r) t b
-  place_is = rw (taken-passes shape r t scratch b q after promise) at (ap (λ (said : ℕ × ℕ). said.1) promise.says)
+  place_is = promise.gives.1
 
   sound : Sound shape r t
   sound = taken-sound shape r t scratch b q after promise

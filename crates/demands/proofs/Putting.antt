@@ -11,7 +11,7 @@ use borrow.Author.Tests.{eq-eqb, ne_eqb}
 use Rattle.paper.specs.Checks.{pick}
 use Rattle.paper.specs.Limits.{image_extra, Size}
 use Rattle.paper.proofs.Cases.{by_bool}
-use Rattle.paper.proofs.Kept.{fills-accepts}
+use Rattle.paper.proofs.Kept.{accepts}
 use Rattle.paper.proofs.Rows.{data-size-passes}
 use Rattle.words.specs.Coded.{code_unit, word_of}
 use Rattle.words.specs.Words.{Bytes}
@@ -43,7 +43,7 @@ module _ (size : ℕ) (sized : Size size) (block code : ℕ) (few : block < code
         room = zeros;
         long = size + image_extra;
         after = imaged block code bytes forced zeros;
-        wrote = fills-accepts (λ k. refl) (rw (data-size-passes sized) passes) refl refl;
+        wrote = accepts (rw (data-size-passes sized) passes) refl refl;
         is = refl;
       }
 

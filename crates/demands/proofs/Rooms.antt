@@ -1,24 +1,24 @@
 -- What an accepted call writes: the answered length is that of the list or of the bytes, these stand at the front of the room, and what stood behind them stays. (That a refused call leaves the whole room is `EachKeeps`.)
 -- Assumes nothing.
-use Rattle.paper.proofs.Kept.{gives-number, fills-gives}
+use Rattle.paper.proofs.Kept.{fills-accepted}
+use Rattle.std.specs.Prelude.{Ok}
 use Prim.Native.Nat.{ℕ, ◌+◌}
-use mathlib.Core.Path.{◌≡◌, sym, ap, refl}
+use mathlib.Core.Path.{◌≡◌, ap}
 use mathlib.Core.Bool.{Bool}
 use mathlib.Core.List.{List}
 use lib.ListN.{length, take}
 use Rattle.paper.specs.Limits.{image_extra}
-use Rattle.paper.specs.declared.Written.TheVariants.{Length}
 use Rattle.paper.specs.Promise.{written}
 use Rattle.paper.proofs.Writing.{written-first, written-rest}
 use Rattle.page.specs.Layout.{kind_of, units_of, entries_of}
-use Rattle.page.specs.Pages.{read_fault, write_fault, page_bytes}
+use Rattle.page.specs.Pages.{page_bytes}
 use Rattle.page.specs.Promises.{Reads, Writes}
-use Rattle.page.specs.declared.Paged.TheVariants.{Page}
 use Rattle.page.proofs.Bytes.{length-page_bytes}
+use Rattle.page.specs.declared.Paged.{Paged}
 use Rattle.format.specs.Spaces.{format_fault, new_grown, new_list, new_space}
 use Rattle.format.proofs.Held.{grown-holds, list-holds}
 use Rattle.format.specs.Promises.{Formats}
-use Rattle.format.specs.declared.Formatted.TheVariants.{Done}
+use Rattle.format.specs.declared.Formatted.{Formatted}
 use Rattle.shape.specs.declared.Shape.{Shape}
 use Rattle.layout.specs.Layouts.{drive_of}
 use Rattle.first_table.specs.Tables.{first_table, first_table_fault, IsFirstTable}
@@ -41,63 +41,63 @@ handed list before long after is holds =
 
 -- `page::read` hands back the entries of the page, beside its kind and N
 pub page-read-hands :
-    (page room : List ℕ) (kind n entries : ℕ) (after : List ℕ) → Reads page room (Page kind n entries) after →
+    (page room : List ℕ) (kind n entries : ℕ) (after : List ℕ) → Reads page room (Ok (record { kind = kind; n = n; entries = entries })) after →
     (kind ≡ kind_of page) × ((n ≡ units_of page) × Handed (entries_of page) room entries after)
-page-read-hands page room kind n entries after promise =
-    let passes : read_fault page room ≡ 0 = sym (gives-number (fills-gives promise) (λ said. said.0) (λ k. refl) refl) in (
-      rw passes at (ap (λ (said : ℕ × ℕ × ℕ × ℕ). said.1) promise.says),
-      (
-        rw passes at (ap (λ (said : ℕ × ℕ × ℕ × ℕ). said.2) promise.says),
-        handed (entries_of page) room entries after (rw passes at (ap (λ (said : ℕ × ℕ × ℕ × ℕ). said.3) promise.says)) (rw passes at promise.holds),
-      ),
-    )
+page-read-hands page room kind n entries after promise = (
+  ap (λ (paged : Paged). paged.kind) promise.gives.1,
+  (
+    ap (λ (paged : Paged). paged.n) promise.gives.1,
+    handed (entries_of page) room entries after (ap (λ (paged : Paged). paged.entries) promise.gives.1) (fills-accepted promise promise.gives.0),
+  ),
+)
 
 -- `page::write` hands back the bytes of the page
 pub page-write-hands :
-    (n kind : ℕ) (list room : List ℕ) (long : ℕ) (after : List ℕ) → Writes n kind list room (Length long) after → Handed (page_bytes n kind list) room long after
+    (n kind : ℕ) (list room : List ℕ) (long : ℕ) (after : List ℕ) → Writes n kind list room (Ok long) after → Handed (page_bytes n kind list) room long after
 page-write-hands n kind list room long after promise =
-    let passes : write_fault n kind list room ≡ 0 = sym (gives-number (fills-gives promise) (λ said. said.0) (λ k. refl) refl) in
-    handed (page_bytes n kind list) room long after
-    (rw (length-page_bytes n kind list) (rw passes at (ap (λ (said : ℕ × ℕ). said.1) promise.says)))
-    (rw passes at promise.holds)
+    handed (page_bytes n kind list) room long after (rw (length-page_bytes n kind list) promise.gives.1) (fills-accepted promise promise.gives.0)
 
 -- Format hands back the new grown list and the list of the new space, and answers that space
 pub format-hands :
     (n : ℕ) (p g : List ℕ) (space option : ℕ) (d grown list : List ℕ) (grown_long list_long space_after : ℕ) (grown_after list_after : List ℕ) →
-    Formats n p g space option d grown list (Done grown_long list_long space_after) grown_after list_after →
+    Formats n p g space option d grown list (Ok (record { grown = grown_long; list = list_long; space = space_after })) grown_after list_after →
     Handed (new_grown n p g space option d) grown grown_long grown_after
     × (Handed (new_list n p g space option d) list list_long list_after × (space_after ≡ new_space space option))
 format-hands n p g space option d grown list grown_long list_long space_after grown_after list_after promise =
-    let passes : format_fault n p g space option d grown list ≡ 0 = sym (gives-number (fills-gives promise) (λ said. said.0) (λ k. refl) refl) in (
-      handed (new_grown n p g space option d) grown grown_long grown_after (rw passes at (ap (λ (said : ℕ × ℕ × ℕ × ℕ). said.1) promise.says)) (rw passes at (grown-holds promise)),
+    let passes : format_fault n p g space option d grown list ≡ 0 = promise.gives.0 in (
+      handed (new_grown n p g space option d) grown grown_long grown_after
+          (ap (λ (formatted : Formatted). formatted.grown) promise.gives.1)
+          (rw passes at (grown-holds promise)),
       (
-        handed (new_list n p g space option d) list list_long list_after (rw passes at (ap (λ (said : ℕ × ℕ × ℕ × ℕ). said.2) promise.says)) (rw passes at (list-holds promise)),
-        rw passes at (ap (λ (said : ℕ × ℕ × ℕ × ℕ). said.3) promise.says),
+        handed (new_list n p g space option d) list list_long list_after
+            (ap (λ (formatted : Formatted). formatted.list) promise.gives.1)
+            (rw passes at (list-holds promise)),
+        ap (λ (formatted : Formatted). formatted.space) promise.gives.1,
       ),
     )
 
 -- `spares::first_table` hands back the first table
 pub first-table-hands :
-    (shape : Shape) (r : ℕ) (list room : List ℕ) (long : ℕ) (after : List ℕ) → FirstTable shape r list room (Length long) after →
+    (shape : Shape) (r : ℕ) (list room : List ℕ) (long : ℕ) (after : List ℕ) → FirstTable shape r list room (Ok long) after →
     Handed (first_table (drive_of shape r) list) room long after × IsFirstTable (drive_of shape r) list (take long after)
 first-table-hands shape r list room long after promise =
-    let passes : first_table_fault shape r list room ≡ 0 = sym (gives-number (fills-gives promise) (λ said. said.0) (λ k. refl) refl) in
+    let passes : first_table_fault shape r list room ≡ 0 = promise.gives.0 in
     let starts : IsFirstTable (drive_of shape r) list (first_table (drive_of shape r) list) = first_made shape r list room passes in
     let hands : Handed (first_table (drive_of shape r) list) room long after =
     handed (first_table (drive_of shape r) list) room long after
-    (rw (first-obeys shape r list room passes).long (rw passes at (ap (λ (said : ℕ × ℕ). said.1) promise.says)))
-    (rw passes at promise.holds) in
+    (rw (first-obeys shape r list room passes).long promise.gives.1)
+    (fills-accepted promise passes) in
     (hands, rw hands.first starts)
 
 -- `image::write` hands back the bytes of the image
 pub image-write-hands :
-    (size block code : ℕ) (bytes : List ℕ) (forced : Bool) (room : List ℕ) (long : ℕ) (after : List ℕ) → Write size block code bytes forced room (Length long) after →
+    (size block code : ℕ) (bytes : List ℕ) (forced : Bool) (room : List ℕ) (long : ℕ) (after : List ℕ) → Write size block code bytes forced room (Ok long) after →
     (long ≡ size + image_extra) × Handed (image_of (word_of code block) bytes forced) room long after
 image-write-hands size block code bytes forced room long after wrote =
-    let promise : WriteSized size block code bytes forced room (Length long) after =
+    let promise : WriteSized size block code bytes forced room (Ok long) after =
     rw (write-sized (written-size size block code bytes forced room long after wrote) block code bytes forced room) at wrote in
-    let passes : image_write_fault size block code bytes room ≡ 0 = sym (gives-number (fills-gives promise) (λ said. said.0) (λ k. refl) refl) in
-    let is : long ≡ size + image_extra = rw passes at (ap (λ (said : ℕ × ℕ). said.1) promise.says) in (
+    let passes : image_write_fault size block code bytes room ≡ 0 = promise.gives.0 in
+    let is : long ≡ size + image_extra = promise.gives.1 in (
       is,
       record {
         long_as = rw (length-image (word_of code block) bytes forced, (write-shows size block code bytes room passes).long) is;

@@ -6,6 +6,7 @@ use mathlib.Core.Bool.{Bool}
 use mathlib.Core.List.{List, ◌∷◌}
 use native.Mathlib.Omega.{arith}
 use lib.ListN.{length, get_or}
+use Rattle.std.specs.Prelude.{Ok}
 use Rattle.paper.specs.Limits.{Size}
 use Rattle.paper.proofs.Cases.{by_bool, by_eq}
 use Rattle.words.specs.Words.{Bytes}
@@ -19,7 +20,6 @@ use Rattle.table.proofs.Lookups.{tells-replaced, lies-apart}
 use Rattle.table.proofs.Exact.{sound-laid, sound-obeys}
 use Rattle.replacing.specs.Replacing.{Moved}
 use Rattle.replacing.proofs.Moves.{allocated-not-free}
-use Rattle.spares.specs.declared.Replaced.TheVariants.{Place}
 use Rattle.spares.specs.Promises.{Replacement}
 use Rattle.image.specs.Image.{image_of}
 use Rattle.image.proofs.Images.{length-image}
@@ -86,7 +86,7 @@ module _ (size : ℕ) (shape : Shape) (r : ℕ) where
         (writes.puts.others-stand (lies_on (drive_of shape r) t a) (λ same. other (lies-apart (sound-laid standing.sound) t a b (same ∙ sector-is))) ∙ standing.stands)
 
   -- a replacement leaves the header of every other block as it was
-  module _ (t scratch : List ℕ) (b q : ℕ) (after : List ℕ) (step : Replacement shape r t scratch b (Place q) after) where
+  module _ (t scratch : List ℕ) (b q : ℕ) (after : List ℕ) (step : Replacement shape r t scratch b (Ok q) after) where
     moves : Moved (drive_of shape r) t b q after
     moves = replacement-moves shape r t scratch b q after step
 
@@ -144,8 +144,8 @@ module _ (size : ℕ) (shape : Shape) (r : ℕ) where
     run-keeps ledger t held (replaced {ledger = before} {t = table} {held = old} run scratch b q moved step bytes forced after writes) =
         write_keeps before t b bytes forced old held writes (λ a kept bad other last. moved-stands size shape r table scratch b q moved step old a kept bad other (run-keeps before table old run a kept bad last))
     run-keeps ledger t held (read run asked-size asked asked-r scratch b home spare verdict judged) = run-keeps ledger t held run
-    run-keeps ledger t held (not_written run asked-size b code bytes forced room fault after refused) = run-keeps ledger t held run
-    run-keeps ledger t held (not-replaced {t = table} run asked asked-r scratch b fault after refused) = rw (step-leaves asked asked-r table scratch b after fault refused) (run-keeps ledger table held run)
+    run-keeps ledger t held (not_written run asked-size b code bytes forced room refusal after refused) = run-keeps ledger t held run
+    run-keeps ledger t held (not-replaced {t = table} run asked asked-r scratch b refusal after refused) = rw (step-leaves asked asked-r table scratch b after refusal refused) (run-keeps ledger table held run)
 
     pub run-whole : Whole size held₀ → (ledger : Ledger) (t : List ℕ) (held : Contents) → Run size shape r t₀ held₀ ledger t held → Whole size held
     run-whole whole ledger t held begun = whole
@@ -154,5 +154,5 @@ module _ (size : ℕ) (shape : Shape) (r : ℕ) where
     run-whole whole ledger t held (replaced {ledger = before} {t = table} {held = old} run scratch b q moved step bytes forced after writes) =
         written-whole size shape r t b bytes forced old held writes (run-whole whole before table old run)
     run-whole whole ledger t held (read run asked-size asked asked-r scratch b home spare verdict judged) = run-whole whole ledger t held run
-    run-whole whole ledger t held (not_written run asked-size b code bytes forced room fault after refused) = run-whole whole ledger t held run
-    run-whole whole ledger t held (not-replaced {t = table} run asked asked-r scratch b fault after refused) = run-whole whole ledger table held run
+    run-whole whole ledger t held (not_written run asked-size b code bytes forced room refusal after refused) = run-whole whole ledger t held run
+    run-whole whole ledger t held (not-replaced {t = table} run asked asked-r scratch b refusal after refused) = run-whole whole ledger table held run

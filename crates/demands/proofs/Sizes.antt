@@ -1,7 +1,8 @@
 -- What Q-10 asks holds: what has the one size is refused 14 at the other, and the mode is the size of the first copy that says one.
 -- Assumes nothing.
 use Prim.Native.Nat.{ℕ, ◌+◌, ◌≤◌}
-use mathlib.Core.Path.{◌≡◌, refl, sym, ◌∙◌, ap}
+use Rattle.std.specs.Prelude.{Ok, Err}
+use mathlib.Core.Path.{◌≡◌, refl, sym, ◌∙◌}
 use mathlib.Core.Logic.{inl, inr, ⊎_elim}
 use mathlib.Core.List.{List}
 use native.Mathlib.Omega.{arith}
@@ -11,15 +12,15 @@ use Rattle.paper.specs.Exactly.{When, earlier, later}
 use Rattle.paper.specs.Limits.{image_extra, sectors_least, Size, data_size_fault}
 use Rattle.paper.specs.Refusals.{out_of_range, wrong_length, no_mode}
 use Rattle.paper.proofs.Cases.{by_eq, by_fault}
-use Rattle.paper.proofs.Kept.{gives-number, gives-accepted, refuses, accepts}
+use Rattle.paper.proofs.Kept.{gives-refused, passes-one, fills-refused}
 use Rattle.paper.proofs.Rows.{data-size-passes, size_above}
+use Rattle.paper.specs.declared.Refusal.TheVariants.{OutOfRange, WrongLength, NoMode}
 use Rattle.shape.specs.declared.Shape.{Shape}
 use Rattle.table.specs.Rules.{BlockJudged}
 use Rattle.table.proofs.Exact.{block-passes, block-exactly}
 use Rattle.image.specs.Image.{header_fault, image_fault, write_fault}
 use Rattle.image.proofs.Exact.{header-exactly, judge-exactly, write-exactly}
 use Rattle.image.proofs.Lent.{data-refused}
-use Rattle.mode.specs.declared.Mode.TheVariants.{Of, Refused as NoMode}
 use Rattle.mode.specs.Modes.{FirstSays, mode_of, mode_fault}
 use Rattle.mode.specs.Promises.{Finds}
 use Rattle.mode.proofs.Exact.{mode-apart, mode-none, mode-some, found-says, none-modes, mode-first, first-mode}
@@ -83,12 +84,12 @@ module _ {size other : ℕ} {shape : Shape} {r : ℕ} {t scratch : List ℕ} {b 
 
 -- the mode that is answered
 module _ (images : List ℕ) (apart : ℕ) where
-  module _ {size : ℕ} (found : Finds images apart (Of size)) where
+  module _ {size : ℕ} (found : Finds images apart (Ok size)) where
     passes : mode_fault images apart ≡ 0
-    passes = sym (gives-number found (λ said. said.0) (λ k. refl) refl)
+    passes = found.0
 
     is-mode : size ≡ mode_of images apart
-    is-mode = ap (λ (said : ℕ × ℕ). said.1) (gives-accepted found passes)
+    is-mode = found.1
 
     some-apart : apart ≡ 0 → ⊥
     some-apart none = let refused : out_of_range ≡ 0 = sym (mode-apart images apart none) ∙ passes in omega arith
@@ -99,50 +100,45 @@ module _ (images : List ℕ) (apart : ℕ) where
     says_first : FirstSays images apart size
     says_first = rw is-mode (mode-first images apart some-apart some-mode)
 
-  -- the number of a mode that is refused is the chain's
-  refused-by : {k : ℕ} → Finds images apart (NoMode k) → mode_fault images apart ≡ k
-  refused-by refused = sym (gives-number refused (λ said. said.0) (λ k. refl) refl)
-
-  module _ (refused : Finds images apart (NoMode no_mode)) where
+  module _ (refused : Finds images apart (Err NoMode)) where
     apart_some : apart ≡ 0 → ⊥
-    apart_some none = let one : out_of_range ≡ no_mode = sym (mode-apart images apart none) ∙ refused-by refused in omega arith
+    apart_some none = let one : out_of_range ≡ no_mode = sym (mode-apart images apart none) ∙ refused in omega arith
 
     no-mode : mode_of images apart ≡ 0
     no-mode =
         by_fault (mode_of images apart) (λ none. none)
-        (λ found. let given : ◌≡◌ {A = ℕ} 0 no_mode = sym (mode-some images apart apart_some found) ∙ refused-by refused in absurd (omega arith))
+        (λ found. let given : ◌≡◌ {A = ℕ} 0 no_mode = sym (mode-some images apart apart_some found) ∙ refused in absurd (omega arith))
 
-  apart_none : Finds images apart (NoMode out_of_range) → apart ≡ 0
+  apart_none : Finds images apart (Err OutOfRange) → apart ≡ 0
   apart_none refused =
       by_eq apart 0 (λ none. none)
       (λ some.
       by_fault (mode_of images apart)
-      (λ none. let given : no_mode ≡ out_of_range = sym (mode-none images apart some none) ∙ refused-by refused in absurd (omega arith))
-      (λ found. let given : ◌≡◌ {A = ℕ} 0 out_of_range = sym (mode-some images apart some found) ∙ refused-by refused in absurd (omega arith)))
+      (λ none. let given : no_mode ≡ out_of_range = sym (mode-none images apart some none) ∙ refused in absurd (omega arith))
+      (λ found. let given : ◌≡◌ {A = ℕ} 0 out_of_range = sym (mode-some images apart some found) ∙ refused in absurd (omega arith)))
 
 pub sizes : Sizes
 sizes =
     record {
       other-data = λ size other block code bytes forced room sizes long result after promise.
           let is = given-14 sizes (write-14 sizes block code bytes room long) in
-          (promise.answers ∙ rw is, promise.holds ∙ rw is);
-      other-header = λ size other image sizes long result promise. promise.answers ∙ rw (given-14 sizes (header-14 sizes image long));
-      other-image = λ size other image block code sizes long result promise. promise.answers ∙ rw (given-14 sizes (image-14 sizes image block code long));
+          (gives-refused _ _ result WrongLength is promise.gives, fills-refused promise (λ none. fourteen (sym is ∙ none)));
+      other-header = λ size other image sizes long result promise. gives-refused _ _ result WrongLength (given-14 sizes (header-14 sizes image long)) promise;
+      other-image = λ size other image block code sizes long result promise. passes-one _ result (Err WrongLength) promise (given-14 sizes (image-14 sizes image block code long));
       other-image-gives-none = λ size other image block code sizes long part promise.
           (data-refused size image block code part promise (λ none. fourteen (sym (given-14 sizes (image-14 sizes image.now block code long)) ∙ none))).holds;
-      other-track = λ size other shape r t scratch b home spare lent result promise. promise.answers ∙ rw (given-14 lent.sizes (read-14 lent));
-      other-track-spot = λ size other shape r t scratch b home spare lent result promise. promise.answers ∙ rw (given-14 lent.sizes (read-14 lent));
+      other-track = λ size other shape r t scratch b home spare lent result promise. passes-one _ result (Err WrongLength) promise (given-14 lent.sizes (read-14 lent));
+      other-track-spot = λ size other shape r t scratch b home spare lent result promise. gives-refused _ _ result WrongLength (given-14 lent.sizes (read-14 lent)) promise;
       other-track-gives-none = λ size other shape r t scratch b home spare lent part promise.
           (read-refused size shape r t scratch b home spare part promise (λ none. fourteen (sym (given-14 lent.sizes (read-14 lent)) ∙ none))).holds;
       mode-first = λ images apart size found. (some-apart images apart found, says_first images apart found);
       first-mode = λ images apart size some first.
           let is = first-mode images apart some first in
-          accepts (λ k. refl) (mode-some images apart some (λ none. omega (arith, size_above first.says.sized, is, none))) (ap Of (sym is));
+          (mode-some images apart some (λ none. omega (arith, size_above first.says.sized, is, none)), sym is);
       mode-size = λ images apart size found. (says_first images apart found).says.sized;
       no-mode-none = λ images apart refused.
           (apart_some images apart refused, λ k size says. found-says images apart (apart_some images apart refused) k says (no-mode images apart refused));
-      none-no-mode = λ images apart some none.
-          refuses (λ k. refl) no_mode (mode-none images apart some (none-modes images apart some none)) (λ zero. omega arith);
+      none-no-mode = λ images apart some none. mode-none images apart some (none-modes images apart some none);
       no-mode-apart = apart_none;
-      apart-no-mode = λ images. refuses (λ k. refl) out_of_range (mode-apart images 0 refl) (λ zero. omega arith);
+      apart-no-mode = λ images. mode-apart images 0 refl;
     }

@@ -7,10 +7,9 @@ use mathlib.Core.Logic.{inl, inr}
 use mathlib.Core.List.{List, [], ◌∷◌}
 use native.Mathlib.Omega.{arith}
 use lib.ListN.{length}
+use Rattle.std.specs.Prelude.{Ok}
 use Rattle.paper.specs.Limits.{Size}
-use Rattle.paper.specs.declared.Placed.TheVariants.{At}
-use Rattle.paper.specs.declared.Written.TheVariants.{Length}
-use Rattle.paper.proofs.Kept.{accepts, fills-accepts}
+use Rattle.paper.proofs.Kept.{accepts}
 use Rattle.words.specs.Words.{Bytes}
 use Rattle.seek.specs.Count.{count_below}
 use Rattle.seek.specs.Every.{all_below}
@@ -23,7 +22,6 @@ use Rattle.order.specs.Order.{outward}
 use Rattle.first_table.specs.Marks.{passing, bad_spares, bad_homes, marked}
 use Rattle.first_table.specs.Tables.{replaced_all}
 use Rattle.first_table.specs.Promises.{FirstTable}
-use Rattle.spares.specs.declared.Replaced.TheVariants.{Place}
 use Rattle.spares.specs.Promises.{SectorOf, Replacement}
 use Rattle.image.specs.Image.{image_of}
 use Rattle.reading.specs.Tracks.{code_for, header_for}
@@ -39,27 +37,27 @@ use Rattle.demands.proofs.Runs.{run-whole}
 abbrev six_on_four : List ℕ
 six_on_four = holding 0 0x20000006 0
 
-goes-to-4 : Replacement small 2 none_replaced eight_zeros 6 (Place 4) six_on_four
+goes-to-4 : Replacement small 2 none_replaced eight_zeros 6 (Ok 4) six_on_four
 unfolding all_below place_of first_below first_or outward rising
-goes-to-4 = fills-accepts (λ k. refl) refl refl refl
+goes-to-4 = accepts refl refl refl
 
 -- where it lies, and the code that is said of it, at home and there
-lies-at-home : SectorOf small 2 none_replaced eight_zeros 6 (At 10)
+lies-at-home : SectorOf small 2 none_replaced eight_zeros 6 (Ok 10)
 unfolding all_below place_of first_below first_or rising
-lies-at-home = accepts (λ k. refl) refl refl
+lies-at-home = (refl, refl)
 
-lies-on-spare : SectorOf small 2 six_on_four eight_zeros 6 (At 13)
+lies-on-spare : SectorOf small 2 six_on_four eight_zeros 6 (Ok 13)
 unfolding all_below place_of first_below first_or rising
-lies-on-spare = accepts (λ k. refl) refl refl
+lies-on-spare = (refl, refl)
 
 codes : (code_for none_replaced 6 ≡ 0) × (code_for six_on_four 6 ≡ 2)
 unfolding code_for place_of first_below
 codes = (refl, refl)
 
 -- the first table of no bad sectors, written over the old one
-begins-anew : FirstTable small 2 [] six_on_four (Length 128) none_replaced
+begins-anew : FirstTable small 2 [] six_on_four (Ok 128) none_replaced
 unfolding fault_below count_below all_below first_below first_or rising outward passing bad_spares bad_homes marked replaced_all is_in
-begins-anew = fills-accepts (λ k. refl) refl refl refl
+begins-anew = accepts refl refl refl
 
 module _ (size : ℕ) (sized : Size size) (held₀ : Contents) (whole : Whole size held₀) (older newer : List ℕ) (older-long : length older ≡ size) (are-older : Bytes older) (newer-long : length newer ≡ size) (are-newer : Bytes newer) where
   abbrev first_held : Contents

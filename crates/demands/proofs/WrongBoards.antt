@@ -1,6 +1,7 @@
 -- Each wrong board breaks, at a named input, the demand that the paper sets against it.
 -- Assumes nothing.
 use Prim.Native.Nat.{ℕ, zero, suc, ◌+◌, ◌-◌, ◌<◌}
+use Rattle.std.specs.Prelude.{Result, Ok, Err}
 use mathlib.Core.Path.{◌≡◌, refl, sym, ◌∙◌, ap}
 use mathlib.Core.Bool.{Bool, true, false, true≢false}
 use mathlib.Core.Logic.{inl, inr, ⊎_elim}
@@ -12,16 +13,16 @@ use lib.ListN.{length, take, drop, get_or, set, replicate, length-replicate}
 use lib.Seq.{length-sets}
 use denote.Ref.{Bor}
 use Rattle.paper.proofs.Chain.{or_else-none}
-use Rattle.paper.proofs.Kept.{accepts}
+use Rattle.paper.proofs.Kept.{number-some, gives-accepted}
 use Rattle.paper.proofs.Rows.{data-size-passes, sized-exactly, normal-size}
 use Rattle.paper.specs.Checks.{answer}
 use Rattle.paper.specs.Limits.{data_size, header_size, image_extra, Size, data_size_fault, DataSizeJudged}
 use Rattle.paper.specs.Exactly.{◌and_then◌, Exactly}
-use Rattle.paper.specs.Answers.{said_placed}
+use Rattle.paper.specs.Answers.{said_number}
 use Rattle.paper.specs.Refusals.{no_such_block, bad_table, outside, no_spare, other_block, forced_error, bad_code, unknown_code}
-use Rattle.paper.specs.declared.Placed.TheVariants.{At}
+use Rattle.paper.specs.declared.Refusal.{Refusal}
+use Rattle.paper.specs.declared.Refusal.TheVariants.{Outside, NoSpare, ForcedError}
 use Rattle.shape.specs.declared.Address.{Address}
-use Rattle.shape.specs.declared.Located.TheVariants.{At as LocatedAt}
 use Rattle.seek.specs.Count.{count_below, times}
 use Rattle.seek.specs.Every.{all_below}
 use Rattle.seek.specs.Lowest.{first_below, fault_below}
@@ -34,15 +35,11 @@ use Rattle.skip.specs.Walk.{entries_below}
 use Rattle.skip.specs.Translation.{sector_of_fault, SectorOfJudged}
 use Rattle.skip.specs.Cursors.{cursor_at, step_fault}
 use Rattle.skip.specs.declared.Cursor.{Cursor}
-use Rattle.skip.specs.declared.Job.{Job}
-use Rattle.skip.specs.declared.Job.TheVariants.{At as SteppedTo, Refused as NotStepped}
 use Rattle.skip.proofs.Lying.{lies-one-block}
 use Rattle.skip.proofs.Composition.{place_after}
 use Rattle.skip.proofs.Exact.{sector-of-exactly}
 use Rattle.page.specs.Layout.{entries_of, laid_out}
-use Rattle.page.specs.declared.Paged.TheVariants.{Page, Refused as NotPaged}
 use Rattle.format.specs.Spaces.{new_grown, new_list}
-use Rattle.format.specs.declared.Formatted.TheVariants.{Done}
 use Rattle.shape.specs.Shapes.{Shaped}
 use Rattle.shape.proofs.Exact.{shape-shows}
 use Rattle.layout.specs.Layouts.{Spared, drive_of}
@@ -56,18 +53,12 @@ use Rattle.order.specs.Order.{outward, order}
 use Rattle.table.specs.declared.Census.{Census}
 use Rattle.first_table.specs.Marks.{bad_spares, bad_homes}
 use Rattle.spares.specs.Spares.{ReplaceJudged}
-use Rattle.spares.specs.Promises.{said_replaced}
-use Rattle.spares.specs.declared.Replaced.TheVariants.{Place, Refused as NotReplaced}
-use Rattle.spares.specs.declared.Shifted.TheVariants.{By}
-use Rattle.spares.specs.declared.Counted.TheVariants.{Counts as CountedAs}
 use Rattle.spares.proofs.Exact.{replace-exactly}
 use Rattle.table.proofs.Exact.{sound-laid, sound-obeys, table-sound, table-exactly, block-exactly}
 use Rattle.image.specs.Code as Code
 use Rattle.image.specs.Code.{words_of, rotated, code_from}
 use Rattle.image.specs.Image.{copies, Stands, header_of, stored_in, found_in, data_of, image_of, copies_fault, code_fault, contents_fault, pair_fault, header_fault, image_fault, write_fault}
 use Rattle.image.specs.Judged.{HeaderJudged, ImageJudged, WriteJudged}
-use Rattle.image.specs.declared.Head.TheVariants.{Of}
-use Rattle.image.specs.declared.Verdict.TheVariants.{Good, Refused as NotGood}
 use Rattle.image.proofs.Copies.{stands-header}
 use Rattle.image.proofs.Exact.{length-passes, address-passes, header-exactly, image-unsaid, judge-exactly, write-exactly}
 use Rattle.image.proofs.Images.{replicate-below, length-image, written_stands, written-data, written-good}
@@ -77,17 +68,18 @@ use Rattle.reading.specs.Judged.{BlockReadJudged}
 use Rattle.reading.proofs.Exact.{read-exactly}
 use Rattle.reading.specs.Promises.{AtSpot, in-spare, Spots}
 use Rattle.reading.specs.declared.answers.Spot.{Spot}
-use Rattle.reading.specs.declared.answers.Spot.TheVariants.{InSpare}
 use Rattle.reading.proofs.Seats.{image-inside, data-inside}
 use Rattle.reading.proofs.Written.{good-read, other-read}
+use Rattle.reading.specs.declared.answers.Spot.TheVariants.{InSpare}
 use Rattle.demands.specs.Relations.{Keeps, Handed, Onward, Counts}
 use Rattle.demands.proofs.Demand3.{Arrives}
 use Rattle.demands.specs.Demand2Revectored.{Alters, ShiftLeads}
 use Rattle.demands.specs.Histories.{killed_by}
-use Rattle.demands.specs.Numbered.{PlacedBy}
+use Rattle.demands.specs.Numbered.{NumberBy}
 use Rattle.demands.specs.Angles.{Angled, BothAngled}
 use Rattle.demands.specs.Scratches.{LeavesScratch}
 use Rattle.demands.specs.Inputs.{few, chart, small, eight, eight_zeros, holding, none_replaced, after_seven, after_six, seven_on_five, seven_on_one, two_groups, tall, tall_with}
+use Rattle.demands.proofs.Answered.{answered}
 use Rattle.demands.proofs.Boards.{made, scan, lent, page_with, begun, damaged, older, newer, blank, track_with, refuses_all, same_sector, adds_once, skips_nothing, opened, runs_ahead, cursor_after, sectors_after, made_up_entries, writes_early, made_up_lengths, takes_sectors, Composes, same_spare, spares_none, leaves_table, group_by_remainder, offset_once, never_round, stopped_order, stops_search, leaves_old, frees_old, kills_early, made_up_census, census_with, truncated_shift, wrapped_shift, every_forced, compares_word, answers_fourth, code_first, compares_block, home_image, reads_home, leaves_mark, clears_accepted, clears_all, rules_first, holes_near, stops_unusable, takes_lowest}
 
 -- a number that is given exactly is the only one
@@ -103,28 +95,27 @@ one_passes : sector_of_fault 6 few 1 ≡ 0
 unfolding fault_below
 one_passes = refl
 
--- refuses all: no row gives its number, and number 0 would be no refusal
-pub refuses-all-unjudged : (k : ℕ) → (k ≡ 0 → ⊥) → SectorOfJudged 6 few 0 (said_placed (refuses_all k 6 few 0)).0 → ⊥
-refuses-all-unjudged k some = no_other (sector-of-exactly 6 few 0) (λ same. some (sym same ∙ zero-passes))
+-- refuses all: no row gives its number, and no refusal has number 0
+pub refuses-all-unjudged : (refusal : Refusal) → SectorOfJudged 6 few 0 (said_number (refuses_all refusal 6 few 0)).0 → ⊥
+refuses-all-unjudged refusal = no_other (sector-of-exactly 6 few 0) (λ same. number-some refusal (sym same ∙ zero-passes))
 
-pub refuses-all-by-no-number : (k : ℕ) → PlacedBy (SectorOfJudged 6 few 0) (refuses_all k 6 few 0) → ⊥
-refuses-all-by-no-number zero by = by.never-refused-0 refl
-refuses-all-by-no-number (suc k) by = refuses-all-unjudged (suc k) (λ none. omega arith) by.exactly.judged
+pub refuses-all-by-no-number : (refusal : Refusal) → NumberBy (SectorOfJudged 6 few 0) (refuses_all refusal 6 few 0) → ⊥
+refuses-all-by-no-number refusal by = refuses-all-unjudged refusal by.exactly.judged
 
 -- block 0 lies on sector 3, and the board does not answer it
-pub refuses-all-unplaced : (k : ℕ) → Lies (is_in few) 6 0 3 × (refuses_all k 6 few 0 ≡ At 3 → ⊥)
+pub refuses-all-unplaced : (refusal : Refusal) → Lies (is_in few) 6 0 3 × (refuses_all refusal 6 few 0 ≡ Ok 3 → ⊥)
 unfolding is_in goods_before count_below
-refuses-all-unplaced k =
+refuses-all-unplaced refusal =
     (record { inside = omega arith; good = refl; before = refl }, λ same. let clash : ◌≡◌ {A = ℕ} 0 1 = cc in omega arith)
 
 -- no spare, always: block 7 has one, and no row gives 13
-pub spares-none-unjudged : ReplaceJudged small 2 none_replaced eight_zeros 7 (said_replaced (spares_none small 2 none_replaced eight_zeros 7).0).0 → ⊥
+pub spares-none-unjudged : ReplaceJudged small 2 none_replaced eight_zeros 7 (said_number (spares_none small 2 none_replaced eight_zeros 7).0).0 → ⊥
 unfolding all_below place_of first_below first_or outward rising
 spares-none-unjudged = no_other (replace-exactly small 2 none_replaced eight_zeros 7) (λ same. omega arith)
 
 -- the same sector always: blocks 0 and 1 do not both lie on it
 pub same-sector-shared :
-    (s : ℕ) → (same_sector s 6 few 0 ≡ At s) × (same_sector s 6 few 1 ≡ At s) × (Lies (is_in few) 6 0 s → Lies (is_in few) 6 1 s → ⊥)
+    (s : ℕ) → (same_sector s 6 few 0 ≡ Ok s) × (same_sector s 6 few 1 ≡ Ok s) × (Lies (is_in few) 6 0 s → Lies (is_in few) 6 1 s → ⊥)
 same-sector-shared s =
     (rw zero-passes, rw one_passes, λ first second. let clash : ◌≡◌ {A = ℕ} 0 1 = lies-one-block (is_in few) 6 first second in omega arith)
 
@@ -135,8 +126,8 @@ none_replaced-passes = refl
 
 pub same-spare-shared :
     (s : ℕ) →
-    (same_spare s small 2 none_replaced eight_zeros 0 ≡ At s)
-    × (same_spare s small 2 none_replaced eight_zeros 1 ≡ At s)
+    (same_spare s small 2 none_replaced eight_zeros 0 ≡ Ok s)
+    × (same_spare s small 2 none_replaced eight_zeros 1 ≡ Ok s)
     × (Table.Resides (drive_of small 2) none_replaced 0 s → Table.Resides (drive_of small 2) none_replaced 1 s → ⊥)
 same-spare-shared s = (rw none_replaced-passes, rw none_replaced-passes, shared)
   where
@@ -148,7 +139,7 @@ same-spare-shared s = (rw none_replaced-passes, rw none_replaced-passes, shared)
         omega arith
 
 -- a replacement that leaves the table: it answers the right place, and of no place is the descriptor altered
-pub leaves-table-unaltered : (leaves_table small 2 none_replaced eight_zeros 7 ≡ (Place 4, none_replaced)) × ((q : ℕ) → Alters small 2 none_replaced 7 q none_replaced → ⊥)
+pub leaves-table-unaltered : (leaves_table small 2 none_replaced eight_zeros 7 ≡ (Ok 4, none_replaced)) × ((q : ℕ) → Alters small 2 none_replaced 7 q none_replaced → ⊥)
 unfolding all_below place_of first_below first_or outward rising
 leaves-table-unaltered = (refl, unaltered)
   where
@@ -161,7 +152,7 @@ leaves-table-unaltered = (refl, unaltered)
 
 -- a replacement of block 7, which lies on place 4, that leaves its old descriptor: the table names the block twice and breaks the rules
 pub leaves-old-breaks :
-    (leaves_old small 2 after_seven eight_zeros 7 ≡ (Place 5, holding 0 0x20000007 0x30000007))
+    (leaves_old small 2 after_seven eight_zeros 7 ≡ (Ok 5, holding 0 0x20000007 0x30000007))
     × Breaks (drive_of small 2) (holding 0 0x20000007 0x30000007)
     × (Alters small 2 after_seven 7 5 (holding 0 0x20000007 0x30000007) → ⊥)
 unfolding all_below place_of first_below first_or outward rising
@@ -172,8 +163,8 @@ leaves-old-breaks = (refl, twice, λ altered. altered.breaks-none twice)
 
 -- one that sets it free: the old place is not unusable; and of two replacements since the first table, the second of which killed a spare, a census finds 7 free and none unusable, where the law asks for 6 and 1
 pub frees-old-unkilled :
-    (frees_old small 2 none_replaced eight_zeros 7 ≡ (Place 4, after_seven))
-    × (frees_old small 2 after_seven eight_zeros 7 ≡ (Place 5, holding 0 0 0x30000007))
+    (frees_old small 2 none_replaced eight_zeros 7 ≡ (Ok 4, after_seven))
+    × (frees_old small 2 after_seven eight_zeros 7 ≡ (Ok 5, holding 0 0 0x30000007))
     × (Alters small 2 after_seven 7 5 (holding 0 0 0x30000007) → ⊥)
 unfolding all_below place_of first_below first_or outward rising
 frees-old-unkilled = (refl, refl, λ altered. omega (arith, altered.old-unusable 4 (inl refl, refl)))
@@ -190,7 +181,7 @@ frees-old-miscounted census counts =
 
 -- one that marks it before it looks for a spare: none is free, and the table is not kept
 pub kills-early-keeps-not :
-    (kills_early small 2 seven_on_one eight_zeros 7 ≡ (NotReplaced no_spare, set seven_on_one 1 0x40000000)) × (Keeps no_spare seven_on_one (set seven_on_one 1 0x40000000) → ⊥)
+    (kills_early small 2 seven_on_one eight_zeros 7 ≡ (Err NoSpare, set seven_on_one 1 0x40000000)) × (Keeps no_spare seven_on_one (set seven_on_one 1 0x40000000) → ⊥)
 unfolding all_below place_of first_below first_or outward rising
 kills-early-keeps-not = (refl, λ keeps. omega (arith, ap (λ (l : List ℕ). get_or l 1 0) (keeps (λ none. omega arith))))
 
@@ -213,8 +204,8 @@ runs-ahead-sectors steps = ap (λ (l : List ℕ). 3 ∷ l) (repeats steps)
     repeats (suc steps) = ap (λ (l : List ℕ). 5 ∷ l) (repeats steps)
 
 -- the steps that are promised answer the blocks one after another
-abbrev stepped : ℕ → List ℕ → Cursor → Job
-stepped n a c = answer (step_fault n a c) (λ fault. NotStepped fault c) (SteppedTo (place (is_in a) n c.block) (cursor_at n a (suc c.block)))
+abbrev stepped : ℕ → List ℕ → Cursor → Result ℕ Refusal × Cursor
+stepped n a c = (answered (step_fault n a c) (place (is_in a) n c.block), answer (step_fault n a c) (λ fault. c) (cursor_at n a (suc c.block)))
 
 pub promised-sectors : sectors_after (stepped 6 few) 3 opened ≡ 3 ∷ 4 ∷ 5 ∷ []
 unfolding sectors_after fault_below place first_below goods_before count_below is_in entries_below
@@ -223,7 +214,7 @@ promised-sectors = refl
 -- lengths made up: the paper's page has two entries, and any other number is not the length of its list
 pub made-up-entries :
     (count : ℕ) → (count ≡ 2 → ⊥) →
-    ((made_up_entries count (page_with 7) lent).0 ≡ Page 0 20 count)
+    ((made_up_entries count (page_with 7) lent).0 ≡ Ok (record { kind = 0; n = 20; entries = count }))
     × (Handed (entries_of (page_with 7)) lent count (made_up_entries count (page_with 7) lent).1 → ⊥)
 unfolding laid_out word32_at entries_at fault_below
 made-up-entries count other = (refl, λ handed. other handed.long_as)
@@ -231,7 +222,7 @@ made-up-entries count other = (refl, λ handed. other handed.long_as)
 -- the paper's night gives lists of two and four, and of any other lengths one is not its list's
 pub made-up-lengths :
     (long other : ℕ) → ((long ≡ 2) × (other ≡ 4) → ⊥) →
-    ((made_up_lengths long other 20 made [] 3 1 scan lent lent).0 ≡ Done long other 3)
+    ((made_up_lengths long other 20 made [] 3 1 scan lent lent).0 ≡ Ok (record { grown = long; list = other; space = 3 }))
     × (Handed (new_grown 20 made [] 3 1 scan) lent long (made_up_lengths long other 20 made [] 3 1 scan lent lent).1 →
     Handed (new_list 20 made [] 3 1 scan) lent other (made_up_lengths long other 20 made [] 3 1 scan lent lent).2 → ⊥)
 unfolding count_below first_below fault_below is_in into union goods_before place
@@ -255,7 +246,7 @@ counts-one one other =
 
 -- and any other census does not count the codes
 pub made-up-census :
-    (census : Census) → (census ≡ census_with 5 1 2 0 120 → ⊥) → (made_up_census census small 2 after_six eight_zeros ≡ CountedAs census) × (Counts after_six census → ⊥)
+    (census : Census) → (census ≡ census_with 5 1 2 0 120 → ⊥) → (made_up_census census small 2 after_six eight_zeros ≡ Ok census) × (Counts after_six census → ⊥)
 unfolding all_below first_or rising
 made-up-census census other = (refl, λ counts. other (counts-one counts after-six-counts))
 
@@ -280,22 +271,22 @@ on-bad : {bad : ℕ → Bool} {n b s : ℕ} → bad s ≡ true → Lies bad n b 
 on-bad is_bad lies = true≢false (sym is_bad ∙ lies.good)
 
 -- so demand 3 is stated over demand 2's map, and the identity breaks demand 2: it answers sector 0, which is bad
-pub skips-nothing-on-bad : (skips_nothing 6 few 0 ≡ At 0) × (Lies (is_in few) 6 0 0 → ⊥)
+pub skips-nothing-on-bad : (skips_nothing 6 few 0 ≡ Ok 0) × (Lies (is_in few) 6 0 0 → ⊥)
 unfolding is_in fault_below
 skips-nothing-on-bad = (refl, on-bad refl)
 
 -- the entries at or below the block added once: sector 1 is bad, and so is sector 60 of the chart
-pub adds-once-on-bad : (adds_once 6 few 0 ≡ At 1) × (Lies (is_in few) 6 0 1 → ⊥)
+pub adds-once-on-bad : (adds_once 6 few 0 ≡ Ok 1) × (Lies (is_in few) 6 0 1 → ⊥)
 unfolding is_in fault_below entries_below
 adds-once-on-bad = (refl, on-bad refl)
 
-pub adds-once-on-bad-chart : (adds_once 848 chart 58 ≡ At 60) × (Lies (is_in chart) 848 58 60 → ⊥)
+pub adds-once-on-bad-chart : (adds_once 848 chart 58 ≡ Ok 60) × (Lies (is_in chart) 848 58 60 → ⊥)
 unfolding is_in fault_below entries_below
 adds-once-on-bad-chart = (refl, on-bad refl)
 
 -- D taken as sectors: the new list is 3, 7, 16, and new block 15 lies on 18, where you arrive at 19
 pub takes-sectors-strays :
-    (takes_sectors 20 made [] 3 1 scan lent lent ≡ (Done 2 3 3, 3 ∷ 16 ∷ 0 ∷ 0 ∷ [], 3 ∷ 7 ∷ 16 ∷ 0 ∷ []))
+    (takes_sectors 20 made [] 3 1 scan lent lent ≡ (Ok (record { grown = 2; list = 3; space = 3 }), 3 ∷ 16 ∷ 0 ∷ 0 ∷ [], 3 ∷ 7 ∷ 16 ∷ 0 ∷ []))
     × (Arrives 20 made scan (3 ∷ 7 ∷ 16 ∷ []) 15 → ⊥)
 unfolding count_below first_below fault_below is_in into union goods_before place
 takes-sectors-strays = (refl, λ arrives. omega (arith, arrives))
@@ -306,29 +297,29 @@ located_at cylinder head sector angle = record { cylinder = cylinder; head = hea
 -- two groups of two tracks, offset 3: head 2 begins one group after head 0, and so three sectors after it, mod 5
 -- the group by remainder: both begin at angle 0, where head 2 has angle 3
 pub group-by-remainder-stays :
-    (group_by_remainder two_groups 0 ≡ LocatedAt (located_at 0 0 0 0))
-    × (group_by_remainder two_groups 10 ≡ LocatedAt (located_at 0 2 0 0))
+    (group_by_remainder two_groups 0 ≡ Ok (located_at 0 0 0 0))
+    × (group_by_remainder two_groups 10 ≡ Ok (located_at 0 2 0 0))
     × (BothAngled two_groups (located_at 0 0 0 0) (located_at 0 2 0 0) → ⊥)
 group-by-remainder-stays = (refl, refl, λ angled. omega (arith, angled.further refl refl))
 
 -- the offset once: both begin at angle 3, and from there it would be 1
 pub offset-once-stays :
-    (offset_once two_groups 0 ≡ LocatedAt (located_at 0 0 0 3))
-    × (offset_once two_groups 10 ≡ LocatedAt (located_at 0 2 0 3))
+    (offset_once two_groups 0 ≡ Ok (located_at 0 0 0 3))
+    × (offset_once two_groups 10 ≡ Ok (located_at 0 2 0 3))
     × (BothAngled two_groups (located_at 0 0 0 3) (located_at 0 2 0 3) → ⊥)
 offset-once-stays = (refl, refl, λ angled. omega (arith, angled.further refl refl))
 
 -- never round: a track of five sectors has no angle 6
-pub never-round-beyond : (never_round two_groups 13 ≡ LocatedAt (located_at 0 2 3 6)) × (Angled two_groups (located_at 0 2 3 6) → ⊥)
+pub never-round-beyond : (never_round two_groups 13 ≡ Ok (located_at 0 2 3 6)) × (Angled two_groups (located_at 0 2 3 6) → ⊥)
 never-round-beyond = (refl, λ angled. omega (arith, angled.below))
 
 -- a shift kept unsigned: block 6 lies one cylinder nearer to cylinder 0, and 0 does not lead there
-pub truncated-shift-leads-not : (truncated_shift small 2 after_six eight_zeros 6 ≡ By (pos 0)) × (ShiftLeads small 2 after_six 6 (pos 0) → ⊥)
+pub truncated-shift-leads-not : (truncated_shift small 2 after_six eight_zeros 6 ≡ Ok (pos 0)) × (ShiftLeads small 2 after_six 6 (pos 0) → ⊥)
 unfolding all_below place_of first_below first_or rising
-truncated-shift-leads-not = (refl, λ shift. let same : pos 1 ≡ pos 0 = shift.leads eight_zeros (record { cylinder = 0; head = 1; sector = 4; angle = 1 }) (accepts (λ k. refl) refl refl) in let clash : ◌≡◌ {A = ℕ} 0 1 = cc in omega arith)
+truncated-shift-leads-not = (refl, λ shift. let same : pos 1 ≡ pos 0 = shift.leads eight_zeros (record { cylinder = 0; head = 1; sector = 4; angle = 1 }) (refl, refl) in let clash : ◌≡◌ {A = ℕ} 0 1 = cc in omega arith)
 
 -- and 2 to the 32 less 1 is not within 1 − C to C − 1
-pub wrapped-shift-not-within : (wrapped_shift small 2 after_six eight_zeros 6 ≡ By (pos 4294967295)) × (ShiftLeads small 2 after_six 6 (pos 4294967295) → ⊥)
+pub wrapped-shift-not-within : (wrapped_shift small 2 after_six eight_zeros 6 ≡ Ok (pos 4294967295)) × (ShiftLeads small 2 after_six 6 (pos 4294967295) → ⊥)
 unfolding all_below place_of first_below first_or rising
 wrapped-shift-not-within = (refl, λ shift. omega (arith, shift.within))
 
@@ -339,12 +330,12 @@ stopped-order-misses = (refl, refl)
 
 -- so it refuses block 2 after blocks 0 and 1, place 2 is free, and no row gives 13
 pub stops-search-unjudged :
-    (stops_search small 2 begun eight_zeros 2 ≡ (NotReplaced no_spare, begun)) × (code_of (get_or begun 2 0) ≡ free) × (ReplaceJudged small 2 begun eight_zeros 2 no_spare → ⊥)
+    (stops_search small 2 begun eight_zeros 2 ≡ (Err NoSpare, begun)) × (code_of (get_or begun 2 0) ≡ free) × (ReplaceJudged small 2 begun eight_zeros 2 no_spare → ⊥)
 unfolding all_below place_of first_below first_or outward rising
 stops-search-unjudged = (refl, refl, no_other (replace-exactly small 2 begun eight_zeros 2) (λ same. omega arith))
 
 -- entries written early: the last entry, 20, is not below N, and the room does not hold what it held
-pub writes-early-keeps-not : (writes_early (page_with 20) lent ≡ (NotPaged outside, 3 ∷ 20 ∷ 0 ∷ 0 ∷ [])) × (Keeps outside lent (3 ∷ 20 ∷ 0 ∷ 0 ∷ []) → ⊥)
+pub writes-early-keeps-not : (writes_early (page_with 20) lent ≡ (Err Outside, 3 ∷ 20 ∷ 0 ∷ 0 ∷ [])) × (Keeps outside lent (3 ∷ 20 ∷ 0 ∷ 0 ∷ []) → ⊥)
 unfolding laid_out word32_at entries_at fault_below
 writes-early-keeps-not = (refl, λ keeps. omega (arith, ap (λ (l : List ℕ). get_or l 0 0) (keeps (λ none. omega arith))))
 
@@ -359,7 +350,7 @@ unfolding damaged image_fault pair_fault contents_fault copies_fault header_of t
 damaged-fault = refl
 
 pub every-forced-unjudged :
-    (every_forced data_size damaged 6 0 ≡ NotGood forced_error) × ((DataSizeJudged data_size and_then ImageJudged data_size damaged 6 0) forced_error → ⊥)
+    (every_forced data_size damaged 6 0 ≡ Err ForcedError) × ((DataSizeJudged data_size and_then ImageJudged data_size damaged 6 0) forced_error → ⊥)
 unfolding data_size_fault damaged copies_fault header_of times copies stored_in found_in data_of Code.data_code code_from Code.code_after rotated words_of bytes_of bytes32 word16_at word32_at entries_at
 every-forced-unjudged =
     (refl, sized-other (ImageJudged data_size damaged 6 0) (judge-exactly damaged data_size 6 0) (λ same. let clash : bad_code ≡ forced_error = sym damaged-fault ∙ same in omega arith))
@@ -375,7 +366,7 @@ seven-contents : contents_fault data_size seven_at_primary 0x20000007 ≡ 0
 seven-contents = rw older-long at (written-good 0x20000007 older (omega arith) (replicate-below 512 0 (omega arith) (omega arith)))
 
 pub compares-word-unjudged :
-    (compares_word data_size seven_at_primary 268435463 1 ≡ Good) × ((DataSizeJudged data_size and_then ImageJudged data_size seven_at_primary 268435463 1) 0 → ⊥)
+    (compares_word data_size seven_at_primary 268435463 1 ≡ Ok tt) × ((DataSizeJudged data_size and_then ImageJudged data_size seven_at_primary 268435463 1) 0 → ⊥)
 compares-word-unjudged = (
   rw (data-size-passes normal-size, length-passes (data_size + image_extra) seven_at_primary seven-long, seven-contents),
   sized-other (ImageJudged data_size seven_at_primary 268435463 1) (judge-exactly seven_at_primary data_size 268435463 1) (λ same. let clash : other_block ≡ 0 = sym aliased ∙ same in omega arith),
@@ -397,7 +388,7 @@ fourth-fault : header_fault data_size seven_fourth ≡ other_block
 unfolding header_fault copies_fault header_of times copies image_of bytes_of bytes16 bytes32 word32_at entries_at
 fourth-fault = refl
 
-pub answers-fourth-unjudged : (answers_fourth data_size seven_fourth ≡ Of 1 7) × ((DataSizeJudged data_size and_then HeaderJudged data_size seven_fourth) 0 → ⊥)
+pub answers-fourth-unjudged : (answers_fourth data_size seven_fourth ≡ Ok (record { code = 1; block = 7 })) × ((DataSizeJudged data_size and_then HeaderJudged data_size seven_fourth) 0 → ⊥)
 unfolding data_size_fault copies_fault header_of times copies image_of bytes_of bytes16 bytes32 word32_at entries_at
 answers-fourth-unjudged =
     (refl, sized-other (HeaderJudged data_size seven_fourth) (header-exactly seven_fourth data_size) (λ same. let clash : other_block ≡ 0 = sym fourth-fault ∙ same in omega arith))
@@ -440,7 +431,7 @@ six-on-spare : {Track : Type 0} (home spare : Track) → Seated (drive_of small 
 six-on-spare home spare = on-spare 3 (omega arith) (inr refl, refl)
 
 in-spare-holds :
-    {size offset : ℕ} {home spare part : Bor (List ℕ)} → AtSpot size home spare part (InSpare offset) → part.now ≡ take size (drop offset spare.now)
+    {size offset : ℕ} {home spare part : Bor (List ℕ)} → AtSpot size home spare part (Ok (InSpare offset)) → part.now ≡ take size (drop offset spare.now)
 in-spare-holds (in-spare lends) = lends.holds
 
 module _ (home spare : Bor (List ℕ)) (home-is : home.now ≡ track_with 0 6 older) (spare-is : spare.now ≡ track_with 4 0x30000006 newer) where
@@ -460,14 +451,15 @@ module _ (home spare : Bor (List ℕ)) (home-is : home.now ≡ track_with 0 6 ol
   home-handed : (reads_home data_size small 2 after_six eight_zeros 6 home spare).now ≡ older
   home-handed = rw (data-size-passes normal-size, lent-passes, home-good, home-holds) (rw older-long at (written-data 6 older false))
 
-  spare-spot : (spot : Spot) → Spots data_size small 2 after_six eight_zeros 6 home.now spare.now spot → spot ≡ InSpare (bytes_in data_size 4 + header_size)
+  spare-spot : (spot : Result Spot Refusal) → Spots data_size small 2 after_six eight_zeros 6 home.now spare.now spot → spot ≡ Ok (InSpare (bytes_in data_size 4 + header_size))
   unfolding header_for code_for place_of first_below sector_in
   spare-spot spot promise =
-      promise.answers
-      ∙ rw (
+      gives-accepted _ _ spot
+      (rw (
         data-size-passes normal-size,
         good-read data_size small 2 after_six eight_zeros 6 newer newer-long (replicate-below 512 1 (omega arith) (omega arith)) lent-passes (six-on-spare home.now spare.now) spare-holds,
-      )
+      ))
+      promise
 
   spare-data : take data_size (drop (bytes_in data_size 4 + header_size) spare.now) ≡ newer
   spare-data =
@@ -476,7 +468,7 @@ module _ (home spare : Bor (List ℕ)) (home-is : home.now ≡ track_with 0 6 ol
   -- home for every block: the older data is handed back, and it is not the part at the spot where block 6 lies
   pub reads-home-strays :
       ((reads_home data_size small 2 after_six eight_zeros 6 home spare).now ≡ older)
-      × ((spot : Spot) → Spots data_size small 2 after_six eight_zeros 6 home.now spare.now spot →
+      × ((spot : Result Spot Refusal) → Spots data_size small 2 after_six eight_zeros 6 home.now spare.now spot →
       AtSpot data_size home spare (reads_home data_size small 2 after_six eight_zeros 6 home spare) spot → ⊥)
   reads-home-strays = (
     home-handed,
@@ -506,7 +498,7 @@ module _ (home spare : List ℕ) (home-long : length home ≡ bytes_in data_size
       (rw spare-is (track-holds 4 6 older (omega arith) older-long))
 
   pub compares-block-unjudged :
-      (compares_block data_size small 2 after_six eight_zeros 6 home spare ≡ Good)
+      (compares_block data_size small 2 after_six eight_zeros 6 home spare ≡ Ok tt)
       × ((DataSizeJudged data_size and_then BlockReadJudged data_size small 2 after_six eight_zeros 6 home spare) 0 → ⊥)
   compares-block-unjudged = (
     rw (data-size-passes normal-size, moved_passes, moved_holds, address-passes (image_of 6 older false) 6 stands, stands-header (image_of 6 older false) 6 stands, six-code),
@@ -569,12 +561,12 @@ holed_later = set (tall_with 256 0x30000000) 200 0
 abbrev tall_zeros : List ℕ
 tall_zeros = replicate 260 0
 
-pub holes-near-unjudged : (holes_near tall 1 holed_later tall_zeros 0 ≡ At 770) × (BlockJudged tall 1 holed_later tall_zeros 0 0 → ⊥)
+pub holes-near-unjudged : (holes_near tall 1 holed_later tall_zeros 0 ≡ Ok 770) × (BlockJudged tall 1 holed_later tall_zeros 0 0 → ⊥)
 unfolding all_below place_of first_below first_or rising
 holes-near-unjudged = (refl, no_other (block-exactly tall 1 holed_later tall_zeros 0) (λ same. omega arith))
 
 -- a look-up that stops at an unusable place: block 7, on place 5 beside the unusable place 4, is answered at home, sector 11, and does not lie there
-pub stops-unusable-strays : (stops_unusable small 2 seven_on_five eight_zeros 7 ≡ At 11) × (Resides (drive_of small 2) seven_on_five 7 11 → ⊥)
+pub stops-unusable-strays : (stops_unusable small 2 seven_on_five eight_zeros 7 ≡ Ok 11) × (Resides (drive_of small 2) seven_on_five 7 11 → ⊥)
 unfolding all_below place_of first_below first_or rising outward
 stops-unusable-strays = (
   refl,
@@ -586,7 +578,7 @@ stops-unusable-strays = (
 
 -- the lowest free place taken: block 7 goes to place 0, and its primary, place 4, is free
 pub takes-lowest-holes :
-    (takes_lowest small 2 none_replaced eight_zeros 7 ≡ (Place 0, eight 0x30000007 0 0 0 0 0 0 0)) × Holed (drive_of small 2) (eight 0x30000007 0 0 0 0 0 0 0)
+    (takes_lowest small 2 none_replaced eight_zeros 7 ≡ (Ok 0, eight 0x30000007 0 0 0 0 0 0 0)) × Holed (drive_of small 2) (eight 0x30000007 0 0 0 0 0 0 0)
 unfolding all_below place_of first_below first_or rising outward
 takes-lowest-holes = (
   refl,

@@ -1,6 +1,7 @@
 -- Wrong boards on a drive in time. On the paper's small drive block 6 was replaced and lies on spare 3, sector 9. The board of the incident, one that writes a replaced block at home, and one that reads it there: each breaks what `NeverStale` says.
 -- Assumes nothing.
 use Prim.Native.Nat.{ℕ}
+use Rattle.std.specs.Prelude.{Ok}
 use mathlib.Core.Path.{◌≡◌, refl, ◌∙◌, ap}
 use mathlib.Core.Bool.{false}
 use mathlib.Core.Logic.{inl, inr}
@@ -10,21 +11,17 @@ use lib.IntN.{pos, nat_abs, ◌+ℤ◌}
 use lib.ListN.{length}
 use denote.Ref.{Bor}
 use Rattle.paper.specs.Limits.{Size}
-use Rattle.paper.specs.declared.Placed.TheVariants.{At}
-use Rattle.paper.proofs.Kept.{accepts, fills-accepts}
+use Rattle.paper.proofs.Kept.{accepts}
 use Rattle.paper.proofs.Rows.{data-size-passes}
 use Rattle.words.specs.Words.{Bytes}
 use Rattle.seek.specs.Every.{all_below}
 use Rattle.seek.specs.Lowest.{first_below}
 use Rattle.seek.specs.Search.{first_or, rising}
 use Rattle.shape.specs.declared.Address.{Address}
-use Rattle.shape.specs.declared.Located.TheVariants.{At as LocatedAt}
 use Rattle.layout.specs.Layouts.{drive_of}
 use Rattle.order.specs.Order.{outward}
 use Rattle.table.specs.Lookup.{place_of}
-use Rattle.spares.specs.declared.Replaced.TheVariants.{Place}
 use Rattle.spares.specs.Promises.{SectorOf, AddressOf, Replacement}
-use Rattle.image.specs.declared.Verdict.TheVariants.{Good}
 use Rattle.image.specs.Image.{image_of}
 use Rattle.image.specs.Promises.{Judge as JudgeImage}
 use Rattle.image.proofs.Images.{written-good, written-data}
@@ -33,7 +30,6 @@ use Rattle.reading.specs.Promises.{TracksOf, Data}
 use Rattle.reading.proofs.Exact.{lent-passes}
 use Rattle.reading.proofs.Seats.{code-known}
 use Rattle.reading.specs.declared.answers.Pair.{Pair}
-use Rattle.reading.specs.declared.answers.Tracks.TheVariants.{Fetch}
 use Rattle.demands.specs.Inputs.{small, eight_zeros, after_eight, after_six}
 use Rattle.demands.specs.Ledgers.{Contents, Whole, Ledger, LastWritten, latest}
 use Rattle.demands.specs.NeverStale.{Run, begun, wrote, replaced, track_image, Fetched, Answers, GoodImage}
@@ -46,17 +42,17 @@ use Rattle.demands.proofs.NeverStale.{never-stale}
 use Rattle.demands.proofs.WrongBoards.{small-shaped}
 
 -- what is computed of block 6
-goes-to-3 : Replacement small 2 after_eight eight_zeros 6 (Place 3) after_six
+goes-to-3 : Replacement small 2 after_eight eight_zeros 6 (Ok 3) after_six
 unfolding all_below place_of first_below first_or outward rising
-goes-to-3 = fills-accepts (λ k. refl) refl refl refl
+goes-to-3 = accepts refl refl refl
 
-lies-at-home : SectorOf small 2 after_eight eight_zeros 6 (At 10)
+lies-at-home : SectorOf small 2 after_eight eight_zeros 6 (Ok 10)
 unfolding all_below place_of first_below first_or rising
-lies-at-home = accepts (λ k. refl) refl refl
+lies-at-home = (refl, refl)
 
-lies-on-spare : SectorOf small 2 after_six eight_zeros 6 (At 9)
+lies-on-spare : SectorOf small 2 after_six eight_zeros 6 (Ok 9)
 unfolding all_below place_of first_below first_or rising
-lies-on-spare = accepts (λ k. refl) refl refl
+lies-on-spare = (refl, refl)
 
 codes : (code_for after_eight 6 ≡ 0) × (code_for after_six 6 ≡ 3)
 unfolding code_for place_of first_below
@@ -68,16 +64,16 @@ far_end = record { home = record { cylinder = 1; head = 0 }; there = record { cy
 
 -- the promise does not allow that, and the arm's cylinder is not the block's
 pub loses-sign-strays :
-    (loses_sign small 2 after_six eight_zeros 6 ≡ Fetch far_end)
-    × (TracksOf small 2 after_six eight_zeros 6 (Fetch far_end) → ⊥)
-    × ((address : Address) → AddressOf small 2 after_six eight_zeros 6 (LocatedAt address) → far_end.there.cylinder ≡ address.cylinder → ⊥)
+    (loses_sign small 2 after_six eight_zeros 6 ≡ Ok far_end)
+    × (TracksOf small 2 after_six eight_zeros 6 (Ok far_end) → ⊥)
+    × ((address : Address) → AddressOf small 2 after_six eight_zeros 6 (Ok address) → far_end.there.cylinder ≡ address.cylinder → ⊥)
 unfolding all_below place_of first_below first_or rising
 loses-sign-strays = (
   refl,
   λ promise.
       let shifted : pos 1 +ℤ pos 4294967295 ≡ pos 1 = (tracks-lead small 2 after_six eight_zeros 6 far_end promise).leads in
       omega (arith, ap nat_abs shifted),
-  λ address given same. omega (arith, ap (λ (said : ℕ × ℕ × ℕ × ℕ × ℕ). said.1) given.says),
+  λ address given same. omega (arith, ap (λ (there : Address). there.cylinder) given.1),
 )
 
 -- a read that is lent the tracks that this board fetches, of whatever the drive holds
@@ -98,7 +94,7 @@ module _
     pub loses-sign-other-track : (part.now ≡ [] → ⊥) → GoodImage size 6 3 (held 19) part.now
     loses-sign-other-track some = rw codes.1 at (part-good size small 2 after_six scratch 6 (held 19) (whole 19) home spare part sees-19 lent some)
 
-    pub loses-sign-refused : (JudgeImage size (held 19) 6 3 Good → ⊥) → part.now ≡ []
+    pub loses-sign-refused : (JudgeImage size (held 19) 6 3 (Ok tt) → ⊥) → part.now ≡ []
     loses-sign-refused none = part_none size small 2 after_six scratch 6 (held 19) (whole 19) home spare part sees-19 lent (λ good. none (rw codes.1 at good))
 
 -- one that writes a replaced block at home: where no good image of it stands on its spare, what was written does not come back
@@ -107,7 +103,7 @@ module _
     (sized : Size size)
     (held : Contents)
     (whole : Whole size held)
-    (none : JudgeImage size (held 9) 6 3 Good → ⊥)
+    (none : JudgeImage size (held 9) 6 3 (Ok tt) → ⊥)
     (newer : List ℕ)
     (newer-long : length newer ≡ size)
     (are-newer : Bytes newer)

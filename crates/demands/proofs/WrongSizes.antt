@@ -1,17 +1,17 @@
 -- Wrong boards of request Q-10: three readers of the mode sector, and a judge of 576 bytes. Each breaks, at a named input, what the request asks.
 -- Assumes nothing.
 use Prim.Native.Nat.{ℕ, ◌+◌, ◌*◌, ◌<◌}
+use Rattle.std.specs.Prelude.{Ok, Err}
 use mathlib.Core.Path.{◌≡◌, refl, sym, ◌∙◌, ap}
 use mathlib.Core.Bool.{Bool, true, false, not}
 use mathlib.Core.List.{List, ◌++◌}
 use native.Mathlib.Omega.{arith}
 use lib.Dec.{eqb}
 use lib.ListN.{length, set}
-use Rattle.paper.specs.Checks.{◌or_else◌}
 use Rattle.paper.specs.Limits.{data_size, header_size, wide_size, data_size_fault}
-use Rattle.paper.specs.Refusals.{bad_code, no_mode}
-use Rattle.paper.proofs.Kept.{accepts, gives-number}
+use Rattle.paper.specs.Refusals.{bad_code}
 use Rattle.paper.proofs.Rows.{data-size-passes, wide-size}
+use Rattle.paper.specs.declared.Refusal.TheVariants.{NoMode}
 use Rattle.seek.specs.Count.{times}
 use Rattle.seek.specs.Every.{all_below}
 use Rattle.seek.proofs.Firsts.{first-is}
@@ -20,8 +20,6 @@ use Rattle.image.specs.Code.{words_of, rotated, code_after, code_from, data_code
 use Rattle.image.specs.Header.{at_home}
 use Rattle.image.specs.Image.{copies, header_of, data_of, stored_in, found_in, image_of, copies_fault, contents_fault, pair_fault, image_fault}
 use Rattle.image.specs.Promises.{Judge}
-use Rattle.image.specs.declared.Verdict.TheVariants.{Good}
-use Rattle.mode.specs.declared.Mode.TheVariants.{Of, Refused as NoMode}
 use Rattle.mode.specs.Modes.{xbn_image, first_word, SaysSize, FirstSays, size_in, size_said, mode_of}
 use Rattle.mode.specs.Promises.{Finds}
 use Rattle.mode.proofs.Found.{number-says}
@@ -36,7 +34,7 @@ module _ (images : List ℕ) (apart : ℕ) (some : 0 < apart) {mode : ℕ} (is :
   not_first : FirstSays images apart size → ⊥
   not_first first = other (sym (first-mode images apart (λ none. omega arith) first) ∙ is)
 
-  not_found : Finds images apart (Of size) → ⊥
+  not_found : Finds images apart (Ok size) → ⊥
   not_found promise = not_first (sizes.mode-first images apart size promise).1
 
 -- where the first copy passes a test, it is the first that does
@@ -53,7 +51,7 @@ forced-first-computed : (length forced_first ≡ 1060) × (size_forced (xbn_imag
 unfolding all_below bytes16 bytes32 bytes_of word16_at word32_at entries_at words_of rotated code_after code_from data_code carried times copies header_of data_of stored_in found_in image_of copies_fault contents_fault pair_fault image_fault xbn_image first_word size_in
 forced-first-computed = (refl, refl, mode-said forced_first 1 (omega arith) 1 refl (omega arith) refl)
 
-pub takes-forced-strays : (takes_forced forced_first 1 ≡ Of 512) × (FirstSays forced_first 1 512 → ⊥) × (Finds forced_first 1 (Of 512) → ⊥)
+pub takes-forced-strays : (takes_forced forced_first 1 ≡ Ok 512) × (FirstSays forced_first 1 512 → ⊥) × (Finds forced_first 1 (Ok 512) → ⊥)
 takes-forced-strays = (
   ap (λ (xbn : ℕ). mode_from 1 (size_forced (xbn_image forced_first xbn) xbn))
       (first-copy (λ image xbn. not (eqb (size_forced image xbn) 0)) forced_first (omega (arith, forced-first-computed.0)) (ap (λ (size : ℕ). not (eqb size 0)) forced-first-computed.1))
@@ -70,7 +68,7 @@ beside-copies-computed : (mode_of beside_copies 1 ≡ 512) × (mode_of beside_co
 unfolding all_below bytes16 bytes32 bytes_of word16_at word32_at entries_at words_of rotated code_after code_from data_code carried times copies header_of data_of stored_in found_in image_of copies_fault contents_fault pair_fault image_fault xbn_image first_word size_in
 beside-copies-computed = (mode-said beside_copies 1 (omega arith) 1 refl (omega arith) refl, mode-unsaid beside_copies 2 (omega arith) 1 1060 refl (omega arith) refl)
 
-pub goes-one-on-strays : (goes_one_on beside_copies 2 ≡ Of 512) × (FirstSays beside_copies 2 512 → ⊥) × (Finds beside_copies 2 (Of 512) → ⊥)
+pub goes-one-on-strays : (goes_one_on beside_copies 2 ≡ Ok 512) × (FirstSays beside_copies 2 512 → ⊥) × (Finds beside_copies 2 (Ok 512) → ⊥)
 goes-one-on-strays = (
   ap (mode_from 2) beside-copies-computed.0,
   not_first beside_copies 2 (omega arith) beside-copies-computed.1 512 (λ same. omega arith),
@@ -89,7 +87,7 @@ unknown-first-computed :
 unfolding all_below bytes16 bytes32 bytes_of word16_at word32_at entries_at words_of rotated code_after code_from data_code carried times copies header_of data_of stored_in found_in image_of copies_fault contents_fault pair_fault image_fault xbn_image first_word size_in
 unknown-first-computed = (refl, refl, refl, refl)
 
-pub stops-unknown-misses : (stops_unknown unknown_first 1 ≡ NoMode no_mode) × SaysSize unknown_first 1 512 × (Finds unknown_first 1 (NoMode no_mode) → ⊥)
+pub stops-unknown-misses : (stops_unknown unknown_first 1 ≡ Err NoMode) × SaysSize unknown_first 1 512 × (Finds unknown_first 1 (Err NoMode) → ⊥)
 stops-unknown-misses = (
   ap (λ (xbn : ℕ). mode_from 1 (size_in (xbn_image unknown_first xbn) xbn))
       (first-copy (λ image xbn. eqb (image_fault data_size image xbn at_home) 0) unknown_first (omega (arith, unknown-first-computed.0)) (ap (λ (fault : ℕ). eqb fault 0) unknown-first-computed.1))
@@ -112,21 +110,20 @@ wide-faults : (image_fault wide_size wide_zeros 6 0 ≡ 0) × (image_fault wide_
 unfolding bytes16 bytes32 bytes_of word16_at word32_at entries_at words_of rotated code_after code_from data_code carried times copies header_of data_of stored_in found_in image_of copies_fault contents_fault pair_fault image_fault
 wide-faults = (refl, refl)
 
-both-good : (codes_short wide_size wide_zeros 6 0 ≡ Good) × (codes_short wide_size wide_changed 6 0 ≡ Good)
+both-good : (codes_short wide_size wide_zeros 6 0 ≡ Ok tt) × (codes_short wide_size wide_changed 6 0 ≡ Ok tt)
 unfolding data_size_fault bytes16 bytes32 bytes_of word16_at word32_at entries_at words_of rotated code_after code_from data_code carried times copies header_of data_of stored_in found_in image_of copies_fault
 both-good = (refl, refl)
 
 pub codes-short-both-good :
-    (codes_short wide_size wide_zeros 6 0 ≡ Good)
-    × (codes_short wide_size wide_changed 6 0 ≡ Good)
-    × Judge wide_size wide_zeros 6 0 Good
-    × (Judge wide_size wide_changed 6 0 Good → ⊥)
+    (codes_short wide_size wide_zeros 6 0 ≡ Ok tt)
+    × (codes_short wide_size wide_changed 6 0 ≡ Ok tt)
+    × Judge wide_size wide_zeros 6 0 (Ok tt)
+    × (Judge wide_size wide_changed 6 0 (Ok tt) → ⊥)
 codes-short-both-good = (
   both-good.0,
   both-good.1,
-  accepts (λ k. refl) (rw (data-size-passes wide-size, wide-faults.0)) refl,
+  rw (data-size-passes wide-size, wide-faults.0),
   λ promise.
-      let fault : 0 ≡ (data_size_fault wide_size or_else image_fault wide_size wide_changed 6 0) = gives-number promise (λ said. said) (λ k. refl) refl in
-      let none : 0 ≡ bad_code = rw (data-size-passes wide-size, wide-faults.1) at fault in
+      let none : bad_code ≡ 0 = rw (data-size-passes wide-size, wide-faults.1) at promise in
       omega arith,
 )

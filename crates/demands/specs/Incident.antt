@@ -1,16 +1,17 @@
 -- The incident: a block was replaced by a spare of another cylinder. What makes reads of such a block safe: the arm moves the right way, the spare's bytes come back, and an image that was made for the home is not taken for the spare's. All of it is said of either size of a sector's data.
-use Rattle.std.specs.Prelude.{ℕ, ◌+◌, ◌%◌, ◌≡◌, Bool, false, List, [], ℤ, pos, ◌+ℤ◌, length, get_or, take, drop}
+use Rattle.std.specs.Prelude.{ℕ, ◌+◌, ◌%◌, ◌≡◌, Bool, false, List, [], ℤ, pos, ◌+ℤ◌, length, get_or, take, drop, Result}
 use Rattle.std.specs.Borrow.{Bor}
 use Rattle.paper.specs.Limits.{header_size, image_extra}
 use Rattle.paper.specs.Refusals.{other_block}
+use Rattle.paper.specs.Answers.{said_verdict}
+use Rattle.paper.specs.declared.Refusal.{Refusal}
 use Rattle.words.specs.Words.{Bytes}
 use Rattle.shape.specs.declared.Shape.{Shape}
 use Rattle.layout.specs.Layouts.{drive_of, home_cylinder, spare_cylinder}
 use Rattle.table.specs.Scratch.{Enough}
 use Rattle.spares.specs.Promises.{ShiftOf, said_shifted}
-use Rattle.image.specs.declared.Verdict.{Verdict}
 use Rattle.image.specs.Image.{image_of}
-use Rattle.image.specs.Promises.{said_verdict, Lends}
+use Rattle.image.specs.Promises.{Lends}
 use Rattle.reading.specs.Tracks.{bytes_in}
 use Rattle.reading.specs.Promises.{Data, Judge, Spots, said_spot}
 use Rattle.demands.specs.Relations.{AllowsOnly}
@@ -69,7 +70,7 @@ pub record Safe (size : ℕ) (shape : Shape) (r : ℕ) (t : List ℕ) (b q : ℕ
   -- nor the verdict
   pub same-verdict :
       (scratch again-scratch : List ℕ) → Enough shape r scratch → Enough shape r again-scratch →
-      (home other spare : List ℕ) (verdict again : Verdict) → length home ≡ length other →
+      (home other spare : List ℕ) (verdict again : Result Unit Refusal) → length home ≡ length other →
       Judge size shape r t scratch b home spare verdict → Judge size shape r t again-scratch b other spare again → verdict ≡ again
   -- where a good image of the block stands on the spare, with the block's descriptor for its header, exactly its data comes back, also where the home still has a good image with older data
   pub gives_back :

@@ -1,7 +1,7 @@
 -- Document 02, Q-7: what a table that passes has to do with the search that stops at a free place, and that no first table and no replacement leaves a hole; a field for each sentence.
-use Rattle.std.specs.Prelude.{ℕ, ◌<◌, ◌≡◌, List, length, get_or, take}
+use Rattle.std.specs.Prelude.{ℕ, ◌<◌, ◌≡◌, List, length, get_or, take, Result, Ok}
 use Rattle.paper.specs.Checks.{pick}
-use Rattle.paper.specs.declared.Written.TheVariants.{Length}
+use Rattle.paper.specs.declared.Refusal.{Refusal}
 use Rattle.seek.specs.Search.{Before}
 use Rattle.shape.specs.declared.Shape.{Shape}
 use Rattle.shape.specs.Shapes.{Shaped}
@@ -12,8 +12,6 @@ use Rattle.table.specs.Places.{table_length}
 use Rattle.table.specs.Rules.{Misplaced, Holed, Sound}
 use Rattle.table.specs.Lookup.{place_of, stop_of, StopsThere}
 use Rattle.first_table.specs.Promises.{FirstTable}
-use Rattle.spares.specs.declared.Replaced.{Replaced}
-use Rattle.spares.specs.declared.Replaced.TheVariants.{Place}
 use Rattle.spares.specs.Promises.{Replacement}
 use Rattle.demands.specs.Histories.{History}
 
@@ -30,20 +28,20 @@ pub record NoHoles : Type 0 where
       place_of t b ≡ pick (names (get_or t (stop_of (drive_of shape r) t b) 0) b) (stop_of (drive_of shape r) t b) (length t)
   -- A first table has no hole.
   pub first-table :
-      (shape : Shape) (r : ℕ) (list room : List ℕ) (long : ℕ) (after : List ℕ) → FirstTable shape r list room (Length long) after →
+      (shape : Shape) (r : ℕ) (list room : List ℕ) (long : ℕ) (after : List ℕ) → FirstTable shape r list room (Ok long) after →
       Holed (drive_of shape r) (take long after) → ⊥
   -- A replacement, of a block at home or on a spare, leaves none in a table that passes, accepted or refused.
   pub replacement :
-      (shape : Shape) (r : ℕ) (t scratch : List ℕ) (b : ℕ) (result : Replaced) (after : List ℕ) → Sound shape r t → Replacement shape r t scratch b result after →
+      (shape : Shape) (r : ℕ) (t scratch : List ℕ) (b : ℕ) (result : Result ℕ Refusal) (after : List ℕ) → Sound shape r t → Replacement shape r t scratch b result after →
       Holed (drive_of shape r) after → ⊥
   -- And no history of calls from a first table on leaves one, with the shape and r that the table was last written with.
   pub history :
       (shape last : Shape) (r last-r k killed : ℕ) (list t : List ℕ) → History shape r list k killed last last-r t → Holed (drive_of last last-r) t → ⊥
   -- A second replacement lands later in the block's search order than the place that it left,
   pub lands-later :
-      (shape : Shape) (r : ℕ) (t scratch : List ℕ) (b p q : ℕ) (after : List ℕ) → Replacement shape r t scratch b (Place q) after →
+      (shape : Shape) (r : ℕ) (t scratch : List ℕ) (b p q : ℕ) (after : List ℕ) → Replacement shape r t scratch b (Ok q) after →
       p < length t → Names (get_or t p 0) b → Before (order (length t) (primary (drive_of shape r) b)) p q
   -- and never on the primary.
   pub off-primary :
-      (shape : Shape) (r : ℕ) (t scratch : List ℕ) (b p q : ℕ) (after : List ℕ) → Replacement shape r t scratch b (Place q) after →
+      (shape : Shape) (r : ℕ) (t scratch : List ℕ) (b p q : ℕ) (after : List ℕ) → Replacement shape r t scratch b (Ok q) after →
       p < length t → Names (get_or t p 0) b → q ≡ primary (drive_of shape r) b → ⊥

@@ -1,108 +1,84 @@
 -- Demand 1 for each kind of answer: where its number stands, what a refusal says beside it, and what a refusal is.
-use Rattle.std.specs.Prelude.{ℕ, ◌≡◌, pos}
-use Rattle.paper.specs.Answers.{said_placed, said_named, said_written}
-use Rattle.paper.specs.declared.Placed.{Placed}
-use Rattle.paper.specs.declared.Placed.TheVariants.{Refused as NotPlaced}
-use Rattle.paper.specs.declared.Named.{Named}
-use Rattle.paper.specs.declared.Named.TheVariants.{Refused as NotNamed}
-use Rattle.paper.specs.declared.Written.{Written}
-use Rattle.paper.specs.declared.Written.TheVariants.{Refused as NotWritten}
+use Rattle.std.specs.Prelude.{ℕ, ◌≡◌, pos, ℤ, Option, Result, Ok, Err}
+use Rattle.paper.specs.Answers.{said_verdict, said_number, said_named}
+use Rattle.paper.specs.Numbers.{number}
+use Rattle.paper.specs.declared.Refusal.{Refusal}
 use Rattle.shape.specs.Promises.{said_located}
-use Rattle.shape.specs.declared.Located.{Located}
-use Rattle.shape.specs.declared.Located.TheVariants.{Refused as NotLocated}
-use Rattle.skip.specs.Promises.{said_job}
+use Rattle.shape.specs.declared.Address.{Address}
+use Rattle.skip.specs.Cursors.{no_cursor}
+use Rattle.skip.specs.Promises.{said_job, said_step}
 use Rattle.skip.specs.declared.Cursor.{Cursor}
-use Rattle.skip.specs.declared.Job.{Job}
-use Rattle.skip.specs.declared.Job.TheVariants.{Refused as NotReady}
 use Rattle.page.specs.Promises.{said_paged}
 use Rattle.page.specs.declared.Paged.{Paged}
-use Rattle.page.specs.declared.Paged.TheVariants.{Refused as NotPaged}
 use Rattle.format.specs.Promises.{said_formatted}
 use Rattle.format.specs.declared.Formatted.{Formatted}
-use Rattle.format.specs.declared.Formatted.TheVariants.{Refused as NotFormatted}
-use Rattle.spares.specs.Promises.{said_shifted, said_replaced, said_counted}
-use Rattle.spares.specs.declared.Shifted.{Shifted}
-use Rattle.spares.specs.declared.Shifted.TheVariants.{Refused as NotShifted}
-use Rattle.spares.specs.declared.Replaced.{Replaced}
-use Rattle.spares.specs.declared.Replaced.TheVariants.{Refused as NotReplaced}
-use Rattle.spares.specs.declared.Counted.{Counted}
-use Rattle.spares.specs.declared.Counted.TheVariants.{Refused as NotCounted}
-use Rattle.image.specs.Promises.{said_head, said_verdict}
+use Rattle.table.specs.declared.Census.{Census}
+use Rattle.spares.specs.Promises.{said_shifted, said_counted}
+use Rattle.image.specs.Promises.{said_head}
 use Rattle.image.specs.declared.Head.{Head}
-use Rattle.image.specs.declared.Head.TheVariants.{Refused as NoHead}
-use Rattle.image.specs.declared.Verdict.{Verdict}
-use Rattle.image.specs.declared.Verdict.TheVariants.{Refused as NotGood}
-use Rattle.mode.specs.Promises.{said_mode}
-use Rattle.mode.specs.declared.Mode.{Mode}
-use Rattle.mode.specs.declared.Mode.TheVariants.{Refused as NoMode}
 use Rattle.reading.specs.Promises.{said_tracks, said_spot}
-use Rattle.reading.specs.declared.answers.Tracks.{Tracks}
-use Rattle.reading.specs.declared.answers.Tracks.TheVariants.{Refused as NotFetched}
+use Rattle.reading.specs.declared.answers.Pair.{Pair}
 use Rattle.reading.specs.declared.answers.Spot.{Spot}
-use Rattle.reading.specs.declared.answers.Spot.TheVariants.{Refused as NotSpotted}
 use Rattle.demands.specs.Relations.{ByTheNumbers}
 
--- a sector
-abbrev pub PlacedBy : (ℕ → Type 0) → Placed → Type 0
-PlacedBy = ByTheNumbers said_placed (λ numbers. numbers.0) (λ k. (k, 0)) (λ k result. result ≡ NotPlaced k)
+-- a result that is a refusal with this number
+abbrev pub RefusedBy : {Answer : Type 0} → ℕ → Result Answer Refusal → Type 0
+RefusedBy k (Ok answer) = ⊥
+RefusedBy k (Err refusal) = number refusal ≡ k
+
+-- a sector, a length, a place or a size
+abbrev pub NumberBy : (ℕ → Type 0) → Result ℕ Refusal → Type 0
+NumberBy = ByTheNumbers said_number (λ numbers. numbers.0) (λ k. (k, 0)) RefusedBy
 
 -- a block or no block
-abbrev pub NamedBy : (ℕ → Type 0) → Named → Type 0
-NamedBy = ByTheNumbers said_named (λ numbers. numbers.0) (λ k. (k, 0, 0)) (λ k result. result ≡ NotNamed k)
-
--- a length
-abbrev pub WrittenBy : (ℕ → Type 0) → Written → Type 0
-WrittenBy = ByTheNumbers said_written (λ numbers. numbers.0) (λ k. (k, 0)) (λ k result. result ≡ NotWritten k)
+abbrev pub NamedBy : (ℕ → Type 0) → Result (Option ℕ) Refusal → Type 0
+NamedBy = ByTheNumbers said_named (λ numbers. numbers.0) (λ k. (k, 0, 0)) RefusedBy
 
 -- cylinder, head and sector
-abbrev pub LocatedBy : (ℕ → Type 0) → Located → Type 0
-LocatedBy = ByTheNumbers said_located (λ numbers. numbers.0) (λ k. (k, 0, 0, 0, 0)) (λ k result. result ≡ NotLocated k)
+abbrev pub LocatedBy : (ℕ → Type 0) → Result Address Refusal → Type 0
+LocatedBy = ByTheNumbers said_located (λ numbers. numbers.0) (λ k. (k, 0, 0, 0, 0)) RefusedBy
 
--- a job that is refused with a number, whatever cursor it hands back
-pub record JobRefused (k : ℕ) (job : Job) : Type 0 where
-  pub back : Cursor
-  pub is : job ≡ NotReady k back
+-- the cursor of a job that is started or checked; a refusal says an empty cursor
+abbrev pub JobBy : (ℕ → Type 0) → Result Cursor Refusal → Type 0
+JobBy = ByTheNumbers said_job (λ numbers. numbers.0) (λ k. (k, 0, no_cursor.block, no_cursor.skipped)) RefusedBy
 
--- a sector and the cursor after it; a refusal hands back a cursor, and says it; and no job is refused with number 0, whatever cursor comes with it
-abbrev pub JobBy : Cursor → (ℕ → Type 0) → Job → Type 0
-JobBy back = ByTheNumbers said_job (λ numbers. numbers.0) (λ k. (k, 0, back.block, back.skipped)) JobRefused
+-- a sector and the cursor that is left; a refusal says the cursor that went in; and no step is refused with number 0, whatever cursor it leaves
+abbrev pub StepBy : Cursor → (ℕ → Type 0) → Result ℕ Refusal × Cursor → Type 0
+StepBy back =
+    ByTheNumbers
+    (λ (outcome : Result ℕ Refusal × Cursor). said_step outcome.0 outcome.1)
+    (λ numbers. numbers.0)
+    (λ k. (k, 0, back.block, back.skipped))
+    (λ k outcome. RefusedBy k outcome.0)
 
 -- kind, N and entries
-abbrev pub PagedBy : (ℕ → Type 0) → Paged → Type 0
-PagedBy = ByTheNumbers said_paged (λ numbers. numbers.0) (λ k. (k, 0, 0, 0)) (λ k result. result ≡ NotPaged k)
+abbrev pub PagedBy : (ℕ → Type 0) → Result Paged Refusal → Type 0
+PagedBy = ByTheNumbers said_paged (λ numbers. numbers.0) (λ k. (k, 0, 0, 0)) RefusedBy
 
 -- two lengths and a space
-abbrev pub FormattedBy : (ℕ → Type 0) → Formatted → Type 0
-FormattedBy = ByTheNumbers said_formatted (λ numbers. numbers.0) (λ k. (k, 0, 0, 0)) (λ k result. result ≡ NotFormatted k)
+abbrev pub FormattedBy : (ℕ → Type 0) → Result Formatted Refusal → Type 0
+FormattedBy = ByTheNumbers said_formatted (λ numbers. numbers.0) (λ k. (k, 0, 0, 0)) RefusedBy
 
 -- a shift
-abbrev pub ShiftedBy : (ℕ → Type 0) → Shifted → Type 0
-ShiftedBy = ByTheNumbers said_shifted (λ numbers. numbers.0) (λ k. (k, pos 0)) (λ k result. result ≡ NotShifted k)
-
--- a place
-abbrev pub ReplacedBy : (ℕ → Type 0) → Replaced → Type 0
-ReplacedBy = ByTheNumbers said_replaced (λ numbers. numbers.0) (λ k. (k, 0)) (λ k result. result ≡ NotReplaced k)
+abbrev pub ShiftedBy : (ℕ → Type 0) → Result ℤ Refusal → Type 0
+ShiftedBy = ByTheNumbers said_shifted (λ numbers. numbers.0) (λ k. (k, pos 0)) RefusedBy
 
 -- five counts
-abbrev pub CountedBy : (ℕ → Type 0) → Counted → Type 0
-CountedBy = ByTheNumbers said_counted (λ numbers. numbers.0) (λ k. (k, 0, 0, 0, 0, 0)) (λ k result. result ≡ NotCounted k)
+abbrev pub CountedBy : (ℕ → Type 0) → Result Census Refusal → Type 0
+CountedBy = ByTheNumbers said_counted (λ numbers. numbers.0) (λ k. (k, 0, 0, 0, 0, 0)) RefusedBy
 
 -- a code and a block
-abbrev pub HeadBy : (ℕ → Type 0) → Head → Type 0
-HeadBy = ByTheNumbers said_head (λ numbers. numbers.0) (λ k. (k, 0, 0)) (λ k result. result ≡ NoHead k)
+abbrev pub HeadBy : (ℕ → Type 0) → Result Head Refusal → Type 0
+HeadBy = ByTheNumbers said_head (λ numbers. numbers.0) (λ k. (k, 0, 0)) RefusedBy
 
 -- a verdict, which is its number alone
-abbrev pub VerdictBy : (ℕ → Type 0) → Verdict → Type 0
-VerdictBy = ByTheNumbers said_verdict (λ number. number) (λ k. k) (λ k result. result ≡ NotGood k)
-
--- a size
-abbrev pub ModeBy : (ℕ → Type 0) → Mode → Type 0
-ModeBy = ByTheNumbers said_mode (λ numbers. numbers.0) (λ k. (k, 0)) (λ k result. result ≡ NoMode k)
+abbrev pub VerdictBy : (ℕ → Type 0) → Result Unit Refusal → Type 0
+VerdictBy = ByTheNumbers said_verdict (λ number. number) (λ k. k) RefusedBy
 
 -- two tracks and a shift
-abbrev pub TracksBy : (ℕ → Type 0) → Tracks → Type 0
-TracksBy = ByTheNumbers said_tracks (λ numbers. numbers.0) (λ k. (k, 0, 0, 0, 0, pos 0)) (λ k result. result ≡ NotFetched k)
+abbrev pub TracksBy : (ℕ → Type 0) → Result Pair Refusal → Type 0
+TracksBy = ByTheNumbers said_tracks (λ numbers. numbers.0) (λ k. (k, 0, 0, 0, 0, pos 0)) RefusedBy
 
 -- an image and an offset
-abbrev pub SpotBy : (ℕ → Type 0) → Spot → Type 0
-SpotBy = ByTheNumbers said_spot (λ numbers. numbers.0) (λ k. (k, 0, 0)) (λ k result. result ≡ NotSpotted k)
+abbrev pub SpotBy : (ℕ → Type 0) → Result Spot Refusal → Type 0
+SpotBy = ByTheNumbers said_spot (λ numbers. numbers.0) (λ k. (k, 0, 0)) RefusedBy

@@ -58,7 +58,11 @@ One {Outcome} shown Promise = (first second : Outcome) → Promise first → Pro
 abbrev pub OneResult : {Result : Type 0} → (Result → Type 0) → Type 0
 OneResult {Result} Promise = One (λ (result : Result). result) Promise
 
--- so are a result and what a lent room then holds
+-- so are a result and the cursor that a step leaves
+abbrev pub OneStep : {Result : Type 0} → (Result → Cursor → Type 0) → Type 0
+OneStep {Result} Promise = One (λ (outcome : Result × Cursor). outcome) (λ outcome. Promise outcome.0 outcome.1)
+
+-- and a result and what a lent room then holds
 abbrev pub OneFilled : {Result : Type 0} → (Result → List ℕ → Type 0) → Type 0
 OneFilled {Result} Promise = One (λ (outcome : Result × List ℕ). outcome) (λ outcome. Promise outcome.0 outcome.1)
 

@@ -1,9 +1,9 @@
 -- Document 01, "Numbers to try": those that are marked P, and some of ours beside them; document 02, Q-9: angles, Q-3: spares that die, Q-6: scratch, Q-7: holes, Q-4: headers, and Q-10: sizes and the mode sector; all as the rows of one table, and what it is for a row to hold.
-use Rattle.std.specs.Prelude.{ℕ, zero, suc, ◌+◌, ◌-◌, ◌*◌, ◌%◌, ◌<◌, ◌≤◌, ◌≡◌, Bool, true, false, List, [], ◌∷◌, ◌++◌, ℤ, pos, negsuc, length, take, replicate, set}
-use Rattle.paper.specs.Answers.{said_placed, said_named, said_written}
+use Rattle.std.specs.Prelude.{ℕ, zero, suc, ◌+◌, ◌-◌, ◌*◌, ◌%◌, ◌<◌, ◌≤◌, ◌≡◌, Bool, true, false, List, [], ◌∷◌, ◌++◌, ℤ, pos, negsuc, length, take, replicate, set, Result}
+use Rattle.paper.specs.Answers.{said_number, said_named, said_verdict}
 use Rattle.paper.specs.Limits.{header_size, image_extra}
-use Rattle.paper.specs.declared.Written.{Written}
 use Rattle.paper.specs.Promise.{written}
+use Rattle.paper.specs.declared.Refusal.{Refusal}
 use Rattle.shape.specs.declared.Shape.{Shape}
 use Rattle.shape.specs.Promises as Shapes
 use Rattle.skip.specs.Promises as Skip
@@ -12,14 +12,13 @@ use Rattle.format.specs.Promises.{said_formatted, Formats}
 use Rattle.layout.specs.Layouts.{drive_of}
 use Rattle.table.specs.Scratch.{Enough}
 use Rattle.first_table.specs.Promises.{FirstTable}
-use Rattle.spares.specs.declared.Replaced.{Replaced}
 use Rattle.spares.specs.Promises as Spares
 use Rattle.words.specs.Coded.{code_unit}
 use Rattle.words.specs.Words.{bytes16, Bytes, bytes_of}
 use Rattle.image.specs.Header.{Known}
 use Rattle.image.specs.Image.{copies, stored_in, image_of}
-use Rattle.image.specs.Promises.{Write, Header, Judge, said_head, said_verdict}
-use Rattle.mode.specs.Promises.{Finds, said_mode}
+use Rattle.image.specs.Promises.{Write, Header, Judge, said_head}
+use Rattle.mode.specs.Promises.{Finds}
 use Rattle.reading.specs.Promises as Reading
 use Rattle.demands.specs.Relations.{AllowsOnly}
 use Rattle.demands.specs.Headers.{Holding}
@@ -78,29 +77,29 @@ pub data Row : Type 0 where
 
 -- a row holds where the promise of its call allows its figures alone, in any room and with any scratch that is long enough
 abbrev pub Holds : Row → Type 0
-Holds (skip-sector n list block figures) = AllowsOnly (Skip.SectorOf n list block) (λ answer. said_placed answer ≡ figures)
+Holds (skip-sector n list block figures) = AllowsOnly (Skip.SectorOf n list block) (λ answer. said_number answer ≡ figures)
 Holds (skip_block n list sector figures) = AllowsOnly (Skip.BlockOn n list sector) (λ answer. said_named answer ≡ figures)
 Holds (shape-address shape sector figures) = AllowsOnly (Shapes.AddressOf shape sector) (λ answer. Shapes.said_located answer ≡ figures)
 Holds (format n p g space option d grown list next) =
     (first second : List ℕ) → length grown ≤ length first → length list ≤ length second →
     AllowsOnly
-    (λ (answer : Formatted × List ℕ × List ℕ). Formats n p g space option d first second answer.0 answer.1 answer.2)
+    (λ (answer : Result Formatted Refusal × List ℕ × List ℕ). Formats n p g space option d first second answer.0 answer.1 answer.2)
     (λ answer. (said_formatted answer.0 ≡ (0, length grown, length list, next)) × (answer.1 ≡ written grown first) × (answer.2 ≡ written list second))
 Holds (spare-first shape r list table) =
     (room : List ℕ) → length table ≤ length room →
     AllowsOnly
-    (λ (answer : Written × List ℕ). FirstTable shape r list room answer.0 answer.1)
-    (λ answer. (said_written answer.0 ≡ (0, length table)) × (answer.1 ≡ written table room))
+    (λ (answer : Result ℕ Refusal × List ℕ). FirstTable shape r list room answer.0 answer.1)
+    (λ answer. (said_number answer.0 ≡ (0, length table)) × (answer.1 ≡ written table room))
 Holds (spare-replace shape r table block place after) =
     (scratch : List ℕ) → Enough shape r scratch →
     AllowsOnly
-    (λ (answer : Replaced × List ℕ). Spares.Replacement shape r table scratch block answer.0 answer.1)
-    (λ answer. (Spares.said_replaced answer.0 ≡ (0, place)) × (answer.1 ≡ after))
+    (λ (answer : Result ℕ Refusal × List ℕ). Spares.Replacement shape r table scratch block answer.0 answer.1)
+    (λ answer. (said_number answer.0 ≡ (0, place)) × (answer.1 ≡ after))
 Holds (spare-full shape r table) =
     (scratch : List ℕ) → Enough shape r scratch → (block : ℕ) → block < (drive_of shape r).blocks →
     AllowsOnly
-    (λ (answer : Replaced × List ℕ). Spares.Replacement shape r table scratch block answer.0 answer.1)
-    (λ answer. (Spares.said_replaced answer.0 ≡ (13, 0)) × (answer.1 ≡ table))
+    (λ (answer : Result ℕ Refusal × List ℕ). Spares.Replacement shape r table scratch block answer.0 answer.1)
+    (λ answer. (said_number answer.0 ≡ (13, 0)) × (answer.1 ≡ table))
 Holds (spare-shift shape r table block figures) =
     (scratch : List ℕ) → Enough shape r scratch →
     AllowsOnly (Spares.ShiftOf shape r table scratch block) (λ answer. Spares.said_shifted answer ≡ figures)
@@ -112,7 +111,7 @@ Holds (spare-address shape r table block figures) =
     AllowsOnly (Spares.AddressOf shape r table scratch block) (λ answer. Shapes.said_located answer ≡ figures)
 Holds (spare-sector shape r table block figures) =
     (scratch : List ℕ) → Enough shape r scratch →
-    AllowsOnly (Spares.SectorOf shape r table scratch block) (λ answer. said_placed answer ≡ figures)
+    AllowsOnly (Spares.SectorOf shape r table scratch block) (λ answer. said_number answer ≡ figures)
 Holds (spare-block shape r table sector figures) =
     (scratch : List ℕ) → Enough shape r scratch →
     AllowsOnly (Spares.BlockOn shape r table scratch sector) (λ answer. said_named answer ≡ figures)
@@ -121,22 +120,22 @@ Holds (spare-census shape r table figures) =
     AllowsOnly (Spares.CensusOf shape r table scratch) (λ answer. Spares.said_counted answer ≡ figures)
 Holds (spare-short shape r table) =
     (scratch : List ℕ) → length scratch < (drive_of shape r).spares → (block : ℕ) →
-    AllowsOnly (Spares.SectorOf shape r table scratch block) (λ answer. said_placed answer ≡ (7, 0))
+    AllowsOnly (Spares.SectorOf shape r table scratch block) (λ answer. said_number answer ≡ (7, 0))
 Holds (image-write size forced bytes code) =
     (block header-code : ℕ) → block < code_unit → Known header-code → (room : List ℕ) → size + image_extra ≤ length room →
     AllowsOnly
-    (λ (answer : Written × List ℕ). Write size block header-code bytes forced room answer.0 answer.1)
-    (λ answer. (said_written answer.0 ≡ (0, size + image_extra)) × (stored_in size answer.1 ≡ code))
+    (λ (answer : Result ℕ Refusal × List ℕ). Write size block header-code bytes forced room answer.0 answer.1)
+    (λ answer. (said_number answer.0 ≡ (0, size + image_extra)) × (stored_in size answer.1 ≡ code))
 Holds (image-heads size block code heads) =
     (bytes : List ℕ) (forced : Bool) (room : List ℕ) → length bytes ≡ size → size + image_extra ≤ length room →
     AllowsOnly
-    (λ (answer : Written × List ℕ). Write size block code bytes forced room answer.0 answer.1)
-    (λ answer. (said_written answer.0 ≡ (0, size + image_extra)) × (copies answer.1 ≡ heads))
+    (λ (answer : Result ℕ Refusal × List ℕ). Write size block code bytes forced room answer.0 answer.1)
+    (λ answer. (said_number answer.0 ≡ (0, size + image_extra)) × (copies answer.1 ≡ heads))
 Holds (image-unwritten size block code data-length room-length refusal) =
     (bytes : List ℕ) (forced : Bool) (room : List ℕ) → length bytes ≡ data-length → length room ≡ room-length →
     AllowsOnly
-    (λ (answer : Written × List ℕ). Write size block code bytes forced room answer.0 answer.1)
-    (λ answer. (said_written answer.0 ≡ (refusal, 0)) × (answer.1 ≡ room))
+    (λ (answer : Result ℕ Refusal × List ℕ). Write size block code bytes forced room answer.0 answer.1)
+    (λ answer. (said_number answer.0 ≡ (refusal, 0)) × (answer.1 ≡ room))
 Holds (image-header size heads figures) =
     (rest : List ℕ) → header_size + length rest ≡ size + image_extra → AllowsOnly (Header size (bytes_of heads ++ rest)) (λ answer. said_head answer ≡ figures)
 Holds (image-judge size heads block code refusal) =
@@ -151,7 +150,7 @@ Holds (read-judge size shape r table block number refusal) =
 Holds (read-unsized size) =
     (shape : Shape) (r : ℕ) (table scratch : List ℕ) (block : ℕ) (home spare : List ℕ) →
     AllowsOnly (Reading.Judge size shape r table scratch block home spare) (λ answer. said_verdict answer ≡ 1)
-Holds (mode-find images apart figures) = AllowsOnly (Finds images apart) (λ answer. said_mode answer ≡ figures)
+Holds (mode-find images apart figures) = AllowsOnly (Finds images apart) (λ answer. said_number answer ≡ figures)
 
 -- every row of a table holds
 infixr 20 ◌also◌

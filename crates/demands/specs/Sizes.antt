@@ -1,25 +1,19 @@
 -- Document 02, Q-10: sectors of 512 or of 576 data bytes, and the mode sector, which says which of the two a drive has. The record `Sizes`, at the end, has a field for each sentence.
 -- That every other size is refused 1, before all else, is said by demand 1; so are there and back, changed data, and when each number is given.
-use Rattle.std.specs.Prelude.{ℕ, ◌+◌, ◌*◌, ◌<◌, ◌≡◌, Bool, ◌⊎◌, List, [], length}
+use Rattle.std.specs.Prelude.{ℕ, ◌+◌, ◌*◌, ◌<◌, ◌≡◌, Bool, ◌⊎◌, List, [], length, Result, Ok, Err}
 use Rattle.std.specs.Borrow.{Bor}
 use Rattle.paper.specs.Limits.{image_extra, Size}
-use Rattle.paper.specs.Refusals.{out_of_range, wrong_length, no_mode}
-use Rattle.paper.specs.declared.Written.{Written}
-use Rattle.paper.specs.declared.Written.TheVariants.{Refused as NotWritten}
+use Rattle.paper.specs.declared.Refusal.{Refusal}
+use Rattle.paper.specs.declared.Refusal.TheVariants.{OutOfRange, WrongLength, NoMode}
 use Rattle.shape.specs.declared.Shape.{Shape}
 use Rattle.layout.specs.Layouts.{drive_of}
 use Rattle.table.specs.Rules.{Sound}
 use Rattle.table.specs.Scratch.{Enough}
 use Rattle.image.specs.declared.Head.{Head}
-use Rattle.image.specs.declared.Head.TheVariants.{Refused as NoHead}
-use Rattle.image.specs.declared.Verdict.{Verdict}
-use Rattle.image.specs.declared.Verdict.TheVariants.{Refused as NotGood}
 use Rattle.image.specs.Promises as Image
-use Rattle.mode.specs.declared.Mode.TheVariants.{Of, Refused as NoMode}
 use Rattle.mode.specs.Modes.{SaysSize, FirstSays}
 use Rattle.mode.specs.Promises.{Finds}
 use Rattle.reading.specs.declared.answers.Spot.{Spot}
-use Rattle.reading.specs.declared.answers.Spot.TheVariants.{Refused as NotSpotted}
 use Rattle.reading.specs.Promises as Reading
 use Rattle.demands.specs.Incident.{WholeTrack}
 
@@ -41,39 +35,39 @@ pub record Sizes : Type 0 where
   -- data of the one size is not written at the other: 14, and the room is as it was
   pub other-data :
       (size other block code : ℕ) (bytes : List ℕ) (forced : Bool) (room : List ℕ) → OtherSize size other → length bytes ≡ other →
-      (result : Written) (after : List ℕ) → Image.Write size block code bytes forced room result after → (result ≡ NotWritten wrong_length) × (after ≡ room)
+      (result : Result ℕ Refusal) (after : List ℕ) → Image.Write size block code bytes forced room result after → (result ≡ Err WrongLength) × (after ≡ room)
   -- an image of the one size is refused 14 at the other, by the header's reader and by the verdict, and gives no data
   pub other-header :
       (size other : ℕ) (image : List ℕ) → OtherSize size other → length image ≡ other + image_extra →
-      (result : Head) → Image.Header size image result → result ≡ NoHead wrong_length
+      (result : Result Head Refusal) → Image.Header size image result → result ≡ Err WrongLength
   pub other-image :
       (size other : ℕ) (image : List ℕ) (block code : ℕ) → OtherSize size other → length image ≡ other + image_extra →
-      (result : Verdict) → Image.Judge size image block code result → result ≡ NotGood wrong_length
+      (result : Result Unit Refusal) → Image.Judge size image block code result → result ≡ Err WrongLength
   pub other-image-gives-none :
       (size other : ℕ) (image : Bor (List ℕ)) (block code : ℕ) → OtherSize size other → length image.now ≡ other + image_extra →
       (part : Bor (List ℕ)) → Image.Data size image block code part → part.now ≡ []
   -- so is a read of which either track has the other size
   pub other-track :
       (size other : ℕ) (shape : Shape) (r : ℕ) (t scratch : List ℕ) (b : ℕ) (home spare : List ℕ) → OtherTrack size other shape r t scratch b home spare →
-      (result : Verdict) → Reading.Judge size shape r t scratch b home spare result → result ≡ NotGood wrong_length
+      (result : Result Unit Refusal) → Reading.Judge size shape r t scratch b home spare result → result ≡ Err WrongLength
   pub other-track-spot :
       (size other : ℕ) (shape : Shape) (r : ℕ) (t scratch : List ℕ) (b : ℕ) (home spare : List ℕ) → OtherTrack size other shape r t scratch b home spare →
-      (result : Spot) → Reading.Spots size shape r t scratch b home spare result → result ≡ NotSpotted wrong_length
+      (result : Result Spot Refusal) → Reading.Spots size shape r t scratch b home spare result → result ≡ Err WrongLength
   pub other-track-gives-none :
       (size other : ℕ) (shape : Shape) (r : ℕ) (t scratch : List ℕ) (b : ℕ) (home spare : Bor (List ℕ)) → OtherTrack size other shape r t scratch b home.now spare.now →
       (part : Bor (List ℕ)) → Reading.Data size shape r t scratch b home spare part → part.now ≡ []
   -- the mode is a size exactly where the copies are some sectors apart, some copy says that size, and no earlier copy says any
   pub mode-first :
-      (images : List ℕ) (apart size : ℕ) → Finds images apart (Of size) → (apart ≡ 0 → ⊥) × FirstSays images apart size
+      (images : List ℕ) (apart size : ℕ) → Finds images apart (Ok size) → (apart ≡ 0 → ⊥) × FirstSays images apart size
   pub first-mode :
-      (images : List ℕ) (apart size : ℕ) → (apart ≡ 0 → ⊥) → FirstSays images apart size → Finds images apart (Of size)
+      (images : List ℕ) (apart size : ℕ) → (apart ≡ 0 → ⊥) → FirstSays images apart size → Finds images apart (Ok size)
   -- and so it goes into the other calls as it is
-  pub mode-size : (images : List ℕ) (apart size : ℕ) → Finds images apart (Of size) → Size size
+  pub mode-size : (images : List ℕ) (apart size : ℕ) → Finds images apart (Ok size) → Size size
   -- 21 exactly where the copies are some sectors apart and no copy says any size
   pub no-mode-none :
-      (images : List ℕ) (apart : ℕ) → Finds images apart (NoMode no_mode) → (apart ≡ 0 → ⊥) × ((k size : ℕ) → SaysSize images (k * apart) size → ⊥)
+      (images : List ℕ) (apart : ℕ) → Finds images apart (Err NoMode) → (apart ≡ 0 → ⊥) × ((k size : ℕ) → SaysSize images (k * apart) size → ⊥)
   pub none-no-mode :
-      (images : List ℕ) (apart : ℕ) → (apart ≡ 0 → ⊥) → ((k size : ℕ) → SaysSize images (k * apart) size → ⊥) → Finds images apart (NoMode no_mode)
+      (images : List ℕ) (apart : ℕ) → (apart ≡ 0 → ⊥) → ((k size : ℕ) → SaysSize images (k * apart) size → ⊥) → Finds images apart (Err NoMode)
   -- 1 exactly where they are none apart
-  pub no-mode-apart : (images : List ℕ) (apart : ℕ) → Finds images apart (NoMode out_of_range) → apart ≡ 0
-  pub apart-no-mode : (images : List ℕ) → Finds images 0 (NoMode out_of_range)
+  pub no-mode-apart : (images : List ℕ) (apart : ℕ) → Finds images apart (Err OutOfRange) → apart ≡ 0
+  pub apart-no-mode : (images : List ℕ) → Finds images 0 (Err OutOfRange)

@@ -1,12 +1,12 @@
 -- The bad home blocks and bad spares of a list: which they are, and how many, by a walk along the list.
 -- Assumes nothing.
-use Prim.Native.Nat.{ℕ, ◌+◌, ◌*◌, ◌<◌, ◌≤◌}
-use mathlib.Core.Path.{◌≡◌, refl, sym, ◌∙◌, ap}
+use Prim.Native.Nat.{ℕ, ◌-◌, ◌*◌, ◌<◌, ◌≤◌}
+use mathlib.Core.Path.{◌≡◌, sym, ◌∙◌, ap}
 use mathlib.Core.Bool.{true, not}
 use mathlib.Core.List.{List}
 use native.Mathlib.Omega.{arith}
-use lib.ListN.{length, get_or, drop}
-use Rattle.paper.proofs.Cases.{by_bool}
+use lib.ListN.{length}
+use Rattle.std.specs.Prelude.{count_by}
 use Rattle.paper.proofs.Rows.{Tells}
 use Rattle.seek.specs.Search.{rising}
 use Rattle.seek.proofs.Counts.{count-le}
@@ -16,11 +16,10 @@ use Rattle.layout.specs.declared.Drive.{Drive}
 use Rattle.layout.specs.Layouts.{sectors_per_track, home_sector}
 use Rattle.layout.specs.Steps.{Laid}
 use Rattle.layout.specs.Sides.{is_home, block_of_home, place_of_spare}
-use Rattle.first_table.specs.declared.marks.Bad.{Bad}
 use Rattle.first_table.specs.Marks.{is_bad_home, is_bad_spare, bad_homes, bad_spares}
-use Rattle.first_table.specs.Steps.{counted_also, CountsBad}
+use Rattle.first_table.specs.Steps.{CountsBad}
 use Rattle.first_table.proofs.Passings.{tells-passing, tells-run, passing-rises, passing-counted, run-rises}
-use Rattle.first_table.proofs.Entries.{entries, walk_here, walk-next, walk-over, passing-entries}
+use Rattle.first_table.proofs.Entries.{entries, entries-counted, entries-split, passing-entries}
 use Rattle.first_table.proofs.Numbering.{homes-numbered, spares-numbered}
 
 -- the blocks of the entries that are homes, and the places of those that are spares
@@ -59,40 +58,9 @@ module _ {drive : Drive} (laid : Laid drive) {list : List ℕ} (proper : Proper 
       sym (passing-counted (is_bad_spare drive list) drive.spares)
       ∙ ap length (passing-entries (spares-numbered laid) list proper.rising proper.inside)
 
--- the counts of what is passed, up to a place of the list
-pub record Counting (drive : Drive) (list : List ℕ) (bad : Bad) (i : ℕ) : Type 0 where
-  pub within : i ≤ length list
-  pub all-passed : bad.homes + bad.spares ≡ i
-  pub homes-passed : bad.homes + length (homes_along drive (drop i list)) ≡ length (homes_along drive list)
-  pub spares-passed : bad.spares + length (spares_along drive (drop i list)) ≡ length (spares_along drive list)
-
-pub counting-none : (drive : Drive) (list : List ℕ) → Counting drive list (record { homes = 0; spares = 0 }) 0
-counting-none drive list = record { within = omega arith; all-passed = refl; homes-passed = omega arith; spares-passed = omega arith }
-
-module _ {drive : Drive} {list : List ℕ} {bad : Bad} {i : ℕ} (counting : Counting drive list bad i) where
-  pub counting_more : i < length list → Counting drive list (counted_also drive (get_or list i 0) bad) (i + 1)
-  counting_more h =
-      by_bool (is_home drive (get_or list i 0))
-      (λ e.
-      rw e
-      (record {
-        within = omega arith;
-        all-passed = omega (arith, counting.all-passed);
-        homes-passed = omega (arith, counting.homes-passed, ap length (walk_here (is_home drive) (block_of_home drive) list i h e));
-        spares-passed = omega (arith, counting.spares-passed, ap length (walk-next (λ s. not (is_home drive s)) (place_of_spare drive) list i h (rw e)));
-      }))
-      (λ e.
-      rw e
-      (record {
-        within = omega arith;
-        all-passed = omega (arith, counting.all-passed);
-        homes-passed = omega (arith, counting.homes-passed, ap length (walk-next (is_home drive) (block_of_home drive) list i h e));
-        spares-passed = omega (arith, counting.spares-passed, ap length (walk_here (λ s. not (is_home drive s)) (place_of_spare drive) list i h (rw e)));
-      }))
-
-  pub counting-all : Laid drive → Proper (drive.tracks * sectors_per_track drive) list → length list ≤ i → CountsBad drive list bad
-  counting-all laid proper h =
-      record {
-        are-homes = omega (arith, counting.homes-passed, ap length (walk-over (is_home drive) (block_of_home drive) list i h), ap length (homes-along laid proper));
-        are-spares = omega (arith, counting.spares-passed, ap length (walk-over (λ s. not (is_home drive s)) (place_of_spare drive) list i h), spares-along laid proper);
-      }
+  -- the bad home blocks are as many as the sectors of homes, and the bad spares as many as the others
+  pub counts-bad : {homes : ℕ} → homes ≡ count_by (is_home drive) list → CountsBad drive list (record { homes = homes; spares = length list - homes })
+  counts-bad {homes} counted =
+      let along : homes ≡ length (homes_along drive list) = counted ∙ entries-counted (is_home drive) (block_of_home drive) list in
+      let both = entries-split (is_home drive) (block_of_home drive) (place_of_spare drive) list in
+      record { are-homes = along ∙ ap length (sym homes-along); are-spares = sym (spares-along ∙ omega (arith, along, both)) }

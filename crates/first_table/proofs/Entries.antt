@@ -2,10 +2,12 @@
 -- Assumes nothing.
 use Prim.Native.Nat.{ℕ, ◌+◌, ◌<◌, ◌≤◌}
 use mathlib.Core.Path.{◌≡◌, refl, sym, ◌∙◌, ap}
-use mathlib.Core.Bool.{Bool, true, false, true≢false}
+use mathlib.Core.Bool.{Bool, true, false, not, true≢false}
 use mathlib.Core.List.{List, [], ◌∷◌}
 use native.Mathlib.Omega.{arith}
 use lib.ListN.{length, get_or, drop}
+use Rattle.std.specs.Prelude.{count_by}
+use Rattle.std.proofs.lemmas.List.Recursion.{is_count_by}
 use Rattle.paper.specs.Checks.{pick}
 use Rattle.paper.proofs.Cases.{by_bool, by_eq, by_lt}
 use Rattle.paper.proofs.Rows.{Tells}
@@ -49,6 +51,22 @@ module _ (of_kind : ℕ → Bool) (number : ℕ → ℕ) where
 
   pub walk-over : (list : List ℕ) (i : ℕ) → length list ≤ i → entries of_kind number (drop i list) ≡ []
   walk-over list i h = ap (entries of_kind number) (drop_past list i h) ∙ entries-nil
+
+  -- so many entries are of the kind
+  pub entries-counted : (list : List ℕ) → count_by of_kind list ≡ length (entries of_kind number list)
+  unfolding entries
+  entries-counted list =
+      sym (is_count_by (λ sectors. length (entries of_kind number sectors)) of_kind refl (λ s sectors. by_bool (of_kind s) (λ e. rw e (omega arith)) (λ e. rw e)) list)
+
+-- and the others are of the other kind
+pub entries-split :
+    (of_kind : ℕ → Bool) (number other : ℕ → ℕ) (list : List ℕ) →
+    length (entries of_kind number list) + length (entries (λ s. not (of_kind s)) other list) ≡ length list
+unfolding entries
+entries-split of_kind number other [] = refl
+entries-split of_kind number other (s ∷ list) =
+    let rest = entries-split of_kind number other list in
+    by_bool (of_kind s) (λ e. rw e (omega (arith, rest))) (λ e. rw e (omega (arith, rest)))
 
 -- so many sectors of a kind on a drive of a size: their numbers and sectors rise together, and lead back to each other
 pub record Numbered (of_kind : ℕ → Bool) (number sector : ℕ → ℕ) (many size : ℕ) : Type 0 where

@@ -1,6 +1,6 @@
 -- For the code alone: no sentence of the paper needs it.
--- What one more bad sector does to a table and to the counts, and what the replacement of many blocks asks for.
-use Rattle.std.specs.Prelude.{ℕ, ◌+◌, ◌≤◌, ◌≡◌, true, List, length, set}
+-- What one more bad sector does to a table, the counts of a list, and what the replacement of many blocks asks for.
+use Rattle.std.specs.Prelude.{ℕ, ◌≤◌, ◌≡◌, true, List, length, set}
 use Rattle.paper.specs.Checks.{pick}
 use Rattle.lists.specs.Proper.{Rising, Inside}
 use Rattle.lists.specs.Union.{is_in}
@@ -17,13 +17,6 @@ use Rattle.first_table.specs.Marks.{bad_homes, bad_spares}
 -- a table with one more bad sector: its spare is marked, and a home sector alters nothing
 abbrev pub marked_also : Drive → ℕ → List ℕ → List ℕ
 marked_also drive s t = pick (is_home drive s) t (set t (place_of_spare drive s) (word_of unusable 0))
-
--- the counts with one more bad sector
-abbrev pub counted_also : Drive → ℕ → Bad → Bad
-counted_also drive s bad =
-    pick (is_home drive s)
-    (record { homes = bad.homes + 1; spares = bad.spares })
-    (record { homes = bad.homes; spares = bad.spares + 1 })
 
 -- the counts of a list
 pub record CountsBad (drive : Drive) (list : List ℕ) (bad : Bad) : Type 0 where

@@ -5,6 +5,7 @@ use mathlib.Core.Path.{◌≡◌, refl, sym, ◌∙◌, ap}
 use mathlib.Core.Logic.{◌⊎◌, inl, inr}
 use mathlib.Core.List.{List}
 use native.Mathlib.Omega.{arith}
+use Rattle.std.specs.Prelude.{Ok, Err}
 use lib.Dec.{ltb}
 use lib.ListN.{length}
 use borrow.Author.Tests.{le-ltb, lt-ltb}
@@ -14,15 +15,16 @@ use Rattle.paper.specs.Limits.{list_most, size_fault}
 use Rattle.paper.specs.Promise.{written}
 use Rattle.paper.specs.Conditions.{NoRoom}
 use Rattle.paper.proofs.Cases.{by_lt}
-use Rattle.paper.proofs.Chain.{or_else-some, or_else-none, or_else-first, or_else-next}
+use Rattle.paper.proofs.Chain.{or_else-none, or_else-first, or_else-next}
 use Rattle.paper.proofs.Rows.{not-over}
-use Rattle.paper.proofs.Kept.{fills-refuses, fills-accepts}
+use Rattle.paper.proofs.Kept.{earlier-number, refuses, accepts}
+use Rattle.paper.specs.Numbers.{number}
+use Rattle.paper.specs.declared.Refusal.{Refusal}
 use Rattle.lists.specs.Proper.{list_fault}
 use Rattle.format.specs.Spaces.{list_of, size_of_d, option_fault, new_grown, new_list, new_space, format_fault}
 use Rattle.format.specs.Promises.{Formats}
 use Rattle.format.specs.Steps.{supplied_fault, lengths_fault, sides_of, over_of, kept_of, grown_of, listed_of, Walkable}
 use Rattle.format.specs.declared.walk.Sides.{Sides}
-use Rattle.format.specs.declared.Formatted.TheVariants.{Done, Refused}
 use Rattle.format.proofs.Planning.{Supplied, supplied-shows, supplied-passes, planned-grown, planned-list, supplied-ready, kept-ready}
 
 -- six checks and a rest
@@ -111,13 +113,13 @@ module _ (n : ℕ) (p g : List ℕ) (space option : ℕ) (d grown list : List �
   pub format-accepts :
       format_fault n p g space option d grown list ≡ 0 → {grown_after list_after : List ℕ} →
       grown_after ≡ written (new_grown n p g space option d) grown → list_after ≡ written (new_list n p g space option d) list →
-      Formats n p g space option d grown list (Done (length (new_grown n p g space option d)) (length (new_list n p g space option d)) (new_space space option)) grown_after list_after
-  format-accepts none grown-is list-is = fills-accepts (λ k. refl) none refl (rw (grown-is, list-is))
+      Formats n p g space option d grown list (Ok (record { grown = length (new_grown n p g space option d); list = length (new_list n p g space option d); space = new_space space option })) grown_after list_after
+  format-accepts none grown-is list-is = accepts none refl (rw (grown-is, list-is))
 
   -- one that the chain up to D refuses
   pub format-unsupplied :
-      (fault : ℕ) → fault ≡ supplied_fault n p g space option d → (fault ≡ 0 → ⊥) → Formats n p g space option d grown list (Refused fault) grown list
-  format-unsupplied fault is some = fills-refuses (λ k. refl) fault (chain ∙ rw (← is) (or_else-some fault _ some)) some
+      (refusal : Refusal) → supplied_fault n p g space option d ≡ number refusal → Formats n p g space option d grown list (Err refusal) grown list
+  format-unsupplied refusal is = refuses (chain ∙ earlier-number (supplied_fault n p g space option d) _ refusal is)
 
 -- the walk is laid out for what is supplied
 pub record Laid (n : ℕ) (p g : List ℕ) (space option : ℕ) (d : List ℕ) (over takes : Sides) (kept : List ℕ) : Type 0 where
@@ -125,6 +127,19 @@ pub record Laid (n : ℕ) (p g : List ℕ) (space option : ℕ) (d : List ℕ) (
   pub over-is : over ≡ over_of space option
   pub takes-is : takes ≡ sides_of (new_space space option)
   pub kept-is : kept ≡ kept_of option g
+
+-- it is, by the option that the checks answer
+pub laid-by :
+    {n : ℕ} {p g : List ℕ} {space option : ℕ} {d : List ℕ} {over takes : Sides} {kept : List ℕ} {to : ℕ} (chosen : ℕ) →
+    (supplied_fault n p g space option d ≡ 0) × (chosen ≡ option) → over ≡ over_of space chosen → to ≡ new_space space chosen → takes ≡ sides_of to →
+    kept ≡ kept_of chosen g → Laid n p g space option d over takes kept
+laid-by {g = g} {space = space} chosen checked over-is to-is takes-is kept-is =
+    record {
+      supplied = checked.0;
+      over-is = over-is ∙ ap (over_of space) checked.1;
+      takes-is = takes-is ∙ ap sides_of (to-is ∙ ap (new_space space) checked.1);
+      kept-is = kept-is ∙ ap (λ (by : ℕ). kept_of by g) checked.1;
+    }
 
 module _ {n : ℕ} {p g : List ℕ} {space option : ℕ} {d : List ℕ} {over takes : Sides} {kept : List ℕ} (laid : Laid n p g space option d over takes kept) where
   shown : Supplied n p g space option d
@@ -142,9 +157,8 @@ module _ {n : ℕ} {p g : List ℕ} {space option : ℕ} {d : List ℕ} {over ta
   -- both lists are counted
   module _
       (grown list : List ℕ)
-      {a b fault : ℕ}
+      {a b : ℕ}
       (counts : (a ≡ length (grown_of over p kept d)) × (b ≡ length (listed_of over takes p kept d)))
-      (is : fault ≡ lengths_fault a b (length grown) (length list))
     where
       a-is : a ≡ length (new_grown n p g space option d)
       a-is = counts.0 ∙ ap length laid-grown
@@ -152,22 +166,24 @@ module _ {n : ℕ} {p g : List ℕ} {space option : ℕ} {d : List ℕ} {over ta
       b-is : b ≡ length (new_list n p g space option d)
       b-is = counts.1 ∙ ap length laid-list
 
-      whole : format_fault n p g space option d grown list ≡ fault
-      whole = chain n p g space option d grown list ∙ (or_else-none _ _ laid.supplied ∙ sym (is ∙ rw (a-is, b-is)))
+      whole : format_fault n p g space option d grown list ≡ lengths_fault a b (length grown) (length list)
+      whole = chain n p g space option d grown list ∙ (or_else-none _ _ laid.supplied ∙ sym (rw (a-is, b-is)))
 
-      pub counted-refused : (fault ≡ 0 → ⊥) → Formats n p g space option d grown list (Refused fault) grown list
-      counted-refused some = fills-refuses (λ k. refl) fault whole some
+      pub counted-refused :
+          (refusal : Refusal) → lengths_fault a b (length grown) (length list) ≡ number refusal → Formats n p g space option d grown list (Err refusal) grown list
+      counted-refused refusal is = refuses (whole ∙ is)
 
       -- both rooms have place for what the walk writes
-      pub counted-rooms : fault ≡ 0 → (length (grown_of over p kept d) ≤ length grown) × (length (listed_of over takes p kept d) ≤ length list)
+      pub counted-rooms :
+          lengths_fault a b (length grown) (length list) ≡ 0 → (length (grown_of over p kept d) ≤ length grown) × (length (listed_of over takes p kept d) ≤ length list)
       counted-rooms none =
-          let lengths = lengths-show a b (length grown) (length list) (sym is ∙ none) in
+          let lengths = lengths-show a b (length grown) (length list) none in
           (rw counts.0 at lengths.1.0, rw counts.1 at lengths.1.1)
 
       pub counted-done :
-          fault ≡ 0 → {to : ℕ} {grown_after list_after : List ℕ} → to ≡ new_space space option →
+          lengths_fault a b (length grown) (length list) ≡ 0 → {to : ℕ} {grown_after list_after : List ℕ} → to ≡ new_space space option →
           grown_after ≡ written (grown_of over p kept d) grown → list_after ≡ written (listed_of over takes p kept d) list →
-          Formats n p g space option d grown list (Done a b to) grown_after list_after
+          Formats n p g space option d grown list (Ok (record { grown = a; list = b; space = to })) grown_after list_after
       counted-done none to_is grown-is list-is =
           rw (a-is, b-is, to_is)
           (format-accepts n p g space option d grown list (whole ∙ none)

@@ -1,12 +1,13 @@
 -- A step of the walk takes the least entry off what is left of the grown list and of the new list, and leaves a walk that goes right.
 -- Assumes nothing.
-use Prim.Native.Nat.{ℕ, suc, ◌+◌, ◌<◌, ◌≤◌}
-use mathlib.Core.Path.{◌≡◌, sym, ◌∙◌, ap}
+use Prim.Native.Nat.{ℕ, suc, min, ◌+◌, ◌<◌, ◌≤◌}
+use mathlib.Core.Path.{◌≡◌, refl, sym, ◌∙◌, ap}
 use mathlib.Core.Bool.{Bool, true, false, not, ◌&&◌, ◌||◌, and-false, true≢false}
-use mathlib.Core.Logic.{◌⊎◌, ⊎_elim}
+use mathlib.Core.Logic.{◌⊎◌, inl, inr, ⊎_elim}
 use mathlib.Core.List.{List, [], ◌∷◌, map}
 use native.Mathlib.Omega.{arith}
 use native.Mathlib.Nat.{add-zero}
+use mir.Val.{bool_byte}
 use lib.Dec.{eqb}
 use lib.ListN.{length, get_or, drop}
 use lib.Seq.{drop-drop}
@@ -22,6 +23,15 @@ use Rattle.skip.proofs.Passing.{passes-from}
 use Rattle.format.specs.Steps.{sided, grown_left, listed_left, Walkable, Walks, Stepped}
 use Rattle.format.specs.declared.walk.Sides.{Sides}
 use Rattle.format.specs.declared.walk.Walker.{Walker}
+
+-- the smaller of two numbers
+pub least : (a b m : ℕ) → m ≡ min a b → ((m ≤ a) × (m ≤ b)) × ((m ≡ a) ⊎ (m ≡ b))
+least a b m is = ((omega arith, omega arith), by_lt a b (λ less. inl (omega arith)) (λ more. inr (omega arith)))
+
+-- a test as a number
+pub byte-is : (test : Bool) → bool_byte test ≡ one_if test
+byte-is true = refl
+byte-is false = refl
 
 -- a list that begins above x is not passed at x
 passes_none : (x : ℕ) (l : List ℕ) → Least x l → starts x l ≡ false → passes l x ≡ 0
@@ -348,9 +358,8 @@ module _
 
     -- the parts of a step, computed one by one, are a step
     pub stepped :
-        {cp cg cd cs : ℕ} {sp sg s fd gr lp lg li : Bool} →
-        sp ≡ (over.p && eqb hp x) → sg ≡ (over.g && eqb hg x) → s ≡ (sp || sg) → fd ≡ (eqb hd x && not s) → gr ≡ (eqb hg x || fd) →
-        lp ≡ (takes.p && eqb hp x) → lg ≡ (takes.g && gr) → li ≡ (lp || lg) →
+        {cp cg cd cs : ℕ} {s fd gr li : Bool} →
+        s ≡ ((over.p && eqb hp x) || (over.g && eqb hg x)) → fd ≡ (eqb hd x && not s) → gr ≡ (eqb hg x || fd) → li ≡ ((takes.p && eqb hp x) || (takes.g && gr)) →
         cp ≡ one_if (eqb hp x) → cg ≡ one_if (eqb hg x) → cd ≡ one_if fd → cs ≡ one_if s →
         Stepped over takes p g d at
         (record {
@@ -359,6 +368,6 @@ module _
           listed = li;
           next = record { p = at.p + cp; g = at.g + cg; d = at.d + cd; skipped = at.skipped + cs };
         })
-    stepped sp sg s fd gr lp lg li cp cg cd cs =
-        rw (cs, cd, cg, cp, li, lg, lp, gr, fd, s, sg, sp)
+    stepped s fd gr li cp cg cd cs =
+        rw (cs, cd, cg, cp, li, gr, fd, s)
         (record { onward = goes_on; walks = walks-on; grown-left = grown-next; listed-left = listed_next })

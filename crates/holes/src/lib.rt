@@ -5,11 +5,10 @@ ghost use Rattle.std.specs.Prelude.{◌≡◌, ◌+◌, ◌<◌, ◌≤◌, ◌^
 ghost use Rattle.paper.specs.Checks.{pick};
 ghost use Rattle.paper.specs.Limits.{spares_most};
 ghost use Rattle.seek.specs.Every.{all_below};
-ghost use Rattle.layout.specs.Steps.{Laid};
 ghost use Rattle.order.specs.Order.{is_free};
 ghost use Rattle.holes.specs.Steps.{next_free, Filled, left_end, right_start, clear_before, clear_way, Numbered};
 
-use layout::Drive;
+use layout::{Layout, is_allocated, number_of};
 use paper::TABLE_BLOCK;
 
 // The next free place at or after a place, by its descriptor and the next free place after it.
@@ -23,6 +22,7 @@ fn next_at(word: u32, place: u32, later: u32) -> u32
 }
 
 // Writes the next free place at or after each of the first places, from the last of them down, or the table's length where there is none.
+// Scratch and a count stay, as in `table`: what is said is said of the whole scratch that C lends.
 fn fill_next(table: &[u32], scratch: &mut [u32], count: usize)
     requires count_in_scratch { count ≤ length scratch.old }
     requires count_in_table { count ≤ length table.now }
@@ -32,9 +32,7 @@ fn fill_next(table: &[u32], scratch: &mut [u32], count: usize)
     ensures scratch_unchanged { drop count scratch.new ≡ drop count scratch.old }
 {
     let mut next = table.len() as u32;
-    let mut place = count;
-    while 0 < place {
-        place -= 1;
+    for place in (0..count).rev() {
         next = next_at(table[place], place as u32, next);
         scratch[place] = next;
     }
@@ -89,10 +87,7 @@ fn clear_before(table: &[u32], scratch: &[u32], primary: usize, place: usize) ->
     let start = primary / TABLE_BLOCK * TABLE_BLOCK;
     let end = start + TABLE_BLOCK;
     if place < start {
-        if !none_free(scratch, start, table.len()) {
-            return false;
-        }
-        return none_free(scratch, 0, place);
+        return none_free(scratch, start, table.len()) && none_free(scratch, 0, place);
     }
     if end <= place {
         return none_free(scratch, start, place);
@@ -100,44 +95,34 @@ fn clear_before(table: &[u32], scratch: &[u32], primary: usize, place: usize) ->
     if place < primary {
         return none_free(scratch, place + 1, left_end(primary, place));
     }
-    if place == primary {
-        return true;
-    }
-    none_free(scratch, right_start(primary, place), place)
+    place == primary || none_free(scratch, right_start(primary, place), place)
 }
 
 // Whether no free place comes before the place of the block that a place names, where it names one.
-fn clear_way(drive: Drive, table: &[u32], scratch: &[u32], place: usize) -> bool
-    requires laid { Laid drive }
-    requires numbered { Numbered drive table.now }
+fn clear_way(layout: Layout, table: &[u32], scratch: &[u32], place: usize) -> bool
+    requires numbered { Numbered layout.drive table.now }
     requires place_in_bounds { place < length table.now }
-    requires spares_in_bounds { drive.spares ≤ length scratch.now }
-    requires filled { Filled table.now drive.spares scratch.now }
-    ensures { result ≡ clear_way drive table.now place }
+    requires spares_in_bounds { layout.drive.spares ≤ length scratch.now }
+    requires filled { Filled table.now layout.drive.spares scratch.now }
+    ensures { result ≡ clear_way layout.drive table.now place }
 {
     let word = table[place];
-    if !layout::is_allocated(word) {
-        return true;
-    }
-    let primary = layout::primary(drive, layout::number_of(word));
-    clear_before(table, scratch, primary as usize, place)
+    !is_allocated(word)
+        || clear_before(
+            table,
+            scratch,
+            layout.primary(number_of(word)) as usize,
+            place,
+        )
 }
 
 // Whether no free place comes before the place of any block that a table names. Of the scratch only the numbers for the spares are written. Only other crates call this.
-pub fn no_holes(drive: Drive, table: &[u32], scratch: &mut [u32]) -> bool
-    requires laid { Laid drive }
-    requires numbered { Numbered drive table.now }
-    requires spares_in_bounds { drive.spares ≤ length scratch.old }
-    ensures value { result ≡ all_below (clear_way drive table.now) (length table.now) }
-    ensures scratch_unchanged { drop drive.spares scratch.new ≡ drop drive.spares scratch.old }
+pub fn no_holes(layout: Layout, table: &[u32], scratch: &mut [u32]) -> bool
+    requires numbered { Numbered layout.drive table.now }
+    requires spares_in_bounds { layout.drive.spares ≤ length scratch.old }
+    ensures value { result ≡ all_below (clear_way layout.drive table.now) (length table.now) }
+    ensures scratch_unchanged { drop layout.drive.spares scratch.new ≡ drop layout.drive.spares scratch.old }
 {
-    fill_next(table, scratch, drive.spares as usize);
-    let mut place = 0;
-    while place < table.len() {
-        if !clear_way(drive, table, scratch, place) {
-            return false;
-        }
-        place += 1;
-    }
-    true
+    fill_next(table, scratch, layout.drive.spares as usize);
+    (0..table.len()).all(|place| clear_way(layout, table, scratch, place))
 }

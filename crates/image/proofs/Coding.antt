@@ -1,12 +1,11 @@
 -- The laws of the 16-bit code, over any number of words: it is below 2 ^ 16, and one word, one byte or one bit changed changes it.
 -- Assumes nothing.
-use Prim.Native.Nat.{ℕ, zero, suc, ◌+◌, ◌*◌, ◌/◌, ◌%◌, ◌^◌, ◌<◌, ◌≤◌}
+use Prim.Native.Nat.{ℕ, zero, suc, ◌+◌, ◌*◌, ◌/◌, ◌%◌, ◌^◌, ◌<◌}
 use mathlib.Core.Path.{◌≡◌, refl, sym, ◌∙◌, ap}
-use mathlib.Core.List.{List, [], ◌∷◌}
-use native.Mathlib.Numerals.{towards_suc}
+use mathlib.Core.List.{List, [], ◌∷◌, ◌++◌}
 use native.Mathlib.Omega.{arith}
-use lib.ListN.{length, get_or, drop, set, length-set}
-use lib.Seq.{drop-cons, ext_get_or, get_or-set_same, get_or-set_other}
+use lib.ListN.{length, get_or, set, length-set}
+use lib.Seq.{ext_get_or, get_or-set_same, get_or-set_other}
 use lib.Bits.{bit_or, bit_xor, or_shifted, xor_lt}
 use lib.Pow.{pow_pos, pow-lt}
 use Rattle.paper.specs.Limits.{start_code}
@@ -119,10 +118,13 @@ words_of-none [] h = refl
 words_of-none (lone ∷ []) h = refl
 words_of-none (hi ∷ lo ∷ bytes) h = absurd (omega arith)
 
--- the word at a place, and those after it
-pub words_of-next : (bytes : List ℕ) (i : ℕ) → i + 2 ≤ length bytes → words_of (drop i bytes) ≡ word16_at bytes i ∷ words_of (drop (i + 2) bytes)
+-- the word of the first two bytes, and those after it
+pub words_of-first : (word rest : List ℕ) → length word ≡ 2 → words_of (word ++ rest) ≡ word16_at word 0 ∷ words_of rest
 unfolding words_of word16_at
-words_of-next bytes i h = simp towards_suc (rw (drop-cons bytes i 0 (omega arith), drop-cons bytes (suc i) 0 (omega arith)))
+words_of-first [] rest two = absurd (omega arith)
+words_of-first (lone ∷ []) rest two = absurd (omega arith)
+words_of-first (hi ∷ lo ∷ []) rest two = refl
+words_of-first (hi ∷ lo ∷ more ∷ word) rest two = absurd (omega arith)
 
 pub length-words_of : (count : ℕ) (bytes : List ℕ) → length bytes ≡ 2 * count → length (words_of bytes) ≡ count
 unfolding words_of

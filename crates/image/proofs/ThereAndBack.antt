@@ -7,21 +7,21 @@ use mathlib.Core.List.{List, []}
 use native.Mathlib.Omega.{arith}
 use lib.ListN.{length, take, drop}
 use denote.Ref.{Bor}
+use Rattle.std.specs.Prelude.{Result, Ok, Err}
 use Rattle.paper.specs.Checks.{answer}
 use Rattle.paper.specs.Limits.{header_size, image_extra}
 use Rattle.paper.specs.Refusals.{other_block, forced_error}
-use Rattle.paper.proofs.Cases.{by_fault}
-use Rattle.paper.proofs.Chain.{answer-refused, answer-accepted}
+use Rattle.paper.specs.declared.Refusal.{Refusal}
+use Rattle.paper.specs.declared.Refusal.TheVariants.{OtherBlock, ForcedError}
+use Rattle.paper.proofs.Chain.{answer-refused}
+use Rattle.paper.proofs.Kept.{gives-one, passes-one}
 use Rattle.words.specs.Coded.{code_unit, word_of, code_of, number_of}
 use Rattle.words.specs.Words.{Bytes}
 use Rattle.image.specs.declared.Head.{Head}
-use Rattle.image.specs.declared.Head.TheVariants.{Of, Refused as NoHead}
-use Rattle.image.specs.declared.Verdict.{Verdict}
-use Rattle.image.specs.declared.Verdict.TheVariants.{Good, Refused as NotGood}
 use Rattle.image.specs.Header.{Known}
 use Rattle.image.specs.Image.{header_of, data_of, image_of, contents_fault, header_fault, image_fault, write_fault}
 use Rattle.image.specs.Judged.{HeadSays}
-use Rattle.image.specs.Promises.{imaged, head_in, HeaderSized, DataSized}
+use Rattle.image.specs.Promises.{imaged, head_in, HeaderSized, JudgeSized, DataSized}
 use Rattle.image.proofs.Copies.{stands-header}
 use Rattle.words.proofs.Coded.{word_fits}
 use Rattle.image.proofs.Headers.{known-few, says-own, word-says}
@@ -29,50 +29,39 @@ use Rattle.image.proofs.Exact.{header-passes, header-length, header-shows, image
 use Rattle.image.proofs.Lent.{refused-empty, accepted-data, accepted-lies}
 use Rattle.image.proofs.Images.{length-image, image-first, image-rest, image-data, written_stands, written-data, written-good, written-forced}
 
--- what the header's reader and the verdict answer, and the room that the writer leaves
-abbrev pub headed : ℕ → List ℕ → Head
-headed size image = answer (header_fault size image) NoHead (head_in image)
-
-abbrev pub verdict : ℕ → List ℕ → ℕ → ℕ → Verdict
-verdict size image block code = answer (image_fault size image block code) NotGood Good
-
+-- the room that the writer leaves
 abbrev pub room_after : ℕ → ℕ → ℕ → List ℕ → Bool → List ℕ → List ℕ
 room_after size block code bytes forced room =
     answer (write_fault size block code bytes room) (λ fault. room) (imaged block code bytes forced room)
 
 -- the header's reader answers a code and a block exactly where the image has its length and a number stands that says them
-says-headed : (size : ℕ) (image : List ℕ) (code block : ℕ) → length image ≡ size + image_extra → HeadSays image code block → headed size image ≡ Of code block
+pub says-headed :
+    (size : ℕ) (image : List ℕ) (code block : ℕ) → length image ≡ size + image_extra → HeadSays image code block →
+    HeaderSized size image (Ok (record { code = code; block = block }))
 says-headed size image code block long head =
-    let known : Known (code_of head.number) = rw head.says.code_is head.says.known in
-    rw (
+    let known : Known (code_of head.number) = rw head.says.code_is head.says.known in (
       header-passes image size head.number long head.stands known,
-      stands-header image head.number head.stands,
-      head.says.code_is,
-      head.says.block-is,
+      rw (stands-header image head.number head.stands, head.says.code_is, head.says.block-is),
     )
 
-headed-says :
-    (size : ℕ) (image : List ℕ) (code block : ℕ) → headed size image ≡ Of code block → (length image ≡ size + image_extra) × HeadSays image code block
-headed-says size image code block answered =
-    by_fault (header_fault size image)
-    (λ none.
-    let named : head_in image ≡ Of code block = sym (answer-accepted (header_fault size image) NoHead _ none) ∙ answered in
-    let first : code_of (header_of image) ≡ code = cc in
-    let second : number_of (header_of image) ≡ block = cc in
+pub headed-says :
+    (size : ℕ) (image : List ℕ) (code block : ℕ) → HeaderSized size image (Ok (record { code = code; block = block })) →
+    (length image ≡ size + image_extra) × HeadSays image code block
+headed-says size image code block headed =
+    let none : header_fault size image ≡ 0 = headed.0 in
+    let first : code_of (header_of image) ≡ code = sym (ap (λ (head : Head). head.code) headed.1) in
+    let second : number_of (header_of image) ≡ block = sym (ap (λ (head : Head). head.block) headed.1) in
     let shown = header-shows image size none in
-    (header-length image size none, record { number = header_of image; stands = shown.0; says = rw (first, second) at (says-own shown.1) }))
-    (λ some.
-    let clash : NoHead (header_fault size image) ≡ Of code block = sym (answer-refused (header_fault size image) NoHead _ some) ∙ answered in
-    let z : ◌≡◌ {A = ℕ} 0 1 = cc in
-    absurd (omega arith))
+    (header-length image size none, record { number = header_of image; stands = shown.0; says = rw (first, second) at (says-own shown.1) })
 
 -- so does any result that the promise allows
-module _ (size : ℕ) (image : List ℕ) (code block : ℕ) {result : Head} (promise : HeaderSized size image result) where
-  pub header-answers : length image ≡ size + image_extra → HeadSays image code block → result ≡ Of code block
-  header-answers long head = promise.answers ∙ says-headed size image code block long head
+module _ (size : ℕ) (image : List ℕ) (code block : ℕ) (result : Result Head Refusal) (promise : HeaderSized size image result) where
+  pub header-answers : length image ≡ size + image_extra → HeadSays image code block → result ≡ Ok (record { code = code; block = block })
+  header-answers long head =
+      gives-one (header_fault size image) (head_in image) result (Ok (record { code = code; block = block })) promise (says-headed size image code block long head)
 
-  pub header-answered : result ≡ Of code block → (length image ≡ size + image_extra) × HeadSays image code block
-  header-answered is = headed-says size image code block (sym promise.answers ∙ is)
+  pub header-answered : result ≡ Ok (record { code = code; block = block }) → (length image ≡ size + image_extra) × HeadSays image code block
+  header-answered is = headed-says size image code block (rw is at promise)
 
 -- an image of data of a size, whose header says a block and a code
 module _ (size block code : ℕ) (bytes : List ℕ) (long : length bytes ≡ size) (below : block < code_unit) (known : Known code) where
@@ -89,8 +78,9 @@ module _ (size block code : ℕ) (bytes : List ℕ) (long : length bytes ≡ siz
   head-says forced = record { number = number; stands = written_stands number bytes forced fits; says = word-says known below }
 
   -- its header answers them
-  pub image-names : (forced : Bool) → headed size (image_of number bytes forced) ≡ Of code block
-  image-names forced = says-headed size (image_of number bytes forced) code block (image-long forced) (head-says forced)
+  pub image-names :
+      (forced : Bool) (result : Result Head Refusal) → HeaderSized size (image_of number bytes forced) result → result ≡ Ok (record { code = code; block = block })
+  image-names forced result promise = header-answers size (image_of number bytes forced) code block result promise (image-long forced) (head-says forced)
 
   -- for any other block or code it is refused 16
   other-fault :
@@ -103,8 +93,10 @@ module _ (size block code : ℕ) (bytes : List ℕ) (long : length bytes ≡ siz
 
   pub image-other :
       (forced : Bool) (other-block other-code : ℕ) → ((other-block ≡ block) × (other-code ≡ code) → ⊥) →
-      verdict size (image_of number bytes forced) other-block other-code ≡ NotGood other_block
-  image-other forced other-block other-code other = rw (other-fault forced other-block other-code other)
+      (result : Result Unit Refusal) → JudgeSized size (image_of number bytes forced) other-block other-code result → result ≡ Err OtherBlock
+  image-other forced other-block other-code other result promise =
+      passes-one (image_fault size (image_of number bytes forced) other-block other-code) result (Err OtherBlock) promise
+      (other-fault forced other-block other-code other)
 
   pub other-gives :
       (forced : Bool) (other-block other-code : ℕ) → ((other-block ≡ block) × (other-code ≡ code) → ⊥) →
@@ -127,11 +119,11 @@ module _ (size block code : ℕ) (bytes : List ℕ) (long : length bytes ≡ siz
     forced-fault = pair-fault true (written-forced number bytes fits h)
 
     -- it is judged as it was written
-    pub image-good : verdict size (image_of number bytes false) block code ≡ Good
-    image-good = rw good-fault
+    pub image-good : (result : Result Unit Refusal) → JudgeSized size (image_of number bytes false) block code result → result ≡ Ok tt
+    image-good result promise = passes-one (image_fault size (image_of number bytes false) block code) result (Ok tt) promise good-fault
 
-    pub image-forced : verdict size (image_of number bytes true) block code ≡ NotGood forced_error
-    image-forced = rw forced-fault
+    pub image-forced : (result : Result Unit Refusal) → JudgeSized size (image_of number bytes true) block code result → result ≡ Err ForcedError
+    image-forced result promise = passes-one (image_fault size (image_of number bytes true) block code) result (Err ForcedError) promise forced-fault
 
     -- a good one gives its data back where it lies, a forced one an empty part
     module _ (image : Bor (List ℕ)) (part : Bor (List ℕ)) (lent : DataSized size image block code part) where

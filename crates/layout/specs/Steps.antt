@@ -1,9 +1,16 @@
 -- For the code alone: no sentence of the paper needs it.
--- What is known of a drive that passes its check.
-use Rattle.std.specs.Prelude.{◌*◌, ◌≤◌, ◌≡◌}
+-- The part of the check after that of the shape, and what is known of a drive that passes its check.
+use Rattle.std.specs.Prelude.{ℕ, ◌*◌, ◌≤◌, ◌≡◌, not}
+use Rattle.paper.specs.Checks.{refuse}
+use Rattle.paper.specs.Refusals.{out_of_range}
 use Rattle.paper.specs.Limits.{units_most, spares_most}
+use Rattle.shape.specs.declared.Shape.{Shape}
 use Rattle.layout.specs.declared.Drive.{Drive}
-use Rattle.layout.specs.Layouts.{sectors_per_track}
+use Rattle.layout.specs.Layouts.{spared, sectors_per_track}
+
+-- the check of r and T × r
+abbrev pub spared_fault : Shape → ℕ → ℕ
+spared_fault shape r = refuse (not (spared shape r)) out_of_range
 
 -- a drive has tracks, heads, homes and spares of a track, its spares and blocks are the two products, and its spares and sectors are no more than a drive may have
 pub record Laid (drive : Drive) : Type 0 where

@@ -4,7 +4,9 @@
 use listing_text::LISTING_ROOM;
 use paper::LISTING_MOST;
 
-// The descriptors of standard input and of standard output.
+// The programs that call `run` stay one for each input: a program is run on the one input that lies beside it.
+
+// The descriptors of standard input and of standard output. They and the kit's `io` stay: the runtime's reading and writing assume more of the system's functions than its read and its write.
 const STDIN: i32 = 0;
 
 const STDOUT: i32 = 1;

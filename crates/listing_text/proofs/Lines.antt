@@ -4,17 +4,15 @@ use Prim.Native.Nat.{ℕ, ◌+◌, ◌*◌, ◌-◌, ◌<◌, ◌≤◌}
 use mathlib.Core.Path.{◌≡◌, refl, sym, ◌∙◌}
 use mathlib.Core.List.{List, [], ◌∷◌, ◌++◌, append_assoc, append-nil}
 use native.Mathlib.Nat.{add-zero}
-use native.Mathlib.Numerals.{add-one}
 use native.Mathlib.Omega.{arith}
-use lib.ListN.{length, get_or, take, set, length-append}
-use lib.Seq.{sets, take-suc, length-take-le}
+use lib.ListN.{length, set, length-append}
 use Rattle.paper.specs.Limits.{units_most}
 use Rattle.lists.specs.Proper.{Inside, Proper}
 use Rattle.lists.proofs.Risings.{inside-tail, rising-gap}
 use Rattle.words.specs.Words.{word32_at, entries_at}
 use Rattle.words.proofs.Runs.{length-entries_at, get_or-entries_at, entries_at-next}
 use Rattle.page.specs.Layout.{entries_place}
-use Rattle.words.proofs.Stores.{sets-append, sets-next}
+use Rattle.words.proofs.Stores.{sets-append}
 use Rattle.listing_text.specs.Decimal.{decimal}
 use Rattle.listing_text.specs.Text.{line, space, line_end, sectors_word, blocks_word, bad_word, frame_text, entries_text}
 use Rattle.listing_text.specs.Steps.{line_most, frame_most, Puts}
@@ -35,14 +33,6 @@ module _ {room : List ℕ} {at : ℕ} where
         ends = two.ends ∙ omega (arith, one.ends, length-append first next);
         stores = two.stores ∙ (rw (one.stores, one.ends) (sym (sets-append room at first next)));
       }
-
--- one byte more of a word is stored
-pub word_next :
-    (room : List ℕ) (at : ℕ) (word : List ℕ) (i : ℕ) →
-    i < length word → set (sets room at (take i word)) (at + i) (get_or word i 0) ≡ sets room at (take (i + 1) word)
-word_next room at word i h =
-    let long : length (take i word) ≡ i = length-take-le i word (omega arith) in
-    rw (add-one i, take-suc word i 0 h, ← sets-next room at (take i word) (get_or word i 0), long)
 
 pub length-line : (word : List ℕ) (number : ℕ) → length (line word number) ≡ length word + (1 + length (decimal number) + 1)
 unfolding line

@@ -3,6 +3,7 @@
 
 ghost use Rattle.std.specs.Prelude.{◌≡◌, ◌+◌, ◌*◌, ◌≤◌, length};
 ghost use Rattle.paper.specs.Limits.{units_most, entry_size, listing_most};
+ghost use Rattle.paper.specs.Promise.{Passes};
 ghost use Rattle.words.specs.Words.{entries_at};
 ghost use Rattle.lists.specs.Proper.{Inside};
 ghost use Rattle.page.specs.Layout.{entries_place};
@@ -11,23 +12,16 @@ ghost use Rattle.listing_text.specs.Decimal.{digit_zero, decimal};
 ghost use Rattle.listing_text.specs.Text.{sectors_word, blocks_word, bad_word, refused_word, space, line_end, line, frame_text, entries_text, page_text, listing_fault, Lists};
 ghost use Rattle.listing_text.specs.Steps.{digits_most, line_most, frame_most, listed_most, listing_room, Puts};
 
-use paper::{BAD_PAGE, ENTRY_SIZE, LISTING_MOST, PAGE_FRAME};
+use page::Entries;
+use paper::{ENTRY_SIZE, LISTING_MOST, PAGE_FRAME, Refusal};
 
-const SECTORS_SIZE: usize = 7;
+const SECTORS: &[u8] = b"sectors";
 
-const SECTORS: [u8; SECTORS_SIZE] = [b's', b'e', b'c', b't', b'o', b'r', b's'];
+const BLOCKS: &[u8] = b"blocks";
 
-const BLOCKS_SIZE: usize = 6;
+const BAD: &[u8] = b"bad";
 
-const BLOCKS: [u8; BLOCKS_SIZE] = [b'b', b'l', b'o', b'c', b'k', b's'];
-
-const BAD_SIZE: usize = 3;
-
-const BAD: [u8; BAD_SIZE] = [b'b', b'a', b'd'];
-
-const REFUSED_SIZE: usize = 7;
-
-const REFUSED: [u8; REFUSED_SIZE] = [b'r', b'e', b'f', b'u', b's', b'e', b'd'];
+const REFUSED: &[u8] = b"refused";
 
 const SPACE: u8 = b' ';
 
@@ -42,17 +36,17 @@ const LINE_EXTRA: usize = 1 + DIGITS_MOST + 1;
 
 const LISTED_MOST: usize = (LISTING_MOST - PAGE_FRAME) / ENTRY_SIZE;
 
-pub const LISTING_ROOM: usize = SECTORS_SIZE
+pub const LISTING_ROOM: usize = SECTORS.len()
     + LINE_EXTRA
-    + (BLOCKS_SIZE + LINE_EXTRA)
-    + (BAD_SIZE + LINE_EXTRA) * LISTED_MOST;
+    + (BLOCKS.len() + LINE_EXTRA)
+    + (BAD.len() + LINE_EXTRA) * LISTED_MOST;
 
-// Each size and byte of the code is that of the definitions.
-fn sizes_agree()
-    ensures sectors_size_value { SECTORS_SIZE ≡ length sectors_word }
-    ensures blocks_size_value { BLOCKS_SIZE ≡ length blocks_word }
-    ensures bad_size_value { BAD_SIZE ≡ length bad_word }
-    ensures refused_size_value { REFUSED_SIZE ≡ length refused_word }
+// Each word, byte and size of the code is that of the definitions.
+fn words_agree()
+    ensures sectors_value { SECTORS.now ≡ sectors_word }
+    ensures blocks_value { BLOCKS.now ≡ blocks_word }
+    ensures bad_value { BAD.now ≡ bad_word }
+    ensures refused_value { REFUSED.now ≡ refused_word }
     ensures space_value { SPACE ≡ space }
     ensures line_end_value { LINE_END ≡ line_end }
     ensures digit_zero_value { DIGIT_ZERO ≡ digit_zero }
@@ -62,16 +56,14 @@ fn sizes_agree()
 {}
 
 // Writes a word at a place, and answers the place after it.
+// A room and a place stay, here and below: the room is lent, the text has no heap to grow on, and what is left of the room is said by its place.
 fn put_word(room: &mut [u8], at: usize, word: &[u8]) -> usize
     requires { at + length word.now ≤ length room.old }
     ensures { Puts word.now at room.old result room.new }
 {
-    let mut i = 0;
-    while i < word.len() {
-        room[at + i] = word[i];
-        i += 1;
-    }
-    at + i
+    let end = at + word.len();
+    room[at..end].copy_from_slice(word);
+    end
 }
 
 // Writes a number at a place, and answers the place after it.
@@ -105,20 +97,18 @@ fn put_frame(room: &mut [u8], n: u32, entries: u32) -> usize
     requires { (n ≤ units_most) × (entries ≤ n) × (frame_most ≤ length room.old) }
     ensures { Puts (frame_text n entries) 0 room.old result room.new }
 {
-    let blocks = put_line(room, 0, &SECTORS, n);
-    put_line(room, blocks, &BLOCKS, n - entries)
+    let blocks = put_line(room, 0, SECTORS, n);
+    put_line(room, blocks, BLOCKS, n - entries)
 }
 
-// Writes a line for each of so many entries of a page, and answers the place after them.
-fn put_entries(room: &mut [u8], at: usize, page: &[u8], count: usize) -> usize
-    requires { (entries_place + entry_size * count ≤ length page.now) × Inside units_most (entries_at page.now entries_place count) × (at + line_most bad_word * count ≤ length room.old) }
-    ensures { Puts (entries_text (entries_at page.now entries_place count)) at room.old result room.new }
+// Writes a line for each of a page's entries, and answers the place after them.
+fn put_entries(room: &mut [u8], at: usize, entries: Entries) -> usize
+    requires { Inside units_most (entries_at entries.page.now entries_place entries.count) × (at + line_most bad_word * entries.count ≤ length room.old) }
+    ensures { Puts (entries_text (entries_at entries.entry.page.now entries_place entries.entry.count)) at room.old result room.new }
 {
     let mut next = at;
-    let mut i = 0;
-    while i < count {
-        next = put_line(room, next, &BAD, page::entry_at(page, i));
-        i += 1;
+    for i in 0..entries.count {
+        next = put_line(room, next, BAD, entries.entry_at(i));
     }
     next
 }
@@ -128,28 +118,27 @@ fn put_page(page: &[u8], room: &mut [u8]) -> usize
     requires { (page_fault page.now ≡ 0) × (length page.now ≤ listing_most) × (listing_room ≤ length room.old) }
     ensures { Puts (page_text page.now) 0 room.old result room.new }
 {
-    let count = page::entry_count(page);
-    let entries = put_frame(room, page::units_of(page), count as u32);
-    put_entries(room, entries, page, count)
+    let entries = Entries::of(page);
+    let next = put_frame(room, entries.units(), entries.count as u32);
+    put_entries(room, next, entries)
 }
 
 // The checks of a listing: 8 above its own limit, then those of the page.
-fn listing_fault(page: &[u8]) -> u32
-    ensures { result ≡ listing_fault page.now }
+fn check_listing(page: &[u8]) -> Result<(), Refusal>
+    ensures { Passes (listing_fault page.now) result }
 {
     if LISTING_MOST < page.len() {
-        return BAD_PAGE;
+        return Err(Refusal::BadPage);
     }
-    page::page_fault(page)
+    page::check_page(page)
 }
 
 // Writes the listing of a page, or the line of its refusal, into the first places of the room, and answers how long it is. Only other crates call this.
 pub fn put_listing(page: &[u8], room: &mut [u8; LISTING_ROOM]) -> usize
     ensures { Lists page.now room.old result room.new }
 {
-    let fault = listing_fault(page);
-    if fault != 0 {
-        return put_line(room, 0, &REFUSED, fault);
+    match check_listing(page) {
+        Ok(()) => put_page(page, room),
+        Err(refusal) => put_line(room, 0, REFUSED, refusal.number()),
     }
-    put_page(page, room)
 }

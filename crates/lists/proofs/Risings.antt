@@ -1,10 +1,11 @@
 -- Rising lists, entry by entry: a rising list is an entry below all that follow, and then a rising list.
 -- Assumes nothing.
 use Prim.Native.Nat.{ℕ, zero, suc, ◌+◌, ◌<◌, ◌≤◌}
-use mathlib.Core.Path.{refl}
+use mathlib.Core.Path.{◌≡◌, refl}
 use mathlib.Core.List.{List, [], ◌∷◌}
 use native.Mathlib.Omega.{arith}
 use lib.ListN.{length, get_or}
+use Rattle.paper.proofs.Cases.{by_eq}
 use Rattle.lists.specs.Proper.{Rising, Rises, Inside}
 
 -- every entry is above x
@@ -42,3 +43,11 @@ above-weaker x y a h above i l = omega (arith, above i l)
 pub rising-gap : (x : ℕ) (a : List ℕ) → Rising (x ∷ a) → (i : ℕ) → i < suc (length a) → x + i ≤ get_or (x ∷ a) i 0
 rising-gap x a rising zero h = omega arith
 rising-gap x a rising (suc i) h = omega (arith, rising-gap x a rising i (omega arith), rising i (omega arith))
+
+-- and so no entry exceeds one at a later place
+pub rising-order : (a : List ℕ) → Rising a → (i j : ℕ) → i ≤ j → j < length a → get_or a i 0 ≤ get_or a j 0
+rising-order a rising i zero h inside = let same : i ≡ 0 = omega arith in rw same (omega arith)
+rising-order a rising i (suc j) h inside =
+    by_eq i (suc j)
+    (λ same. rw same (omega arith))
+    (λ other. omega (arith, rising-order a rising i j (omega arith) (omega arith), rising j inside))

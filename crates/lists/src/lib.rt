@@ -2,63 +2,62 @@
 #![tactic(auto)]
 
 ghost use Rattle.std.specs.Prelude.{◌≡◌, ◌+◌, ◌<◌, ◌≤◌, length};
-ghost use Rattle.lists.specs.Proper.{fault_at, list_fault, space_fault};
+ghost use Rattle.paper.specs.Promise.{Passes, GivesSuch};
+ghost use Rattle.paper.specs.Limits.{list_most};
+ghost use Rattle.lists.specs.Proper.{Rising, fault_at, list_fault, space_fault};
 ghost use Rattle.lists.specs.Union.{union};
 ghost use Rattle.lists.specs.Steps.{bound_fault, Takes};
 
-use paper::{LIST_MOST, NOT_RISING, OUTSIDE, TOO_LONG};
+use paper::{LIST_MOST, Refusal};
 
-// Refusal 4 for an entry that is no unit of its space, else 0.
-fn bound_fault(n: u32, entry: u32) -> u32
-    ensures { result ≡ bound_fault n entry }
+// A list that is not too long and rises.
+#[derive(Clone, Copy)]
+pub struct RisingList<'a> {
+    pub entries: &'a [u32],
+    ghost rising: { Rising entries.now },
+    ghost short: { length entries.now ≤ list_most },
+}
+
+// Refusal 4 for an entry that is no unit of its space.
+fn check_bound(n: u32, entry: u32) -> Result<(), Refusal>
+    ensures { Passes (bound_fault n entry) result }
 {
     if n <= entry {
-        return OUTSIDE;
+        return Err(Refusal::Outside);
     }
-    0
+    Ok(())
 }
 
-// What is wrong at one place of a list: 3 before 4, 0 for nothing.
-fn fault_at(n: u32, list: &[u32], i: usize) -> u32
+// What is wrong at one place of a list: 3 before 4.
+fn check_place(n: u32, list: &[u32], i: usize) -> Result<(), Refusal>
     requires { i < length list.now }
-    ensures { result ≡ fault_at n list.now i }
+    ensures { Passes (fault_at n list.now i) result }
 {
-    if i == 0 {
-        return bound_fault(n, list[i]);
+    if 0 < i && list[i] <= list[i - 1] {
+        return Err(Refusal::NotRising);
     }
-    if list[i] <= list[i - 1] {
-        return NOT_RISING;
-    }
-    bound_fault(n, list[i])
+    check_bound(n, list[i])
 }
 
-// The list's check: 2, then the lowest place at fault, 3 before 4; 0 for a proper list. Only other crates call this.
-pub fn list_fault(n: u32, list: &[u32]) -> u32
-    ensures { result ≡ list_fault n list.now }
+// The list's check: 2, then the lowest place at fault, 3 before 4; the list, known to rise. Only other crates call this.
+pub fn check_list(n: u32, list: &[u32]) -> Result<RisingList<'_>, Refusal>
+    ensures { GivesSuch (list_fault n list.now) (λ checked. checked.entries.now ≡ list.now) result }
 {
     if LIST_MOST < list.len() {
-        return TOO_LONG;
+        return Err(Refusal::TooLong);
     }
-    let mut i = 0;
-    while i < list.len() {
-        let fault = fault_at(n, list, i);
-        if fault != 0 {
-            return fault;
-        }
-        i += 1;
+    for i in 0..list.len() {
+        check_place(n, list, i)?;
     }
-    0
+    Ok(RisingList { entries: list })
 }
 
 // The size N and then a list over it: 1, then the list's own check. Only other crates call this.
-pub fn space_fault(n: u32, list: &[u32]) -> u32
-    ensures { result ≡ space_fault n list.now }
+pub fn check_space(n: u32, list: &[u32]) -> Result<RisingList<'_>, Refusal>
+    ensures { GivesSuch (space_fault n list.now) (λ checked. checked.entries.now ≡ list.now) result }
 {
-    let fault = paper::size_fault(n);
-    if fault != 0 {
-        return fault;
-    }
-    list_fault(n, list)
+    paper::check_size(n)?;
+    check_list(n, list)
 }
 
 // The next entry of a union, and how many entries of each list lie before the one after it.
@@ -118,6 +117,7 @@ pub fn union_length(a: &[u32], b: &[u32]) -> usize
     let mut i = 0;
     let mut j = 0;
     let mut count = 0;
+    // Stays: a step moves one place or two, as a merge of two lists does.
     while i + j < a.len() + b.len() {
         let next = take(a, b, i, j);
         i = next.left;

@@ -2,6 +2,7 @@ pub mod Signs
 pub mod Turns
 pub mod Times
 pub mod Once
+pub mod Finds
 pub mod Blocks
 pub mod Parts
 pub mod Splits

@@ -1,6 +1,6 @@
 -- The search order's three parts one after another, for any test: a find in one of them is the find of all, and the next is searched where it has none.
 -- Assumes nothing.
-use Prim.Native.Nat.{ℕ, ◌+◌, ◌-◌, ◌%◌, ◌<◌, ◌≤◌}
+use Prim.Native.Nat.{ℕ, ◌+◌, ◌-◌, ◌%◌, ◌<◌}
 use mathlib.Core.Path.{◌≡◌, sym, ◌∙◌, ap}
 use mathlib.Core.Bool.{Bool}
 use mathlib.Core.List.Memᴰ
@@ -30,30 +30,26 @@ module _ (passes : ℕ → Bool) (t : List ℕ) (p : ℕ) (whole : length t % ta
   abbrev first_in : List ℕ → ℕ
   first_in = first_or (length t) (passes_at passes t)
 
-  module _ (place : ℕ) (found : place ≡ first_in near) where
-    pub found-near : place < length t → place ≡ first_in (order (length t) p)
-    found-near here = found ∙ sym (first_or-early (passes_at passes t) (length t) near (after ++ before) (λ none. omega arith))
+  pub found-near : (place : ℕ) → place ≡ first_in near → place < length t → place ≡ first_in (order (length t) p)
+  found-near place found here = found ∙ sym (first_or-early (passes_at passes t) (length t) near (after ++ before) (λ none. omega arith))
 
-    module _ (none-near : length t ≤ place) (later : ℕ) (found-later : later ≡ first_in after) where
-      near-passed : first_in (order (length t) p) ≡ first_in (after ++ before)
-      near-passed =
-          first_or-late (passes_at passes t) (length t) near
-          (λ x m. order-inside (length t) p whole inside x (Memᴰ.append_left (after ++ before) m))
-          (after ++ before)
-          (omega arith)
+  module _ (none-near : first_in near ≡ length t) where
+    near-passed : first_in (order (length t) p) ≡ first_in (after ++ before)
+    near-passed =
+        first_or-late (passes_at passes t) (length t) near
+        (λ x m. order-inside (length t) p whole inside x (Memᴰ.append_left (after ++ before) m))
+        (after ++ before)
+        (omega arith)
 
-      pub found_after : later < length t → later ≡ first_in (order (length t) p)
-      found_after here =
-          found-later ∙ sym (near-passed ∙ first_or-early (passes_at passes t) (length t) after before (λ none. omega arith))
+    pub found_after : (place : ℕ) → place ≡ first_in after → place < length t → place ≡ first_in (order (length t) p)
+    found_after place found here = found ∙ sym (near-passed ∙ first_or-early (passes_at passes t) (length t) after before (λ none. omega arith))
 
-      after-passed : length t ≤ later → first_in (after ++ before) ≡ first_in before
-      after-passed none_after =
-          first_or-late (passes_at passes t) (length t) after
-          (λ x m. order-inside (length t) p whole inside x (Memᴰ.append_right near (Memᴰ.append_left before m)))
-          before
-          (omega arith)
-
-      pub found_before :
-          length t ≤ later → (earlier : ℕ) → earlier ≡ first_in (rising 0 (block_start p - 0)) → earlier ≡ first_in (order (length t) p)
-      found_before none_after earlier found-earlier =
-          found-earlier ∙ ap (λ (n : ℕ). first_in (rising 0 n)) (sub-zero (block_start p)) ∙ sym (near-passed ∙ after-passed none_after)
+    pub found_before : first_in after ≡ length t → first_in (rising 0 (block_start p - 0)) ≡ first_in (order (length t) p)
+    found_before none_after =
+        let after-passed : first_in (after ++ before) ≡ first_in before =
+        first_or-late (passes_at passes t) (length t) after
+        (λ x m. order-inside (length t) p whole inside x (Memᴰ.append_right near (Memᴰ.append_left before m)))
+        before
+        (omega arith)
+        in
+        ap (λ (n : ℕ). first_in (rising 0 n)) (sub-zero (block_start p)) ∙ sym (near-passed ∙ after-passed)

@@ -9,14 +9,14 @@ use lib.ListN.{length, take, length-append, get_or-eq_default}
 use lib.Seq.{sets, set-get_or, drop-length}
 use lib.Dec.{ltb}
 use borrow.Author.Tests.{le-ltb}
+use Rattle.std.specs.Prelude.{Result, Ok}
 use Rattle.paper.specs.Checks.{refuse}
 use Rattle.paper.specs.Refusals.{bad_page, too_long}
 use Rattle.paper.specs.Limits.{list_most, kind_most, units_most, Within}
 use Rattle.paper.specs.Promise.{written}
-use Rattle.paper.specs.declared.Written.{Written}
-use Rattle.paper.specs.declared.Written.TheVariants.{Length}
+use Rattle.paper.specs.declared.Refusal.{Refusal}
 use Rattle.paper.proofs.Cases.{by_lt}
-use Rattle.paper.proofs.Kept.{gives-number, fills-gives}
+use Rattle.paper.proofs.Kept.{gives-accepted, fills-accepted}
 use Rattle.paper.proofs.Chain.{or_else-first, or_else-next}
 use Rattle.paper.proofs.Rows.{size-passes}
 use Rattle.lists.specs.Proper.{Proper, lowest_fault}
@@ -29,9 +29,8 @@ use Rattle.words.proofs.Places.{word32-first, word32-second, put-word32}
 use Rattle.words.proofs.Runs.{length-bytes_of, length-entries_at, entries_at-second, entries_at-bytes_of, put-entries_at}
 use Rattle.page.specs.Layout.{length_of, version, version_of, kind_of, units_of, version_place, kind_place, units_place, entries_place, entry_count, entries_of, end_of, end_size, all_ones, laid_out}
 use Rattle.page.specs.Pages.{page_fault, read_fault, write_fault, page_length, head_bytes, end_bytes, page_bytes}
-use Rattle.page.specs.Promises.{Reads, Writes}
+use Rattle.page.specs.Promises.{paged_of, Reads, Writes}
 use Rattle.page.specs.declared.Paged.{Paged}
-use Rattle.page.specs.declared.Paged.TheVariants.{Page}
 use Rattle.page.proofs.Exact.{LaidOut, page-laid-out, tells-laid-out, write-shows, Writable}
 use Rattle.page.proofs.Bytes.{length-head_bytes, length-page_bytes, end_bytes-word, head-stored, page-stored, stored-written, page_bytes-split}
 
@@ -191,36 +190,39 @@ module _ (page : List ℕ) (passes : page_fault page ≡ 0) where
 -- over what the calls promise: a page that `page::write` made, read by `page::read`
 pub write-then-read :
     (n kind : ℕ) (list room after : List ℕ) (long : ℕ) →
-    Writes n kind list room (Length long) after →
-    (other filled : List ℕ) (result : Paged) →
+    Writes n kind list room (Ok long) after →
+    (other filled : List ℕ) (result : Result Paged Refusal) →
     length list ≤ length other → Reads (take long after) other result filled →
-    (result ≡ Page kind n (length list)) × (filled ≡ written list other)
+    (result ≡ Ok (record { kind = kind; n = n; entries = length list })) × (filled ≡ written list other)
 write-then-read n kind list room after long wrote other filled result fits read =
-    let none : write_fault n kind list room ≡ 0 = sym (gives-number (fills-gives wrote) (λ said. said.0) (λ k. refl) refl) in
-    let told : long ≡ page_length (length list) = rw none at (ap (λ (said : ℕ × ℕ). said.1) wrote.says) in
-    let holds : after ≡ written (page_bytes n kind list) room = rw none at wrote.holds in
+    let none : write_fault n kind list room ≡ 0 = wrote.gives.0 in
+    let told : long ≡ page_length (length list) = wrote.gives.1 in
+    let holds : after ≡ written (page_bytes n kind list) room = fills-accepted wrote none in
     let page : take long after ≡ page_bytes n kind list = rw holds (written-first (page_bytes n kind list) room long (told ∙ sym (length-page_bytes n kind list))) in
     let fine : Writable n kind list room = write-shows n kind list room none in
     let carries : Carries (page_bytes n kind list) n kind list = read-written n kind list fine.units fine.kinds fine.proper in
     let passed : read_fault (page_bytes n kind list) other ≡ 0 = rw (carries.passes, carries.says-list, le-ltb (length other) (length list) fits) in
-    (read.answers ∙ rw (page, passed, carries.says-kind, carries.says-units, carries.says-list), read.holds ∙ rw (page, passed, carries.says-list))
+    let here : Reads (page_bytes n kind list) other result filled = rw page at read in
+    let answered : result ≡ Ok (paged_of (page_bytes n kind list)) = gives-accepted (read_fault (page_bytes n kind list) other) (paged_of (page_bytes n kind list)) result passed here.gives in
+    (answered ∙ rw (carries.says-kind, carries.says-units, carries.says-list), fills-accepted here passed ∙ rw carries.says-list)
 
 -- what `page::read` gave of a page, written by `page::write`
 pub read-then-write :
     (page room after : List ℕ) (kind n entries : ℕ) →
-    Bytes page → Reads page room (Page kind n entries) after →
-    (other filled : List ℕ) (result : Written) →
+    Bytes page → Reads page room (Ok (record { kind = kind; n = n; entries = entries })) after →
+    (other filled : List ℕ) (result : Result ℕ Refusal) →
     length page ≤ length other → Writes n kind (take entries after) other result filled →
-    (result ≡ Length (length page)) × (filled ≡ written page other)
+    (result ≡ Ok (length page)) × (filled ≡ written page other)
 read-then-write page room after kind n entries bytes read other filled result fits wrote =
-    let none : read_fault page room ≡ 0 = sym (gives-number (fills-gives read) (λ said. said.0) (λ k. refl) refl) in
+    let none : read_fault page room ≡ 0 = read.gives.0 in
     let passes : page_fault page ≡ 0 = or_else-first (page_fault page) _ none in
-    let told-kind : kind ≡ kind_of page = rw none at (ap (λ (said : ℕ × ℕ × ℕ × ℕ). said.1) read.says) in
-    let told-units : n ≡ units_of page = rw none at (ap (λ (said : ℕ × ℕ × ℕ × ℕ). said.2) read.says) in
-    let told-count : entries ≡ length (entries_of page) = rw none at (ap (λ (said : ℕ × ℕ × ℕ × ℕ). said.3) read.says) in
-    let holds : after ≡ written (entries_of page) room = rw none at read.holds in
+    let told-kind : kind ≡ kind_of page = ap (λ (paged : Paged). paged.kind) read.gives.1 in
+    let told-units : n ≡ units_of page = ap (λ (paged : Paged). paged.n) read.gives.1 in
+    let told-count : entries ≡ length (entries_of page) = ap (λ (paged : Paged). paged.entries) read.gives.1 in
+    let holds : after ≡ written (entries_of page) room = fills-accepted read none in
     let list : take entries after ≡ entries_of page = rw holds (written-first (entries_of page) room entries told-count) in
-    let passed : write_fault (units_of page) (kind_of page) (entries_of page) other ≡ 0 = read-writable page passes other fits in (
-      wrote.answers ∙ rw (told-units, told-kind, list, passed) (ap Length (same_length page passes)),
-      wrote.holds ∙ rw (told-units, told-kind, list, passed, written_read page passes bytes),
-    )
+    let passed : write_fault (units_of page) (kind_of page) (entries_of page) other ≡ 0 = read-writable page passes other fits in
+    let again : Writes (units_of page) (kind_of page) (entries_of page) other result filled = rw (told-units, told-kind, list) at wrote in
+    let answered : result ≡ Ok (page_length (length (entries_of page))) =
+    gives-accepted (write_fault (units_of page) (kind_of page) (entries_of page) other) (page_length (length (entries_of page))) result passed again.gives in
+    (answered ∙ ap Ok (same_length page passes), fills-accepted again passed ∙ rw (written_read page passes bytes))

@@ -1,4 +1,3 @@
 pub mod Exact
 pub mod Bytes
-pub mod Says
 pub mod Back

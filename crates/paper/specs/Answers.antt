@@ -1,34 +1,20 @@
--- The numbers of the paper that each answer stands for, the refusal first: 0 where the call accepts, and every other number 0 where it refuses. For each kind of answer, what it is to give it by a chain of checks.
-use Rattle.std.specs.Prelude.{ℕ, List}
-use Rattle.paper.specs.Promise.{Gives, Fills}
-use Rattle.paper.specs.declared.Placed.{Placed}
-use Rattle.paper.specs.declared.Placed.TheVariants.{At, Refused as NotPlaced}
-use Rattle.paper.specs.declared.Named.{Named}
-use Rattle.paper.specs.declared.Named.TheVariants.{Block, NoBlock, Refused as NotNamed}
-use Rattle.paper.specs.declared.Written.{Written}
-use Rattle.paper.specs.declared.Written.TheVariants.{Length, Refused as NotWritten}
+-- The numbers of the paper that an answer stands for, the refusal first: 0 where the call accepts, and every other number 0 where it refuses.
+use Rattle.std.specs.Prelude.{ℕ, Option, Some, None, Result, Ok, Err}
+use Rattle.paper.specs.Numbers.{number}
+use Rattle.paper.specs.declared.Refusal.{Refusal}
 
--- refusal, sector
-abbrev pub said_placed : Placed → ℕ × ℕ
-said_placed (At sector) = (0, sector)
-said_placed (NotPlaced fault) = (fault, 0)
+-- refusal alone
+abbrev pub said_verdict : Result Unit Refusal → ℕ
+said_verdict (Ok _) = 0
+said_verdict (Err refusal) = number refusal
 
-abbrev pub GivesPlaced : ℕ → Placed → Placed → Type 0
-GivesPlaced = Gives said_placed (λ fault. (fault, 0)) NotPlaced
+-- refusal, and a sector, a length, a place or a size
+abbrev pub said_number : Result ℕ Refusal → ℕ × ℕ
+said_number (Ok answer) = (0, answer)
+said_number (Err refusal) = (number refusal, 0)
 
 -- refusal, whether a block lies there (1 or 0), block
-abbrev pub said_named : Named → ℕ × ℕ × ℕ
-said_named (Block block) = (0, 1, block)
-said_named NoBlock = (0, 0, 0)
-said_named (NotNamed fault) = (fault, 0, 0)
-
-abbrev pub GivesNamed : ℕ → Named → Named → Type 0
-GivesNamed = Gives said_named (λ fault. (fault, 0, 0)) NotNamed
-
--- refusal, length
-abbrev pub said_written : Written → ℕ × ℕ
-said_written (Length length) = (0, length)
-said_written (NotWritten fault) = (fault, 0)
-
-abbrev pub FillsWritten : ℕ → Written → List ℕ → List ℕ → Written → List ℕ → Type 0
-FillsWritten = Fills said_written (λ fault. (fault, 0)) NotWritten
+abbrev pub said_named : Result (Option ℕ) Refusal → ℕ × ℕ × ℕ
+said_named (Ok (Some block)) = (0, 1, block)
+said_named (Ok None) = (0, 0, 0)
+said_named (Err refusal) = (number refusal, 0, 0)

@@ -1,4 +1,5 @@
 pub mod Refusals
+pub mod Numbers
 pub mod Checks
 pub mod Exactly
 pub mod Limits

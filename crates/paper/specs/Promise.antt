@@ -1,16 +1,27 @@
--- What a public call promises. Its chain of checks stands once, and so does its answer: a refused call answers and says nothing but its number, and leaves what was lent as it was.
-use Rattle.std.specs.Prelude.{ℕ, ◌≡◌, List, ◌++◌, length, drop}
+-- What a call promises. Its chain of checks stands once, and so does its answer: a refusal says the number of the chain, and what was lent stays as it was.
+use Rattle.std.specs.Prelude.{ℕ, ◌≡◌, List, ◌++◌, length, drop, Result, Ok, Err}
 use Rattle.paper.specs.Checks.{answer}
+use Rattle.paper.specs.Numbers.{number}
+use Rattle.paper.specs.declared.Refusal.{Refusal}
 
--- the result is a refusal made of the chain's fault, or the accepted answer; and it says the paper's numbers for that
-pub record Gives {Answer Said : Type 0} (said : Answer → Said) (nothing : ℕ → Said) (refused : ℕ → Answer) (fault : ℕ) (accepted result : Answer) : Type 0 where
-  pub answers : result ≡ answer fault refused accepted
-  pub says : said result ≡ answer fault nothing (said accepted)
+-- a check passes where its chain finds no fault, and else refuses with the fault's number
+abbrev pub Passes : ℕ → Result Unit Refusal → Type 0
+Passes fault (Ok _) = fault ≡ 0
+Passes fault (Err refusal) = fault ≡ number refusal
+
+-- a call gives an answer of which something holds where its chain finds no fault, and else refuses with the fault's number
+abbrev pub GivesSuch : {Answer : Type 0} → ℕ → (Answer → Type 0) → Result Answer Refusal → Type 0
+GivesSuch fault Such (Ok answer) = (fault ≡ 0) × Such answer
+GivesSuch fault Such (Err refusal) = fault ≡ number refusal
+
+-- a call gives its answer where its chain finds no fault, and else refuses with the fault's number
+abbrev pub Gives : {Answer : Type 0} → ℕ → Answer → Result Answer Refusal → Type 0
+Gives fault accepted (Ok answer) = (fault ≡ 0) × (answer ≡ accepted)
+Gives fault accepted (Err refusal) = fault ≡ number refusal
 
 -- besides, what is lent to be written stays as it was where the call refuses, and else is filled
-pub record Fills {Answer Said Lent : Type 0} (said : Answer → Said) (nothing : ℕ → Said) (refused : ℕ → Answer) (fault : ℕ) (accepted : Answer) (before filled : Lent) (result : Answer) (after : Lent) : Type 0 where
-  pub answers : result ≡ answer fault refused accepted
-  pub says : said result ≡ answer fault nothing (said accepted)
+pub record Fills {Answer Lent : Type 0} (fault : ℕ) (accepted : Answer) (before filled : Lent) (result : Result Answer Refusal) (after : Lent) : Type 0 where
+  pub gives : Gives fault accepted result
   pub holds : after ≡ answer fault (λ number. before) filled
 
 -- a room whose first places hold a list, and the rest what it held

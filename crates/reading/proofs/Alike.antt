@@ -7,7 +7,9 @@ use native.Mathlib.Omega.{arith}
 use lib.ListN.{length, get_or, take, drop, length-take, length-drop}
 use lib.Seq.{sets, length-sets, get_or-take, get_or-drop, ext_get_or}
 use denote.Ref.{Bor}
-use Rattle.paper.specs.Checks.{answer}
+use Rattle.std.specs.Prelude.{Result}
+use Rattle.paper.specs.declared.Refusal.{Refusal}
+use Rattle.paper.proofs.Kept.{passes-one, gives-one}
 use Rattle.paper.specs.Limits.{image_extra}
 use Rattle.paper.proofs.Cases.{by_bool, by_lt, by_fault}
 use Rattle.words.proofs.Stores.{get_or_sets_before, get_or-sets-after}
@@ -19,11 +21,11 @@ use Rattle.table.specs.Scratch.{Enough}
 use Rattle.table.proofs.Lookups.{tells-replaced}
 use Rattle.table.proofs.Exact.{table-alike}
 use Rattle.image.specs.Image.{data_of}
-use Rattle.image.specs.declared.Verdict.TheVariants.{Good, Refused as NotGood}
 use Rattle.reading.specs.Tracks.{track_of, sector_in, bytes_in, image_at, image_for}
 use Rattle.reading.specs.Faults.{lent_fault, block_read_fault}
-use Rattle.reading.specs.Promises.{DataSized}
-use Rattle.reading.proofs.Spots.{spotted, read-enough}
+use Rattle.reading.specs.declared.answers.Spot.{Spot}
+use Rattle.reading.specs.Promises.{spot_of, JudgeSized, SpotSized, DataSized}
+use Rattle.reading.proofs.Spots.{read-enough}
 use Rattle.reading.proofs.Seats.{track-ptr, image-inside}
 use Rattle.reading.proofs.Parts.{refused-part, accepted-part, refused-empty, accepted-data}
 
@@ -78,11 +80,20 @@ module _ (size : ℕ) (shape : Shape) (r : ℕ) (t scratch scratch' : List ℕ) 
     read_alike = rw (table-alike shape r t scratch scratch' enough enough', agree.home-alike, agree.spare-alike, agree.lies_alike)
 
     pub verdict-alike :
-        answer (block_read_fault size shape r t scratch b home spare) NotGood Good ≡ answer (block_read_fault size shape r t scratch' b home' spare') NotGood Good
-    verdict-alike = rw read_alike
+        {verdict again : Result Unit Refusal} → JudgeSized size shape r t scratch b home spare verdict → JudgeSized size shape r t scratch' b home' spare' again →
+        verdict ≡ again
+    verdict-alike {verdict} {again} first second =
+        passes-one (block_read_fault size shape r t scratch' b home' spare') verdict again (rw read_alike at first) second
 
-    pub spot-alike : spotted size shape r t scratch b home spare ≡ spotted size shape r t scratch' b home' spare'
-    spot-alike = rw read_alike
+    -- a spot of the one is a spot of the other
+    pub spot-either : (spot : Result Spot Refusal) → SpotSized size shape r t scratch b home spare spot → SpotSized size shape r t scratch' b home' spare' spot
+    spot-either spot spots = rw read_alike at spots
+
+    pub spot-alike :
+        {spot again : Result Spot Refusal} → SpotSized size shape r t scratch b home spare spot → SpotSized size shape r t scratch' b home' spare' again →
+        spot ≡ again
+    spot-alike {spot} {again} first second =
+        gives-one (block_read_fault size shape r t scratch' b home' spare') (spot_of size shape r t b) spot again (spot-either spot first) second
 
   -- the parts hold the same, and lie at the same place where the images do
   module _

@@ -6,23 +6,24 @@ use mathlib.Core.List.{List, []}
 use native.Mathlib.Omega.{arith}
 use lib.ListN.{length, take, drop}
 use denote.Ref.{Bor}
-use Rattle.paper.proofs.Cases.{by_bool, by_fault}
+use Rattle.std.specs.Prelude.{Result, Ok, Err}
+use Rattle.paper.specs.declared.Refusal.{Refusal}
 use Rattle.paper.specs.Checks.{◌or_else◌}
 use Rattle.paper.specs.Limits.{data_size_fault}
-use Rattle.paper.proofs.Chain.{or_else-first, answer-refused}
+use Rattle.paper.proofs.Chain.{or_else-first}
 use Rattle.shape.specs.declared.Shape.{Shape}
 use Rattle.layout.specs.Layouts.{drive_of}
-use Rattle.table.specs.Lookup.{is_replaced}
 use Rattle.image.specs.Image.{data_of}
 use Rattle.image.specs.Promises.{Lends, LendsNone}
 use Rattle.image.proofs.Images.{length-data}
 use Rattle.image.proofs.Lent.{part-refused, part-accepted, refuses-part, part-one}
-use Rattle.reading.specs.declared.answers.Spot.TheVariants.{InHome, InSpare, Refused as NotSpotted}
+use Rattle.reading.specs.declared.answers.Spot.{Spot}
+use Rattle.reading.specs.declared.answers.Spot.TheVariants.{InHome, InSpare}
 use Rattle.reading.specs.Tracks.{track_of, start_of, data_start, image_for}
 use Rattle.reading.specs.Faults.{block_read_fault}
-use Rattle.reading.specs.Promises.{spot_of, LendsBlock, DataSized, Data, AtSpot, in-home, in-spare, nowhere}
+use Rattle.reading.specs.Promises.{LendsBlock, SpotSized, DataSized, Data, AtSpot, in-home, in-spare, nowhere}
 use Rattle.reading.proofs.Seats.{image-long, data-inside}
-use Rattle.reading.proofs.Spots.{lies-inside, track-long, read-shows, spotted, home-told, spare-told, refused-told}
+use Rattle.reading.proofs.Spots.{lies-inside, track-long, read-shows, home-told, spare-told, refused-told}
 
 module _ (size : ℕ) (shape : Shape) (r : ℕ) (t scratch : List ℕ) (b : ℕ) where
   -- the data of a block that is read without fault has its size
@@ -46,10 +47,10 @@ module _ (size : ℕ) (shape : Shape) (r : ℕ) (t scratch : List ℕ) (b : ℕ)
 
     -- the part that each spot hands back
     pub lends-home :
-        {offset : ℕ} (part : Bor (List ℕ)) → spotted size shape r t scratch b home.now spare.now ≡ InHome offset →
+        {offset : ℕ} (part : Bor (List ℕ)) → SpotSized size shape r t scratch b home.now spare.now (Ok (InHome offset)) →
         Lends home offset (take (offset + size - offset) (drop offset home.now)) part → DataSized size shape r t scratch b home spare part
-    lends-home {offset} part same lent =
-        let told = home-told size shape r t scratch b home.now spare.now same in
+    lends-home {offset} part spots lent =
+        let told = home-told size shape r t scratch b home.now spare.now spots in
         let long : offset + size - offset ≡ size = omega arith in
         rw told.0
         (record {
@@ -58,10 +59,10 @@ module _ (size : ℕ) (shape : Shape) (r : ℕ) (t scratch : List ℕ) (b : ℕ)
         })
 
     pub lends-spare :
-        {offset : ℕ} (part : Bor (List ℕ)) → spotted size shape r t scratch b home.now spare.now ≡ InSpare offset →
+        {offset : ℕ} (part : Bor (List ℕ)) → SpotSized size shape r t scratch b home.now spare.now (Ok (InSpare offset)) →
         Lends spare offset (take (offset + size - offset) (drop offset spare.now)) part → DataSized size shape r t scratch b home spare part
-    lends-spare {offset} part same lent =
-        let told = spare-told size shape r t scratch b home.now spare.now same in
+    lends-spare {offset} part spots lent =
+        let told = spare-told size shape r t scratch b home.now spare.now spots in
         let long : offset + size - offset ≡ size = omega arith in
         rw told.0
         (record {
@@ -70,11 +71,9 @@ module _ (size : ℕ) (shape : Shape) (r : ℕ) (t scratch : List ℕ) (b : ℕ)
         })
 
     pub lends-empty :
-        {number : ℕ} (part : Bor (List ℕ)) → spotted size shape r t scratch b home.now spare.now ≡ NotSpotted number →
+        (refusal : Refusal) (part : Bor (List ℕ)) → SpotSized size shape r t scratch b home.now spare.now (Err refusal) →
         LendsNone home part → DataSized size shape r t scratch b home spare part
-    lends-empty part same =
-        let told = refused-told size shape r t scratch b home.now spare.now same in
-        refuses-part Empty Whole part fault (λ none. told.1 (sym told.0 ∙ none))
+    lends-empty refusal part is = refuses-part Empty Whole part fault (refused-told size shape r t scratch b home.now spare.now refusal is).1
 
     -- nor does the public call lend any where it refuses the size
     pub size-lends-empty : (part : Bor (List ℕ)) → (data_size_fault size ≡ 0 → ⊥) → LendsNone home part → Data size shape r t scratch b home spare part
@@ -102,26 +101,24 @@ module _ (size : ℕ) (shape : Shape) (r : ℕ) (t scratch : List ℕ) (b : ℕ)
           omega (arith, read_length home.now spare.now none, ap length (sym (accepted-data none) ∙ empty))
 
       -- it is the data at the spot
-      pub data-at-spot : AtSpot size home spare part (spotted size shape r t scratch b home.now spare.now)
-      data-at-spot =
-          by_fault (block_read_fault size shape r t scratch b home.now spare.now)
-          (λ none.
-          by_bool (is_replaced t b)
-          (λ e.
-          rw (none, e)
-          (in-spare {offset = data_start size (drive_of shape r) t b}
+      pub data-at-spot : (spot : Result Spot Refusal) → SpotSized size shape r t scratch b home.now spare.now spot → AtSpot size home spare part spot
+      data-at-spot (Ok (InHome offset)) spots =
+          let told = home-told size shape r t scratch b home.now spare.now spots in
+          let whole = accepted-part told.0 in
+          in-home
           (record {
-            holds = accepted-data none ∙ rw e (data-inside size (start_of size (drive_of shape r) t b) spare.now);
-            lies = rw e at (accepted-part none).lies;
-          })))
-          (λ e.
-          rw (none, e)
-          (in-home {offset = data_start size (drive_of shape r) t b}
+            holds = whole.holds ∙ rw (told.1.0, told.1.1) (data-inside size (start_of size (drive_of shape r) t b) home.now);
+            lies = rw (told.1.0, ← told.1.1) at whole.lies;
+          })
+      data-at-spot (Ok (InSpare offset)) spots =
+          let told = spare-told size shape r t scratch b home.now spare.now spots in
+          let whole = accepted-part told.0 in
+          in-spare
           (record {
-            holds = accepted-data none ∙ rw e (data-inside size (start_of size (drive_of shape r) t b) home.now);
-            lies = rw e at (accepted-part none).lies;
-          }))))
-          (λ some. rw (answer-refused (block_read_fault size shape r t scratch b home.now spare.now) NotSpotted (spot_of size shape r t b) some) (nowhere (refused-part some)))
+            holds = whole.holds ∙ rw (told.1.0, told.1.1) (data-inside size (start_of size (drive_of shape r) t b) spare.now);
+            lies = rw (told.1.0, ← told.1.1) at whole.lies;
+          })
+      data-at-spot (Err refusal) is = nowhere (refused-part (refused-told size shape r t scratch b home.now spare.now refusal is).1)
 
     -- the part of the public call, whose chain has the size first
     module _ (part : Bor (List ℕ)) (lent : Data size shape r t scratch b home spare part) where

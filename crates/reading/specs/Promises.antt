@@ -1,8 +1,10 @@
 -- What the calls of `reading` promise, for any number of data bytes, and what the public ones promise: the same, once the size of the data is found to be one of the two.
-use Rattle.std.specs.Prelude.{ℕ, List, ◌≡◌, ℤ, pos, take, drop}
+use Rattle.std.specs.Prelude.{ℕ, List, ◌≡◌, ℤ, pos, take, drop, Result, Ok, Err}
 use Rattle.std.specs.Borrow.{Bor}
 use Rattle.paper.specs.Checks.{◌or_else◌, answer}
-use Rattle.paper.specs.Promise.{Gives}
+use Rattle.paper.specs.Numbers.{number}
+use Rattle.paper.specs.Promise.{Passes, Gives}
+use Rattle.paper.specs.declared.Refusal.{Refusal}
 use Rattle.paper.specs.Limits.{data_size_fault}
 use Rattle.shape.specs.declared.Shape.{Shape}
 use Rattle.shape.specs.Addresses.{address_at}
@@ -11,26 +13,19 @@ use Rattle.table.specs.Rules.{block_fault}
 use Rattle.table.specs.Lookup.{lies_on}
 use Rattle.table.specs.Scratch.{scratch_after}
 use Rattle.arm.specs.Shifts.{shift_of}
-use Rattle.image.specs.declared.Verdict.{Verdict}
-use Rattle.image.specs.declared.Verdict.TheVariants.{Good}
 use Rattle.image.specs.Image.{data_of}
-use Rattle.image.specs.Promises.{GivesVerdict, Lends, LendsNone}
+use Rattle.image.specs.Promises.{Lends, LendsNone}
 use Rattle.reading.specs.declared.answers.Track.{Track}
 use Rattle.reading.specs.declared.answers.Pair.{Pair}
-use Rattle.reading.specs.declared.answers.Tracks.{Tracks}
-use Rattle.reading.specs.declared.answers.Tracks.TheVariants.{Fetch, Refused as NotFetched}
 use Rattle.reading.specs.declared.answers.Spot.{Spot}
-use Rattle.reading.specs.declared.answers.Spot.TheVariants.{InHome, InSpare, Refused as NotSpotted}
+use Rattle.reading.specs.declared.answers.Spot.TheVariants.{InHome, InSpare}
 use Rattle.reading.specs.Tracks.{track_of, data_start, image_for}
 use Rattle.reading.specs.Faults.{block_read_fault}
 
 -- refusal, cylinder and head of the home track, cylinder and head of the track that the block lies on, shift
-abbrev pub said_tracks : Tracks → ℕ × ℕ × ℕ × ℕ × ℕ × ℤ
-said_tracks (Fetch pair) = (0, pair.home.cylinder, pair.home.head, pair.there.cylinder, pair.there.head, pair.shift)
-said_tracks (NotFetched fault) = (fault, 0, 0, 0, 0, pos 0)
-
-abbrev pub GivesTracks : ℕ → Tracks → Tracks → Type 0
-GivesTracks = Gives said_tracks (λ fault. (fault, 0, 0, 0, 0, pos 0)) NotFetched
+abbrev pub said_tracks : Result Pair Refusal → ℕ × ℕ × ℕ × ℕ × ℕ × ℤ
+said_tracks (Ok pair) = (0, pair.home.cylinder, pair.home.head, pair.there.cylinder, pair.there.head, pair.shift)
+said_tracks (Err refusal) = (number refusal, 0, 0, 0, 0, pos 0)
 
 -- the track of a sector
 abbrev pub track_at : Shape → ℕ → Track
@@ -46,27 +41,24 @@ pair_of shape r t b =
     }
 
 -- the tracks to fetch for a read of a block; what is left of the scratch is `Scratched` of `table`
-abbrev pub TracksOf : Shape → ℕ → List ℕ → List ℕ → ℕ → Tracks → Type 0
-TracksOf shape r t scratch b = GivesTracks (block_fault shape r t scratch b) (Fetch (pair_of shape r t b))
+abbrev pub TracksOf : Shape → ℕ → List ℕ → List ℕ → ℕ → Result Pair Refusal → Type 0
+TracksOf shape r t scratch b = Gives (block_fault shape r t scratch b) (pair_of shape r t b)
 
 -- refusal, image (0 that of the home track, 1 the second), offset of the data inside it
-abbrev pub said_spot : Spot → ℕ × ℕ × ℕ
-said_spot (InHome offset) = (0, 0, offset)
-said_spot (InSpare offset) = (0, 1, offset)
-said_spot (NotSpotted fault) = (fault, 0, 0)
-
-abbrev pub GivesSpot : ℕ → Spot → Spot → Type 0
-GivesSpot = Gives said_spot (λ fault. (fault, 0, 0)) NotSpotted
+abbrev pub said_spot : Result Spot Refusal → ℕ × ℕ × ℕ
+said_spot (Ok (InHome offset)) = (0, 0, offset)
+said_spot (Ok (InSpare offset)) = (0, 1, offset)
+said_spot (Err refusal) = (number refusal, 0, 0)
 
 -- where the data of a block begins
 abbrev pub spot_of : ℕ → Shape → ℕ → List ℕ → ℕ → Spot
 spot_of size shape r t b = track_of t b InHome InSpare (data_start size (drive_of shape r) t b)
 
-abbrev pub SpotSized : ℕ → Shape → ℕ → List ℕ → List ℕ → ℕ → List ℕ → List ℕ → Spot → Type 0
-SpotSized size shape r t scratch b home spare = GivesSpot (block_read_fault size shape r t scratch b home spare) (spot_of size shape r t b)
+abbrev pub SpotSized : ℕ → Shape → ℕ → List ℕ → List ℕ → ℕ → List ℕ → List ℕ → Result Spot Refusal → Type 0
+SpotSized size shape r t scratch b home spare = Gives (block_read_fault size shape r t scratch b home spare) (spot_of size shape r t b)
 
-abbrev pub JudgeSized : ℕ → Shape → ℕ → List ℕ → List ℕ → ℕ → List ℕ → List ℕ → Verdict → Type 0
-JudgeSized size shape r t scratch b home spare = GivesVerdict (block_read_fault size shape r t scratch b home spare) Good
+abbrev pub JudgeSized : ℕ → Shape → ℕ → List ℕ → List ℕ → ℕ → List ℕ → List ℕ → Result Unit Refusal → Type 0
+JudgeSized size shape r t scratch b home spare = Passes (block_read_fault size shape r t scratch b home spare)
 
 -- the data of a block where it lies in the image that the block lies in
 abbrev pub LendsBlock : ℕ → Shape → ℕ → List ℕ → ℕ → Bor (List ℕ) → Bor (List ℕ) → Bor (List ℕ) → Type 0
@@ -79,21 +71,21 @@ DataSized size shape r t scratch b home spare =
     answer (block_read_fault size shape r t scratch b home.now spare.now) (λ fault. LendsNone home) (LendsBlock size shape r t b home spare)
 
 -- the part at a spot: so many bytes from the offset on, in the image that the spot names; none at the start of home for a refusal
-pub data AtSpot (size : ℕ) (home spare part : Bor (List ℕ)) : Spot → Type 0 where
-  in-home : {offset : ℕ} → Lends home offset (take size (drop offset home.now)) part → AtSpot size home spare part (InHome offset)
-  in-spare : {offset : ℕ} → Lends spare offset (take size (drop offset spare.now)) part → AtSpot size home spare part (InSpare offset)
-  nowhere : {fault : ℕ} → LendsNone home part → AtSpot size home spare part (NotSpotted fault)
+pub data AtSpot (size : ℕ) (home spare part : Bor (List ℕ)) : Result Spot Refusal → Type 0 where
+  in-home : {offset : ℕ} → Lends home offset (take size (drop offset home.now)) part → AtSpot size home spare part (Ok (InHome offset))
+  in-spare : {offset : ℕ} → Lends spare offset (take size (drop offset spare.now)) part → AtSpot size home spare part (Ok (InSpare offset))
+  nowhere : {refusal : Refusal} → LendsNone home part → AtSpot size home spare part (Err refusal)
 
 -- the public calls: first the size is looked at, and any but the two is refused 1
-abbrev pub Judge : ℕ → Shape → ℕ → List ℕ → List ℕ → ℕ → List ℕ → List ℕ → Verdict → Type 0
-Judge size shape r t scratch b home spare = GivesVerdict (data_size_fault size or_else block_read_fault size shape r t scratch b home spare) Good
+abbrev pub Judge : ℕ → Shape → ℕ → List ℕ → List ℕ → ℕ → List ℕ → List ℕ → Result Unit Refusal → Type 0
+Judge size shape r t scratch b home spare = Passes (data_size_fault size or_else block_read_fault size shape r t scratch b home spare)
 
 abbrev pub Data : ℕ → Shape → ℕ → List ℕ → List ℕ → ℕ → Bor (List ℕ) → Bor (List ℕ) → Bor (List ℕ) → Type 0
 Data size shape r t scratch b home spare =
     answer (data_size_fault size or_else block_read_fault size shape r t scratch b home.now spare.now) (λ fault. LendsNone home) (LendsBlock size shape r t b home spare)
 
-abbrev pub Spots : ℕ → Shape → ℕ → List ℕ → List ℕ → ℕ → List ℕ → List ℕ → Spot → Type 0
-Spots size shape r t scratch b home spare = GivesSpot (data_size_fault size or_else block_read_fault size shape r t scratch b home spare) (spot_of size shape r t b)
+abbrev pub Spots : ℕ → Shape → ℕ → List ℕ → List ℕ → ℕ → List ℕ → List ℕ → Result Spot Refusal → Type 0
+Spots size shape r t scratch b home spare = Gives (data_size_fault size or_else block_read_fault size shape r t scratch b home spare) (spot_of size shape r t b)
 
 -- what they leave of their scratch: refused for the size, all as it was; else what every call leaves that is lent a table
 abbrev pub ReadScratched : ℕ → Shape → ℕ → List ℕ → List ℕ → Type 0

@@ -3,11 +3,11 @@
 
 ghost use Rattle.std.specs.Prelude.{◌≡◌, ◌+◌, ◌*◌, ◌^◌, ◌<◌, ◌≤◌, length};
 ghost use Rattle.paper.specs.Checks.{pick};
-ghost use Rattle.paper.specs.Limits.{sectors_most, image_extra};
+ghost use Rattle.paper.specs.Limits.{sectors_most, image_extra, data_size_fault};
+ghost use Rattle.paper.specs.Promise.{Passes, GivesSuch};
 ghost use Rattle.image.specs.Image.{contents_fault};
-ghost use Rattle.layout.specs.Steps.{Laid};
+ghost use Rattle.layout.specs.Layouts.{drive_of};
 ghost use Rattle.table.specs.Scratch.{Scratched};
-ghost use Rattle.table.specs.Steps.{Obeys};
 ghost use Rattle.reading.specs.Tracks.{image_at};
 ghost use Rattle.reading.specs.Steps.{seat_of};
 ghost use Rattle.reading.specs.Faults.{lent_fault};
@@ -15,25 +15,27 @@ ghost use Rattle.reading.specs.Promises.{TracksOf, SpotSized, JudgeSized, DataSi
 
 mod answers;
 
-pub use answers::{Pair, Spot, Track, Tracks};
-use image::Verdict;
-use layout::Drive;
-use paper::{HEADER_SIZE, IMAGE_EXTRA, WRONG_LENGTH};
+pub use answers::{Pair, Spot, Track};
+use paper::{HEADER_SIZE, IMAGE_EXTRA, Refusal};
 use shape::Shape;
+use table::Table;
 
 // The tracks to fetch for a read of a block. Checks 1, 7, 11, 5.
-pub fn tracks(shape: Shape, r: u32, table: &[u32], scratch: &mut [u32], block: u32) -> Tracks
+pub fn tracks(
+    shape: Shape,
+    r: u32,
+    table: &[u32],
+    scratch: &mut [u32],
+    block: u32,
+) -> Result<Pair, Refusal>
     ensures tracks_of { TracksOf shape r table.now scratch.old block result }
     ensures scratched { Scratched shape r scratch.old scratch.new }
 {
-    let fault = table::block_fault(shape, r, table, scratch, block);
-    if fault != 0 {
-        return Tracks::Refused(fault);
-    }
-    let drive = layout::drive_of(shape, r);
-    let home = shape::address_at(shape, layout::home_sector(drive, block));
-    let there = shape::address_at(shape, table::lies_on(drive, table, block));
-    Tracks::Fetch(Pair {
+    let table = Table::check_block(shape, r, table, scratch, block)?;
+    let geometry = table.layout.geometry;
+    let home = geometry.address_at(table.layout.home_sector(block));
+    let there = geometry.address_at(table.lies_on(block));
+    Ok(Pair {
         home: Track {
             cylinder: home.cylinder,
             head: home.head,
@@ -47,56 +49,151 @@ pub fn tracks(shape: Shape, r: u32, table: &[u32], scratch: &mut [u32], block: u
 }
 
 // Where a block lies: whether on a spare, and on which sector of the track; and the number that the header there must carry.
-#[derive(Clone, Copy)]
+#[derive(Clone, Copy, Debug, PartialEq, Eq)]
 struct Seat {
     replaced: bool,
     sector: usize,
     header: u32,
 }
 
+// Whether it is a spare stays a flag: both seats have a sector and a header, and what follows is the same for both but for the image.
 // Where a block lies, and its header there: on a spare that names it, with the descriptor for its header, else at home with its own number.
-fn seat_of(drive: Drive, table: &[u32], block: u32) -> Seat
-    requires laid { Laid drive }
-    requires obeys { Obeys drive table.now }
-    requires block_lt_blocks { block < drive.blocks }
-    ensures { result ≡ seat_of drive table.now block }
+fn seat_of(table: Table<'_>, block: u32) -> Seat
+    requires { block < table.layout.drive.blocks }
+    ensures { result ≡ seat_of table.entry.layout.drive table.entry.words.now block }
 {
-    let place = table::place_of(drive, table, block);
-    if place < table.len() {
-        return Seat {
+    let drive = table.layout.drive;
+    match table.place_of(block) {
+        Some(place) => Seat {
             replaced: true,
             sector: drive.l as usize + place % drive.r as usize,
-            header: table[place],
-        };
-    }
-    Seat {
-        replaced: false,
-        sector: (block % drive.l) as usize,
-        header: block,
+            header: table.words[place],
+        },
+        None => Seat {
+            replaced: false,
+            sector: (block % drive.l) as usize,
+            header: block,
+        },
     }
 }
 
-// The image of the track that a block lies on.
-fn track_of<'a>(replaced: bool, home: &'a [u8], spare: &'a [u8]) -> &'a [u8]
-    ensures { result ≡ pick replaced spare.entry home.entry }
-{
-    if replaced {
-        return spare;
-    }
-    home
-}
-
-// 15, 16, 17 or 18 for the sector image that starts at a place of a track and is judged where it lies, else 0.
-fn part_fault(size: usize, track: &[u8], start: usize, number: u32) -> u32
+// 15, 16, 17 or 18 for the sector image that starts at a place of a track and is judged where it lies.
+fn check_part(size: usize, track: &[u8], start: usize, number: u32) -> Result<(), Refusal>
     requires { start + (size + image_extra) ≤ length track.now }
-    ensures { result ≡ contents_fault size (image_at size start track.now) number }
+    ensures { Passes (contents_fault size (image_at size start track.now) number) result }
 {
-    image::contents_fault(size, &track[start..start + (size + IMAGE_EXTRA)], number)
+    image::check_contents(size, &track[start..start + (size + IMAGE_EXTRA)], number)
 }
 
-// 1, 7, 11, 5 or 14 for what is lent, else 0: no sector is looked into.
-fn lent_fault(
+// The images of the two tracks that a block may lie on, of its home and of its spare, and how many data bytes each of their sectors has.
+#[derive(Clone, Copy)]
+struct Images<'a> {
     size: usize,
+    home: &'a [u8],
+    spare: &'a [u8],
+    ghost fits: { sectors_most * (size + image_extra) < 2 ^ 32 },
+}
+
+// Shape, r, table, scratch and block stay one by one, as they are lent: the scratch is written before there is a `Table`.
+impl<'a> Images<'a> {
+    // The images of a read: 1 for a size that a sector's data does not have.
+    fn check(size: u32, home: &'a [u8], spare: &'a [u8]) -> Result<Images<'a>, Refusal>
+        ensures { GivesSuch (data_size_fault size) (λ images. (images.size ≡ size) × (images.home ≡ home.entry) × (images.spare ≡ spare.entry)) result }
+    {
+        paper::check_data_size(size)?;
+        Ok(Images {
+            size: size as usize,
+            home,
+            spare,
+        })
+    }
+
+    // The image of the track that a block lies on.
+    fn track_of(self, replaced: bool) -> &'a [u8]
+        ensures { result ≡ pick replaced self.entry.spare self.entry.home }
+    {
+        if replaced { self.spare } else { self.home }
+    }
+
+    // 1, 7, 11, 5 or 14 for what is lent: no sector is looked into.
+    #[tactic(auto, unfolding(crate::specs::Faults::lent_fault))]
+    fn check_lent<'t>(
+        self,
+        shape: Shape,
+        r: u32,
+        table: &'t [u32],
+        scratch: &mut [u32],
+        block: u32,
+    ) -> Result<Table<'t>, Refusal>
+        ensures value { GivesSuch (lent_fault self.entry.size shape r table.now scratch.old block self.entry.home.now self.entry.spare.now) (λ checked. (checked.layout.drive ≡ drive_of shape r) × (checked.words.now ≡ table.now) × (block < checked.layout.drive.blocks)) result }
+        ensures scratched { Scratched shape r scratch.old scratch.new }
+    {
+        let table = Table::check_block(shape, r, table, scratch, block)?;
+        let long = shape.sectors as usize * (self.size + IMAGE_EXTRA);
+        if self.home.len() != long || self.spare.len() != long {
+            return Err(Refusal::WrongLength);
+        }
+        Ok(table)
+    }
+
+    // Where the data of a block begins. Checks 1, 7, 11, 5, 14, 15 to 18.
+    #[tactic(auto, unfolding(crate::specs::Faults::block_read_fault))]
+    fn spot(
+        self,
+        shape: Shape,
+        r: u32,
+        table: &[u32],
+        scratch: &mut [u32],
+        block: u32,
+    ) -> Result<Spot, Refusal>
+        ensures spot_sized { SpotSized self.entry.size shape r table.now scratch.old block self.entry.home.now self.entry.spare.now result }
+        ensures scratched { Scratched shape r scratch.old scratch.new }
+    {
+        let table = self.check_lent(shape, r, table, scratch, block)?;
+        let seat = seat_of(table, block);
+        let start = seat.sector * (self.size + IMAGE_EXTRA);
+        check_part(self.size, self.track_of(seat.replaced), start, seat.header)?;
+        let offset = (start + HEADER_SIZE) as u32;
+        if seat.replaced {
+            return Ok(Spot::InSpare(offset));
+        }
+        Ok(Spot::InHome(offset))
+    }
+
+    // Whether a block is good. Checks 1, 7, 11, 5, 14, 15 to 18.
+    fn judge(
+        self,
+        shape: Shape,
+        r: u32,
+        table: &[u32],
+        scratch: &mut [u32],
+        block: u32,
+    ) -> Result<(), Refusal>
+        ensures judge_sized { JudgeSized self.entry.size shape r table.now scratch.old block self.entry.home.now self.entry.spare.now result }
+        ensures scratched { Scratched shape r scratch.old scratch.new }
+    {
+        self.spot(shape, r, table, scratch, block)?;
+        Ok(())
+    }
+
+    // The data of a good block where it lies, in whichever image that is; else the empty part at the start of home.
+    fn data(self, shape: Shape, r: u32, table: &[u32], scratch: &mut [u32], block: u32) -> &'a [u8]
+        ensures data_sized { DataSized self.entry.size shape r table.now scratch.old block self.entry.home self.entry.spare result }
+        ensures scratched { Scratched shape r scratch.old scratch.new }
+    {
+        match self.spot(shape, r, table, scratch, block) {
+            Ok(Spot::InHome(offset)) => &self.home[offset as usize..offset as usize + self.size],
+            Ok(Spot::InSpare(offset)) => &self.spare[offset as usize..offset as usize + self.size],
+            Err(_) => &self.home[0..0],
+        }
+    }
+}
+
+// What the public calls take stays one by one: the C interface lends it so, and each `tb_read_` call hands it on as it is.
+
+// The verdict on a block from the images of its home track and of its spare's track. Checks 1, 7, 11, 5, 14, 15 to 18.
+pub fn judge(
+    size: u32,
     shape: Shape,
     r: u32,
     table: &[u32],
@@ -104,129 +201,15 @@ fn lent_fault(
     block: u32,
     home: &[u8],
     spare: &[u8],
-) -> u32
-    requires { sectors_most * (size + image_extra) < 2 ^ 32 }
-    ensures value { result ≡ lent_fault size shape r table.now scratch.old block home.now spare.now }
-    ensures scratched { Scratched shape r scratch.old scratch.new }
-{
-    let fault = table::block_fault(shape, r, table, scratch, block);
-    if fault != 0 {
-        return fault;
-    }
-    let long = shape.sectors as usize * (size + IMAGE_EXTRA);
-    if home.len() != long {
-        return WRONG_LENGTH;
-    }
-    if spare.len() != long {
-        return WRONG_LENGTH;
-    }
-    0
-}
-
-// Where the data of a block begins. Checks 1, 7, 11, 5, 14, 15 to 18.
-fn spot_sized<'a>(
-    size: usize,
-    shape: Shape,
-    r: u32,
-    table: &[u32],
-    scratch: &mut [u32],
-    block: u32,
-    home: &'a [u8],
-    spare: &'a [u8],
-) -> Spot
-    requires { sectors_most * (size + image_extra) < 2 ^ 32 }
-    ensures spot_sized { SpotSized size shape r table.now scratch.old block home.now spare.now result }
-    ensures scratched { Scratched shape r scratch.old scratch.new }
-{
-    let fault = lent_fault(size, shape, r, table, scratch, block, home, spare);
-    if fault != 0 {
-        return Spot::Refused(fault);
-    }
-    let drive = layout::drive_of(shape, r);
-    let seat = seat_of(drive, table, block);
-    let start = seat.sector * (size + IMAGE_EXTRA);
-    let found = part_fault(
-        size,
-        track_of(seat.replaced, home, spare),
-        start,
-        seat.header,
-    );
-    if found != 0 {
-        return Spot::Refused(found);
-    }
-    let offset = (start + HEADER_SIZE) as u32;
-    if seat.replaced {
-        return Spot::InSpare(offset);
-    }
-    Spot::InHome(offset)
-}
-
-// The verdict on a block. Checks 1, 7, 11, 5, 14, 15 to 18.
-fn judge_sized<'a>(
-    size: usize,
-    shape: Shape,
-    r: u32,
-    table: &[u32],
-    scratch: &mut [u32],
-    block: u32,
-    home: &'a [u8],
-    spare: &'a [u8],
-) -> Verdict
-    requires { sectors_most * (size + image_extra) < 2 ^ 32 }
-    ensures judge_sized { JudgeSized size shape r table.now scratch.old block home.now spare.now result }
-    ensures scratched { Scratched shape r scratch.old scratch.new }
-{
-    match spot_sized(size, shape, r, table, scratch, block, home, spare) {
-        Spot::InHome(_) => Verdict::Good,
-        Spot::InSpare(_) => Verdict::Good,
-        Spot::Refused(fault) => Verdict::Refused(fault),
-    }
-}
-
-// The data of a good block where it lies, in whichever image that is; else the empty part at the start of home.
-fn data_sized<'a>(
-    size: usize,
-    shape: Shape,
-    r: u32,
-    table: &[u32],
-    scratch: &mut [u32],
-    block: u32,
-    home: &'a [u8],
-    spare: &'a [u8],
-) -> &'a [u8]
-    requires { sectors_most * (size + image_extra) < 2 ^ 32 }
-    ensures data_sized { DataSized size shape r table.now scratch.old block home.entry spare.entry result }
-    ensures scratched { Scratched shape r scratch.old scratch.new }
-{
-    match spot_sized(size, shape, r, table, scratch, block, home, spare) {
-        Spot::InHome(offset) => &home[offset as usize..offset as usize + size],
-        Spot::InSpare(offset) => &spare[offset as usize..offset as usize + size],
-        Spot::Refused(_) => &home[0..0],
-    }
-}
-
-// The verdict on a block from the images of its home track and of its spare's track. Checks 1, 7, 11, 5, 14, 15 to 18.
-pub fn judge<'a>(
-    size: u32,
-    shape: Shape,
-    r: u32,
-    table: &[u32],
-    scratch: &mut [u32],
-    block: u32,
-    home: &'a [u8],
-    spare: &'a [u8],
-) -> Verdict
+) -> Result<(), Refusal>
     ensures judge { Judge size shape r table.now scratch.old block home.now spare.now result }
     ensures read_scratched { ReadScratched size shape r scratch.old scratch.new }
 {
-    let fault = paper::data_size_fault(size);
-    if fault != 0 {
-        return Verdict::Refused(fault);
-    }
-    judge_sized(size as usize, shape, r, table, scratch, block, home, spare)
+    Images::check(size, home, spare)?.judge(shape, r, table, scratch, block)
 }
 
 // The data of a good block where it lies, in whichever image that is; the empty part at the start of home exactly when the verdict refuses.
+// Stays a part and no `Result`: this call cannot fail, and `judge` beside it says why a part is empty.
 pub fn data<'a>(
     size: u32,
     shape: Shape,
@@ -240,30 +223,25 @@ pub fn data<'a>(
     ensures lends_data { Data size shape r table.now scratch.old block home.entry spare.entry result }
     ensures read_scratched { ReadScratched size shape r scratch.old scratch.new }
 {
-    let fault = paper::data_size_fault(size);
-    if fault != 0 {
-        return &home[0..0];
+    match Images::check(size, home, spare) {
+        Ok(images) => images.data(shape, r, table, scratch, block),
+        Err(_) => &home[0..0],
     }
-    data_sized(size as usize, shape, r, table, scratch, block, home, spare)
 }
 
 // In which image, and how far inside it, the data of a good block begins. Checks 1, 7, 11, 5, 14, 15 to 18.
-pub fn spot<'a>(
+pub fn spot(
     size: u32,
     shape: Shape,
     r: u32,
     table: &[u32],
     scratch: &mut [u32],
     block: u32,
-    home: &'a [u8],
-    spare: &'a [u8],
-) -> Spot
+    home: &[u8],
+    spare: &[u8],
+) -> Result<Spot, Refusal>
     ensures spots { Spots size shape r table.now scratch.old block home.now spare.now result }
     ensures read_scratched { ReadScratched size shape r scratch.old scratch.new }
 {
-    let fault = paper::data_size_fault(size);
-    if fault != 0 {
-        return Spot::Refused(fault);
-    }
-    spot_sized(size as usize, shape, r, table, scratch, block, home, spare)
+    Images::check(size, home, spare)?.spot(shape, r, table, scratch, block)
 }

@@ -1,6 +1,7 @@
 -- Document 01, "Descriptors and spares", and document 02, Q-3: the spare that a replacement takes, the descriptors that it writes, and the table after it.
-use Rattle.std.specs.Prelude.{ℕ, ◌<◌, ◌≡◌, List, length, get_or, set}
-use Rattle.paper.specs.Checks.{pick}
+use Rattle.std.specs.Prelude.{ℕ, ◌<◌, ◌≡◌, List, leb, length, get_or, set}
+use Rattle.paper.specs.Checks.{pick, refuse}
+use Rattle.paper.specs.Refusals.{no_spare}
 use Rattle.seek.specs.Search.{Before}
 use Rattle.layout.specs.Layouts.{spare_sector}
 use Rattle.layout.specs.Descriptors.{free, unusable, word_of, code_of, primary, Names}
@@ -13,6 +14,10 @@ use Rattle.order.specs.Order.{order, first_free}
 -- the spare that a block is given: the first free place in its search order, or the table's length where none is free
 abbrev pub spare_for : Drive → List ℕ → ℕ → ℕ
 spare_for drive t b = first_free t (primary drive b)
+
+-- check 13 of a replacement
+abbrev pub place_fault : Drive → List ℕ → ℕ → ℕ
+place_fault drive t b = refuse (leb (length t) (spare_for drive t b)) no_spare
 
 -- no place of the table is free
 abbrev pub NoneFree : List ℕ → Type 0

@@ -2,4 +2,3 @@ pub mod Bounds
 pub mod Inverse
 pub mod Exact
 pub mod Angles
-pub mod Answered

@@ -19,8 +19,6 @@ use Rattle.skip.specs.Walk.{passes}
 use Rattle.skip.specs.Translation.{blocks, sector_of_fault}
 use Rattle.skip.specs.Cursors.{count_at, cursor_at, no_cursor, Belongs, belongs, check_fault, step_fault}
 use Rattle.skip.specs.declared.Cursor.{Cursor}
-use Rattle.skip.specs.declared.Job.{Job}
-use Rattle.skip.specs.declared.Job.TheVariants.{At}
 use Rattle.skip.proofs.Shown.{block-proper, block-below}
 use Rattle.skip.proofs.Walks.{below-place, passes-mono, walk-is-place}
 
@@ -95,12 +93,11 @@ module _ (n : ℕ) (a : List ℕ) where
     pub step-known : c.skipped ≤ passes a c.block
     step-known = rw (cursor-belongs c step-checked).counts (count-least n a step-proper c.block step_block)
 
-    -- what the code answers for a step
-    pub step-on : (d : ℕ) → d ≡ passes a c.block → ◌≡◌ {A = Job} (At (c.block + d) (record { block = c.block + 1; skipped = d })) (At (place (is_in a) n c.block) (cursor_at n a (suc c.block)))
+    -- what the code answers for a step, and the cursor that it leaves
+    pub step-there : (d : ℕ) → d ≡ passes a c.block → c.block + d ≡ place (is_in a) n c.block
+    step-there d count = sym (rw count (walk-is-place n a step-proper.rising step-proper.inside c.block step_block))
+
+    pub step-on : (d : ℕ) → d ≡ passes a c.block → ◌≡◌ {A = Cursor} (record { block = c.block + 1; skipped = d }) (cursor_at n a (suc c.block))
     step-on d count =
-        let walk : place (is_in a) n c.block ≡ c.block + d =
-        rw count (walk-is-place n a step-proper.rising step-proper.inside c.block step_block) in
-        let next : ◌≡◌ {A = Cursor} (record { block = c.block + 1; skipped = d }) (cursor_at n a (suc c.block)) =
         same-fields (c.block + 1) (suc c.block) d (count_at n a (suc c.block)) (omega arith)
-        (count ∙ sym (below-place n a step-proper.rising step-proper.inside c.block step_block)) in
-        rw (next, walk)
+        (count ∙ sym (below-place n a step-proper.rising step-proper.inside c.block step_block))

@@ -7,7 +7,7 @@ use mathlib.Core.List.{List}
 use native.Mathlib.Omega.{arith}
 use lib.ListN.{length, get_or}
 use Rattle.paper.proofs.Cases.{by_bool}
-use Rattle.paper.specs.declared.Named.TheVariants.{Block, NoBlock}
+use Rattle.std.specs.Prelude.{Some, None}
 use Rattle.lists.specs.Proper.{Rising}
 use Rattle.lists.specs.Union.{is_in}
 use Rattle.lists.proofs.Members.{entry_in}
@@ -20,10 +20,10 @@ module _ (a : List ℕ) (s d : ℕ) (rising : Rising a) (rank : d ≡ entries_be
   pub rank-le : d ≤ s
   rank-le = omega (arith, goods-and-entries a rising s)
 
-  pub name-entry : d < length a → get_or a d 0 ≡ s → NoBlock ≡ block_on a s
+  pub name-entry : d < length a → get_or a d 0 ≡ s → None ≡ block_on a s
   name-entry h e = let member : is_in a s ≡ true = rw e at (entry_in a d h) in rw member
 
-  pub name-good : (d < length a → get_or a d 0 ≡ s → ⊥) → Block (s - d) ≡ block_on a s
+  pub name-good : (d < length a → get_or a d 0 ≡ s → ⊥) → Some (s - d) ≡ block_on a s
   name-good clear =
       by_bool (is_in a s)
       (λ member.

@@ -86,3 +86,14 @@ module _ (d p : ℕ) where
       by_eq d p
       (λ same. rw (eq-eqb d p same, lt-leb (d + 1) p (omega arith)))
       (λ other. rw (ne_eqb d p other, le-leb (d + 1) p (omega (arith, leb-true d p e))))
+
+-- where the entries before a place lie below the sector and those from it on do not, so many lie below it
+pub below-count :
+    (a : List ℕ) (s d : ℕ) → Rising a → d ≤ length a → ((k : ℕ) → k < d → get_or a k 0 < s) → ((k : ℕ) → d ≤ k → k < length a → s ≤ get_or a k 0) →
+    d ≡ entries_below a s
+below-count a s d rising h less more =
+    omega (arith, at_least d h less, by_lt d (length a) (λ in'. below-at-most a s d rising in' (more d (omega arith) in')) (λ out. omega (arith, below-le a s)))
+  where
+    at_least : (d : ℕ) → d ≤ length a → ((k : ℕ) → k < d → get_or a k 0 < s) → d ≤ entries_below a s
+    at_least zero h less = omega arith
+    at_least (suc d) h less = below-at-least a s d rising (omega arith) (less d (omega arith))

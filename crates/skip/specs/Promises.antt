@@ -1,56 +1,40 @@
 -- What the public calls of `skip` promise.
-use Rattle.std.specs.Prelude.{ℕ, suc, ◌≡◌, List}
-use Rattle.paper.specs.Answers.{GivesPlaced, GivesNamed}
-use Rattle.paper.specs.Promise.{Gives}
-use Rattle.paper.specs.declared.Placed.{Placed}
-use Rattle.paper.specs.declared.Placed.TheVariants.{At as PlacedAt}
-use Rattle.paper.specs.declared.Named.{Named}
+use Rattle.std.specs.Prelude.{ℕ, suc, List, Option, Result, Ok, Err}
+use Rattle.paper.specs.Numbers.{number}
+use Rattle.paper.specs.Promise.{Gives, Fills}
+use Rattle.paper.specs.declared.Refusal.{Refusal}
 use Rattle.lists.specs.Union.{is_in}
 use Rattle.skip.specs.Skipping.{place}
 use Rattle.skip.specs.Translation.{sector_of_fault, block_on_fault, block_on}
 use Rattle.skip.specs.Cursors.{cursor_at, no_cursor, check_fault, step_fault}
 use Rattle.skip.specs.declared.Cursor.{Cursor}
-use Rattle.skip.specs.declared.Job.{Job}
-use Rattle.skip.specs.declared.Job.TheVariants.{Ready, At, Refused}
 
--- refusal, sector, next block, skipped count
-abbrev pub said_job : Job → ℕ × ℕ × ℕ × ℕ
-said_job (Ready next) = (0, 0, next.block, next.skipped)
-said_job (At sector next) = (0, sector, next.block, next.skipped)
-said_job (Refused fault next) = (fault, 0, next.block, next.skipped)
+-- refusal, sector (0, since none is answered), next block, skipped count; a refused start or check says the empty cursor
+abbrev pub said_job : Result Cursor Refusal → ℕ × ℕ × ℕ × ℕ
+said_job (Ok next) = (0, 0, next.block, next.skipped)
+said_job (Err refusal) = (number refusal, 0, no_cursor.block, no_cursor.skipped)
 
--- a job is given by a chain of checks; a refusal carries a cursor, and says it
-abbrev pub GivesJob : Cursor → ℕ → Job → Job → Type 0
-GivesJob back = Gives said_job (λ fault. (fault, 0, back.block, back.skipped)) (λ fault. Refused fault back)
-
--- the cursor that a job hands back, refused or not
-abbrev pub handed_back : Job → Cursor
-handed_back (Ready next) = next
-handed_back (At sector next) = next
-handed_back (Refused fault next) = next
-
--- a cursor that a job of this promise hands back
-pub record BackFrom (Promise : Job → Type 0) (next : Cursor) : Type 0 where
-  pub job : Job
-  pub allowed : Promise job
-  pub handed : next ≡ handed_back job
+-- refusal, sector, next block, skipped count, of a step and of the cursor that it hands back
+abbrev pub said_step : Result ℕ Refusal → Cursor → ℕ × ℕ × ℕ × ℕ
+said_step (Ok sector) after = (0, sector, after.block, after.skipped)
+said_step (Err refusal) after = (number refusal, 0, after.block, after.skipped)
 
 -- the sector that the block lies on
-abbrev pub SectorOf : ℕ → List ℕ → ℕ → Placed → Type 0
-SectorOf n a b = GivesPlaced (sector_of_fault n a b) (PlacedAt (place (is_in a) n b))
+abbrev pub SectorOf : ℕ → List ℕ → ℕ → Result ℕ Refusal → Type 0
+SectorOf n a b = Gives (sector_of_fault n a b) (place (is_in a) n b)
 
 -- the block on the sector, or no block
-abbrev pub BlockOn : ℕ → List ℕ → ℕ → Named → Type 0
-BlockOn n a s = GivesNamed (block_on_fault n a s) (block_on a s)
+abbrev pub BlockOn : ℕ → List ℕ → ℕ → Result (Option ℕ) Refusal → Type 0
+BlockOn n a s = Gives (block_on_fault n a s) (block_on a s)
 
 -- a job opens at a block, with the cursor of that block
-abbrev pub Starts : ℕ → List ℕ → ℕ → Job → Type 0
-Starts n a b = GivesJob no_cursor (sector_of_fault n a b) (Ready (cursor_at n a b))
+abbrev pub Starts : ℕ → List ℕ → ℕ → Result Cursor Refusal → Type 0
+Starts n a b = Gives (sector_of_fault n a b) (cursor_at n a b)
 
 -- a cursor of this list is handed back as it is
-abbrev pub Checks : ℕ → List ℕ → Cursor → Job → Type 0
-Checks n a c = GivesJob no_cursor (check_fault n a c) (Ready c)
+abbrev pub Checks : ℕ → List ℕ → Cursor → Result Cursor Refusal → Type 0
+Checks n a c = Gives (check_fault n a c) c
 
--- a step answers where the cursor's block lies, with the cursor of the block after it; a refusal comes with the cursor as it went in
-abbrev pub Steps : ℕ → List ℕ → Cursor → Job → Type 0
-Steps n a c = GivesJob c (step_fault n a c) (At (place (is_in a) n c.block) (cursor_at n a (suc c.block)))
+-- a step answers where the cursor's block lies, and hands back the cursor of the block after it; a refusal comes with the cursor as it went in
+abbrev pub Steps : ℕ → List ℕ → Cursor → Result ℕ Refusal → Cursor → Type 0
+Steps n a c = Fills (step_fault n a c) (place (is_in a) n c.block) c (cursor_at n a (suc c.block))

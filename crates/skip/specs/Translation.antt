@@ -1,11 +1,9 @@
 -- Document 01, "Skipping": block to sector and sector to block on N sectors with a list of bad ones, with their checks.
-use Rattle.std.specs.Prelude.{ℕ, ◌-◌, List, leb, length}
+use Rattle.std.specs.Prelude.{ℕ, ◌-◌, List, leb, length, Option, Some, None}
 use Rattle.paper.specs.Checks.{pick, refuse, ◌or_else◌}
 use Rattle.paper.specs.Refusals.{no_such_block, no_such_sector}
 use Rattle.paper.specs.Exactly.{When, ◌and_then◌}
 use Rattle.paper.specs.Conditions.{NotBelow}
-use Rattle.paper.specs.declared.Named.{Named}
-use Rattle.paper.specs.declared.Named.TheVariants.{Block, NoBlock}
 use Rattle.lists.specs.Proper.{space_fault, SpaceJudged}
 use Rattle.lists.specs.Union.{is_in}
 use Rattle.skip.specs.Skipping.{goods_before}
@@ -27,8 +25,8 @@ abbrev pub block_on_fault : ℕ → List ℕ → ℕ → ℕ
 block_on_fault n a s = space_fault n a or_else refuse (leb n s) no_such_sector
 
 -- the block on a sector, or no block where the sector is in the list
-abbrev pub block_on : List ℕ → ℕ → Named
-block_on a s = pick (is_in a s) NoBlock (Block (goods_before (is_in a) s))
+abbrev pub block_on : List ℕ → ℕ → Option ℕ
+block_on a s = pick (is_in a s) None (Some (goods_before (is_in a) s))
 
 -- exactly when `skip::sector_of` and `Cursor::start` give each number
 abbrev pub SectorOfJudged : ℕ → List ℕ → ℕ → ℕ → Type 0

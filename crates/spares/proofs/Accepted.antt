@@ -1,19 +1,17 @@
 -- What an accepted replacement does, and what any call of it leaves: the old and the new descriptor altered or the table as it was, a table that still passes, and a census with one free place less for each accepted call, and one unusable place more where the block lay on a spare.
 -- Assumes nothing.
 use Prim.Native.Nat.{ℕ, ◌+◌, ◌<◌, ◌≤◌}
-use mathlib.Core.Path.{◌≡◌, refl, sym, ◌∙◌, ap, subst}
+use mathlib.Core.Path.{◌≡◌, sym, ◌∙◌, subst}
 use mathlib.Core.Bool.{Bool, true, false, not}
 use mathlib.Core.List.{List}
 use native.Mathlib.Omega.{arith}
 use lib.Dec.{leb, ltb}
 use lib.ListN.{length, get_or}
-use borrow.Author.Tests.{le-leb, lt-leb, lt-ltb, le-ltb}
-use Rattle.paper.specs.Checks.{pick, refuse, ◌or_else◌, answer, one_if}
+use Rattle.paper.specs.Checks.{refuse, ◌or_else◌, answer, one_if}
 use Rattle.paper.specs.Refusals.{out_of_range, no_such_block, no_room, bad_table, no_spare}
 use Rattle.paper.specs.Exactly.{When, later}
 use Rattle.paper.proofs.Cases.{by_bool, by_lt, by_fault}
 use Rattle.paper.proofs.Chain.{or_else-some, or_else-none, or_else-first, or_else-next, answer-refused, answer-accepted}
-use Rattle.paper.proofs.Kept.{fills-refuses, fills-accepts}
 use Rattle.paper.proofs.Rows.{tells-le, passed-not}
 use Rattle.shape.specs.declared.Shape.{Shape}
 use Rattle.shape.specs.Shapes.{shaped, shape_fault}
@@ -31,9 +29,7 @@ use Rattle.table.proofs.Obeying.{obeys-unbroken}
 use Rattle.replacing.specs.Replacing.{spare_for, NoneFree, moved_in, Moved}
 use Rattle.replacing.proofs.Replacements.{tells-none-free}
 use Rattle.replacing.proofs.Moves.{moved-obeys, moved-stays, replacement-moves, moved-free-less, moved-unusable}
-use Rattle.spares.specs.declared.Replaced.TheVariants.{Place, Refused as NotReplaced}
 use Rattle.spares.specs.Spares.{replace_fault}
-use Rattle.spares.specs.Promises.{Replacement}
 use Rattle.spares.proofs.Exact.{replace-exactly}
 
 -- the table that a replacement leaves
@@ -69,17 +65,6 @@ module _ (shape : Shape) (r : ℕ) (t scratch : List ℕ) (b : ℕ) where
       (passed-not (tells-le (length t) (spare_for (drive_of shape r) t b)) no_spare (omega arith)
       (or_else-next (block_fault shape r t scratch b) _ none)
       past))
-
-  -- past 1, 7, 11 and 5 the promise is kept by the place that is searched for, and by the table that is altered where it is a place
-  module _ (none : block_fault shape r t scratch b ≡ 0) {place : ℕ} (is : place ≡ spare_for (drive_of shape r) t b) {after : List ℕ} (left : after ≡ pick (ltb place (length t)) (moved_in (drive_of shape r) t b) t) where
-    pub keeps-refused : length t ≤ place → Replacement shape r t scratch b (NotReplaced no_spare) after
-    keeps-refused past =
-        rw (left, le-ltb place (length t) past)
-        (fills-refuses (λ k. refl) no_spare (rw (none, ← is, le-leb (length t) place past)) (omega arith))
-
-    pub keeps-accepted : place < length t → Replacement shape r t scratch b (Place place) after
-    keeps-accepted found =
-        fills-accepts (λ k. refl) (rw (none, ← is, lt-leb (length t) place found)) (ap Place is) (rw (lt-ltb place (length t) found) at left)
 
   -- refused 13 exactly when 1, 7, 11 and 5 do not refuse and no place is free
   pub no-spare-shows : replace_fault shape r t scratch b ≡ no_spare → (block_fault shape r t scratch b ≡ 0) × NoneFree t

@@ -10,7 +10,7 @@ use native.Mathlib.Omega.{arith}
 use lib.ListN.{length, get_or, set, length-set}
 use lib.Seq.{get_or-set_same, get_or-set_other}
 use borrow.Author.Tests.{lt-ltb, le-ltb}
-use Rattle.paper.specs.declared.Named.TheVariants.{Block, NoBlock}
+use Rattle.std.specs.Prelude.{Some, None}
 use Rattle.paper.proofs.Cases.{by_bool, by_lt, by_eq}
 use Rattle.paper.proofs.Rows.{Tells, tells-lt, tells-false}
 use Rattle.seek.proofs.Firsts.{first-is, first-none, first_passes, first-before, first_alike}
@@ -143,17 +143,17 @@ module _ {drive : Drive} (laid : Laid drive) (t : List ℕ) where
   none-on-unusable b q e same = ⊎_elim (λ x. omega arith) (λ x. omega arith) (lies-allocated b q same)
 
   -- the block that lies on a block's sector is that block
-  pub lying-of-lies : (b : ℕ) → lying_on drive t (lies_on drive t b) ≡ Block b
+  pub lying-of-lies : (b : ℕ) → lying_on drive t (lies_on drive t b) ≡ Some b
   lying-of-lies b = lying (lies-shows drive t b)
     where
-      lying : Resides drive t b (lies_on drive t b) → lying_on drive t (lies_on drive t b) ≡ Block b
+      lying : Resides drive t b (lies_on drive t b) → lying_on drive t (lies_on drive t b) ≡ Some b
       lying (at-home none here) =
           ap (lying_on drive t) here ∙ lying-at-home b ∙ by_bool (is_replaced t b) (λ e. absurd (none ((tells-replaced t b).holds e))) (λ e. rw e)
       lying (on-spare q h named here) =
           ap (lying_on drive t) here ∙ lying-on-spare q ∙ rw ((tells-allocated (get_or t q 0)).told named.0, named.1)
 
   -- a sector with no block on it is vacant
-  pub vacant-told : {s : ℕ} → Vacant drive t s → lying_on drive t s ≡ NoBlock
+  pub vacant-told : {s : ℕ} → Vacant drive t s → lying_on drive t s ≡ None
   vacant-told (home-left b below same replaced) =
       ap (lying_on drive t) same ∙ lying-at-home b ∙ rw ((tells-replaced t b).told replaced)
   vacant-told (spare-unused q below same unused) =
@@ -170,8 +170,8 @@ module _ {drive : Drive} (laid : Laid drive) (t : List ℕ) where
 
     -- what a sector of the drive answers: a block, which lies there, or none, where the sector is vacant
     pub data Answered (s : ℕ) : Type 0 where
-      block-lies : (b : ℕ) → b < drive.blocks → lying_on drive t s ≡ Block b → lies_on drive t b ≡ s → Answered s
-      none-lies : lying_on drive t s ≡ NoBlock → Vacant drive t s → Answered s
+      block-lies : (b : ℕ) → b < drive.blocks → lying_on drive t s ≡ Some b → lies_on drive t b ≡ s → Answered s
+      none-lies : lying_on drive t s ≡ None → Vacant drive t s → Answered s
 
     pub answered : (s : ℕ) → s < drive.tracks * sectors_per_track drive → Answered s
     answered s below = asked (home-or-spare laid below)
@@ -196,7 +196,7 @@ module _ {drive : Drive} (laid : Laid drive) (t : List ℕ) where
             none-lies (vacant-told vacant) vacant)
 
     -- the block that a sector answers lies on it
-    pub lies-of-lying : (s b : ℕ) → s < drive.tracks * sectors_per_track drive → lying_on drive t s ≡ Block b → (b < drive.blocks) × (lies_on drive t b ≡ s)
+    pub lies-of-lying : (s b : ℕ) → s < drive.tracks * sectors_per_track drive → lying_on drive t s ≡ Some b → (b < drive.blocks) × (lies_on drive t b ≡ s)
     lies-of-lying s b below e = lies (answered s below)
       where
         lies : Answered s → (b < drive.blocks) × (lies_on drive t b ≡ s)
@@ -205,7 +205,7 @@ module _ {drive : Drive} (laid : Laid drive) (t : List ℕ) where
             (rw one at in-blocks, rw one at same)
         lies (none-lies f vacant) = let z : ◌≡◌ {A = ℕ} 0 1 = cc in absurd (omega arith)
 
-    pub vacant-shows : (s : ℕ) → s < drive.tracks * sectors_per_track drive → lying_on drive t s ≡ NoBlock → Vacant drive t s
+    pub vacant-shows : (s : ℕ) → s < drive.tracks * sectors_per_track drive → lying_on drive t s ≡ None → Vacant drive t s
     vacant-shows s below e = none (answered s below)
       where
         none : Answered s → Vacant drive t s

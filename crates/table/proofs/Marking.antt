@@ -5,7 +5,10 @@ use mathlib.Core.Path.{◌≡◌, refl, sym, ◌∙◌, ap}
 use mathlib.Core.Bool.{true, false, not, ◌&&◌, true≢false, and-true, and-false, or-true, not-not}
 use mathlib.Core.List.{List}
 use native.Mathlib.Numerals.{add-one}
+use native.Mathlib.Nat.{mul-le-mul_right, mul_assoc}
 use native.Mathlib.Omega.{arith}
+use Rattle.std.specs.Int.{div_ceil}
+use Rattle.std.proofs.lemmas.Grind.{div_ceil_times}
 use lib.ListN.{length, get_or, drop, replicate, length-set, length-replicate, get_or-replicate, get_or-append}
 use lib.Seq.{get_or-set_same, get_or-set_other, drop-set-lt}
 use borrow.Author.Tests.{le-leb, lt-ltb, ne_eqb}
@@ -173,6 +176,15 @@ module _ (t : List ℕ) (from count : ℕ) where
       (by_bool (named_first t found.place)
       (λ first. let passes : true ≡ false = rw (first, or-true) at found.here in absurd (true≢false passes))
       (λ again. again))
+
+-- as many windows as the blocks need reach their number
+pub windows-reach :
+    (blocks spares window needed : ℕ) → 1 ≤ spares → needed ≡ div_ceil blocks (spares * number_bits) → needed ≤ window → blocks ≤ window * spares * number_bits
+windows-reach blocks spares window needed some is reached =
+    let marks : ℕ = spares * number_bits in
+    let enough : blocks ≤ needed * marks = rw is (div_ceil_times blocks marks (omega arith)).0 in
+    let more : needed * marks ≤ window * marks = mul-le-mul_right marks reached in
+    rw (mul_assoc window spares number_bits) (omega arith)
 
 -- windows that reach the number of blocks have all blocks that words name which may stand where they do
 pub windows-all :

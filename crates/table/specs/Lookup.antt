@@ -1,8 +1,6 @@
 -- Document 01, "Descriptors and spares", and document 02, Q-7: the place that names a block, where the search for a block stops, where a block lies, and what lies on a sector.
-use Rattle.std.specs.Prelude.{ℕ, ◌<◌, ◌≡◌, Bool, List, ltb, length, get_or}
+use Rattle.std.specs.Prelude.{ℕ, ◌<◌, ◌≡◌, Bool, List, ltb, length, get_or, Option, Some, None}
 use Rattle.paper.specs.Checks.{pick}
-use Rattle.paper.specs.declared.Named.{Named}
-use Rattle.paper.specs.declared.Named.TheVariants.{Block, NoBlock}
 use Rattle.seek.specs.Lowest.{first_below}
 use Rattle.layout.specs.declared.Drive.{Drive}
 use Rattle.layout.specs.Layouts.{home_sector, spare_sector}
@@ -46,13 +44,13 @@ pub data Vacant (drive : Drive) (t : List ℕ) (s : ℕ) : Type 0 where
   spare-unused : (q : ℕ) → q < drive.spares → s ≡ spare_sector drive q → (Allocated (get_or t q 0) → ⊥) → Vacant drive t s
 
 -- the block that lies on the home of block b, or none where b is replaced
-abbrev pub block_at_home : List ℕ → ℕ → Named
-block_at_home t b = pick (is_replaced t b) NoBlock (Block b)
+abbrev pub block_at_home : List ℕ → ℕ → Option ℕ
+block_at_home t b = pick (is_replaced t b) None (Some b)
 
 -- the block that lies on spare q, or none where it is not allocated
-abbrev pub block_on_spare : List ℕ → ℕ → Named
-block_on_spare t q = pick (is_allocated (get_or t q 0)) (Block (number_of (get_or t q 0))) NoBlock
+abbrev pub block_on_spare : List ℕ → ℕ → Option ℕ
+block_on_spare t q = pick (is_allocated (get_or t q 0)) (Some (number_of (get_or t q 0))) None
 
 -- the block that lies on a sector, or none
-abbrev pub lying_on : Drive → List ℕ → ℕ → Named
+abbrev pub lying_on : Drive → List ℕ → ℕ → Option ℕ
 lying_on drive t s = pick (is_home drive s) (block_at_home t (block_of_home drive s)) (block_on_spare t (place_of_spare drive s))

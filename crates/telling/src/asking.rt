@@ -1,61 +1,64 @@
 // Calls of skipping, a line each: what is asked and what is answered.
-ghost use Rattle.std.specs.Prelude.{◌≡◌};
-ghost use Rattle.skip.specs.Promises.{handed_back, BackFrom, Starts, Steps};
+ghost use Rattle.std.specs.Prelude.{◌≡◌, suc};
+ghost use Rattle.paper.specs.Checks.{answer};
+ghost use Rattle.skip.specs.Translation.{sector_of_fault};
+ghost use Rattle.skip.specs.Cursors.{cursor_at, no_cursor, step_fault};
 
-use crate::{answers, count_line, number};
-use skip::{Cursor, Job};
+use crate::Output;
+use crate::answers::{Block, Job, Next, Told};
+use skip::Cursor;
+use std::fmt::Write;
+
+// The cursor that a refused start hands back.
+const NO_CURSOR: Cursor = Cursor {
+    block: 0,
+    skipped: 0,
+};
 
 // Writes N and how long the list is. Only other crates call this.
-pub fn space(n: u32, list: &[u32]) {
-    number(b"N ", n);
-    count_line(b", list of ", list.len());
+pub fn space(out: &mut Output, n: u32, list: &[u32]) {
+    let long = list.len();
+    let _ = writeln!(out, "N {n}, list of {long}");
 }
 
 // Asks for the sector of a block. Only other crates call this.
-pub fn block(n: u32, list: &[u32], block: u32) {
-    number(b"  block ", block);
-    answers::placed(b": ", skip::sector_of(n, list, block));
+pub fn block(out: &mut Output, n: u32, list: &[u32], block: u32) {
+    let sector = Told("sector", skip::sector_of(n, list, block));
+    let _ = writeln!(out, "  block {block}: {sector}");
 }
 
 // Asks for the block on a sector. Only other crates call this.
-pub fn sector(n: u32, list: &[u32], sector: u32) {
-    number(b"  sector ", sector);
-    answers::named(b": ", skip::block_on(n, list, sector));
+pub fn sector(out: &mut Output, n: u32, list: &[u32], sector: u32) {
+    let block = Block(skip::block_on(n, list, sector));
+    let _ = writeln!(out, "  sector {sector}: {block}");
 }
 
-// The cursor that a job hands back. Only other crates call this.
-pub fn handed_back(job: Job) -> Cursor
-    ensures { result ≡ handed_back job }
+// Opens a job at a block, and hands back its cursor; where that is refused, the cursor of block 0 that has passed none. Only other crates call this.
+pub fn start(out: &mut Output, n: u32, list: &[u32], block: u32) -> Cursor
+    ensures { result ≡ answer (sector_of_fault n list.now block) (λ fault. no_cursor) (cursor_at n list.now block) }
 {
-    match job {
-        Job::Ready(next) => next,
-        Job::At(_, next) => next,
-        Job::Refused(_, next) => next,
-    }
-}
-
-// Opens a job at a block, and hands back its cursor. Only other crates call this.
-pub fn start(n: u32, list: &[u32], block: u32) -> Cursor
-    ensures { BackFrom (Starts n list.now block) result }
-{
-    number(b"  start at ", block);
     let job = Cursor::start(n, list, block);
-    answers::job(b": ", job);
-    handed_back(job)
+    let _ = writeln!(out, "  start at {block}: {}", Job(job));
+    job.unwrap_or(NO_CURSOR)
 }
 
 // Checks a cursor. Only other crates call this.
-pub fn check(n: u32, list: &[u32], cursor: Cursor) {
-    answers::cursor(b"  check of ", cursor);
-    answers::job(b": ", cursor.check(n, list));
+pub fn check(out: &mut Output, n: u32, list: &[u32], cursor: Cursor) {
+    let job = Job(cursor.check(n, list));
+    let _ = writeln!(out, "  check of {}: {job}", Next(cursor));
 }
 
-// Steps a cursor, and hands back the one after it. Only other crates call this.
-pub fn step(n: u32, list: &[u32], cursor: Cursor) -> Cursor
-    ensures { BackFrom (Steps n list.now cursor) result }
+// Steps a cursor, and hands back the one after it; where that is refused, the cursor as it is. Only other crates call this.
+pub fn step(out: &mut Output, n: u32, list: &[u32], cursor: Cursor) -> Cursor
+    ensures { result ≡ answer (step_fault n list.now cursor) (λ fault. cursor) (cursor_at n list.now (suc cursor.block)) }
 {
-    answers::cursor(b"  step of ", cursor);
-    let job = cursor.step(n, list);
-    answers::job(b": ", job);
-    handed_back(job)
+    let (answer, next) = cursor.step(n, list);
+    let _ = writeln!(
+        out,
+        "  step of {}: {}, {}",
+        Next(cursor),
+        Told("sector", answer),
+        Next(next)
+    );
+    next
 }

@@ -1,8 +1,8 @@
 // Shapes of drives: one without groups, and any shape in words.
 ghost use Rattle.std.specs.Prelude.{◌≡◌};
 
-use crate::{end, number};
 use shape::Shape;
+use std::fmt;
 
 // A drive without groups: one group of all heads. Only other crates call this.
 pub fn ungrouped(cylinders: u32, heads: u32, sectors: u32) -> Shape
@@ -18,12 +18,23 @@ pub fn ungrouped(cylinders: u32, heads: u32, sectors: u32) -> Shape
     }
 }
 
-// Writes the six numbers of a shape. Only other crates call this.
-pub fn shape(words: &[u8], shape: Shape) {
-    number(words, shape.cylinders);
-    number(b", ", shape.heads);
-    number(b", ", shape.sectors);
-    number(b", groups ", shape.groups);
-    number(b" of ", shape.tracks);
-    number(b", offset ", shape.offset);
+// The six numbers of a shape. Only other crates make this.
+#[derive(Clone, Copy)]
+pub struct Numbers(pub Shape);
+
+impl fmt::Display for Numbers {
+    fn fmt<W: fmt::Write>(&self, f: &mut fmt::Formatter<W>) -> fmt::Result {
+        let Shape {
+            cylinders,
+            heads,
+            sectors,
+            groups,
+            tracks,
+            offset,
+        } = self.0;
+        write!(
+            f,
+            "{cylinders}, {heads}, {sectors}, groups {groups} of {tracks}, offset {offset}"
+        )
+    }
 }

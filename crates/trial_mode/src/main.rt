@@ -2,6 +2,10 @@
 #![tactic(auto)]
 
 use image::AT_HOME;
+use std::fmt::Write;
+use telling::Output;
+use telling::answers::{Told, Verdict};
+use telling::rows::Bytes;
 use words::AT_PRIMARY;
 
 // Data bytes of a sector of the XBN area, whatever the drive's other sectors have.
@@ -19,7 +23,7 @@ fn sector_of(xbn: u32, code: u32, word: u16, forced: bool) -> [u8; 530] {
     let mut data = [0u8; 512];
     words::put16(&mut data, 0, word);
     let mut image = [0u8; 530];
-    image::write(SIZE, xbn, code, &data, forced, &mut image);
+    let _ = image::write(SIZE, xbn, code, &data, forced, &mut image);
     image
 }
 
@@ -31,96 +35,104 @@ fn copy_of(xbn: u32, word: u16) -> [u8; 530] {
 // The same with a bit of its code turned over.
 fn damaged(xbn: u32, word: u16) -> [u8; 530] {
     let mut image = copy_of(xbn, word);
-    image[529] = image[529] ^ 1;
+    image[529] ^= 1;
     image
 }
 
 // Asks so many bytes of sector images for the size.
-fn try_find(images: &[u8], bytes: u32, apart: u32) {
-    let part = comparing::first_bytes(images, bytes);
-    telling::count(b"  bytes ", part.len());
-    telling::number(b", apart ", apart);
-    telling::answers::sized(b": ", mode::find(part, apart));
+fn try_find(out: &mut Output, images: &[u8], bytes: u32, apart: u32) {
+    let part = comparing::first(images, bytes);
+    let size = Told("size", mode::find(part, apart));
+    let _ = writeln!(out, "  bytes {}, apart {apart}: {size}", part.len());
 }
 
 // Writes the first word of a sector, and the verdict on it under its XBN.
-fn tell_sector(xbn: u32, image: &[u8; 530]) {
-    telling::number(b"XBN ", xbn);
-    telling::answers::judged(b": ", image::judge(SIZE, image, xbn, AT_HOME));
-    telling::bytes(b"  first word:", &[image[16], image[17]]);
+fn tell_sector(out: &mut Output, xbn: u32, image: &[u8; 530]) {
+    let verdict = Verdict(image::judge(SIZE, image, xbn, AT_HOME));
+    let _ = writeln!(out, "XBN {xbn}: {verdict}");
+    let _ = writeln!(out, "  first word:{}", Bytes(&image[16..18]));
 }
 
 // One copy alone: its code, and its size however far apart copies are; none where it is cut short.
-fn try_one(word: u16) {
+fn try_one(out: &mut Output, word: u16) {
     let image = copy_of(0, word);
-    tell_sector(0, &image);
-    telling::bytes(b"  code:", &[image[528], image[529]]);
-    try_find(&image, 530, 1);
-    try_find(&image, 530, 7);
-    try_find(&image, 530, 4_294_967_295);
-    try_find(&image, 530, 0);
-    try_find(&image, 529, 1);
+    tell_sector(out, 0, &image);
+    let _ = writeln!(out, "  code:{}", Bytes(&image[528..]));
+    try_find(out, &image, 530, 1);
+    try_find(out, &image, 530, 7);
+    try_find(out, &image, 530, 4_294_967_295);
+    try_find(out, &image, 530, 0);
+    try_find(out, &image, 529, 1);
 }
 
 // No images, and no sector between copies.
-fn try_none() {
-    telling::line(b"no images");
-    try_find(&[], 0, 1);
-    try_find(&[], 0, 0);
+fn try_none(out: &mut Output) {
+    let _ = writeln!(out, "no images");
+    try_find(out, &[], 0, 1);
+    try_find(out, &[], 0, 0);
 }
 
 // Two sectors one after another.
-fn pair_of(first: &[u8; 530], second: &[u8; 530]) -> [u8; 1_060] {
-    tell_sector(0, first);
-    tell_sector(1, second);
+fn pair_of(out: &mut Output, first: &[u8; 530], second: &[u8; 530]) -> [u8; 1_060] {
+    tell_sector(out, 0, first);
+    tell_sector(out, 1, second);
     let mut images = [0u8; 1_060];
-    image::put_bytes(&mut images, 0, first);
-    image::put_bytes(&mut images, 530, second);
+    images[..530].copy_from_slice(first);
+    images[530..].copy_from_slice(second);
     images
 }
 
 // The first copy says no size, and the second does.
-fn try_second(first: &[u8; 530], word: u16) {
-    try_find(&pair_of(first, &copy_of(1, word)), 1_060, 1);
+fn try_second(out: &mut Output, first: &[u8; 530], word: u16) {
+    let images = pair_of(out, first, &copy_of(1, word));
+    try_find(out, &images, 1_060, 1);
 }
 
 // Copies from which one goes on to the next: another first word, a header with another code, and a bit that turned over.
-fn try_next() {
-    try_second(&copy_of(0, NEITHER), PLAIN);
-    try_second(&sector_of(0, AT_PRIMARY, PLAIN, false), WIDE);
-    try_second(&damaged(0, PLAIN), WIDE);
+fn try_next(out: &mut Output) {
+    try_second(out, &copy_of(0, NEITHER), PLAIN);
+    try_second(out, &sector_of(0, AT_PRIMARY, PLAIN, false), WIDE);
+    try_second(out, &damaged(0, PLAIN), WIDE);
 }
 
 // No copy says a size: the second is headed by the first one's XBN.
-fn try_headed() {
-    try_find(&pair_of(&damaged(0, PLAIN), &copy_of(0, WIDE)), 1_060, 1);
+fn try_headed(out: &mut Output) {
+    let images = pair_of(out, &damaged(0, PLAIN), &copy_of(0, WIDE));
+    try_find(out, &images, 1_060, 1);
 }
 
 // The only good sector lies where no copy begins, or is cut short.
-fn try_missed() {
-    let images = pair_of(&damaged(0, PLAIN), &copy_of(1, WIDE));
-    try_find(&images, 1_060, 2);
-    try_find(&images, 1_059, 1);
+fn try_missed(out: &mut Output) {
+    let images = pair_of(out, &damaged(0, PLAIN), &copy_of(1, WIDE));
+    try_find(out, &images, 1_060, 2);
+    try_find(out, &images, 1_059, 1);
+}
+
+// Two sectors and a third after them.
+fn three_of(two: &[u8; 1_060], third: &[u8; 530]) -> [u8; 1_590] {
+    let mut images = [0u8; 1_590];
+    images[..1_060].copy_from_slice(two);
+    images[1_060..].copy_from_slice(third);
+    images
 }
 
 // Three sectors, of which the first is forced. The sector between the copies says another size, and is asked only where copies are one apart.
-fn try_forced() {
-    let two = pair_of(&sector_of(0, AT_HOME, PLAIN, true), &copy_of(1, PLAIN));
+fn try_forced(out: &mut Output) {
+    let two = pair_of(out, &sector_of(0, AT_HOME, PLAIN, true), &copy_of(1, PLAIN));
     let third = copy_of(2, WIDE);
-    tell_sector(2, &third);
-    let mut images = [0u8; 1_590];
-    image::put_bytes(&mut images, 0, &two);
-    image::put_bytes(&mut images, 1_060, &third);
-    try_find(&images, 1_590, 2);
-    try_find(&images, 1_590, 1);
+    tell_sector(out, 2, &third);
+    let images = three_of(&two, &third);
+    try_find(out, &images, 1_590, 2);
+    try_find(out, &images, 1_590, 1);
 }
 
 fn main() {
-    try_one(WIDE);
-    try_one(PLAIN);
-    try_none();
-    try_next();
-    try_headed();
-    try_missed();
-    try_forced();
+    let mut out = Output;
+    try_one(&mut out, WIDE);
+    try_one(&mut out, PLAIN);
+    try_none(&mut out);
+    try_next(&mut out);
+    try_headed(&mut out);
+    try_missed(&mut out);
+    try_forced(&mut out);
 }

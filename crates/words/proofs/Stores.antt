@@ -1,12 +1,13 @@
 -- The laws of a run of stores: what stands before it and after it, the run itself, two runs one after the other, and a run that changes nothing.
 -- Assumes nothing.
-use Prim.Native.Nat.{ℕ, suc, ◌+◌, ◌<◌, ◌≤◌}
+use Prim.Native.Nat.{ℕ, suc, ◌+◌, ◌-◌, ◌<◌, ◌≤◌}
 use mathlib.Core.Path.{◌≡◌, refl, sym, ◌∙◌}
 use mathlib.Core.List.{List, [], ◌∷◌, ◌++◌, append_assoc}
 use native.Mathlib.Nat.{add-zero, add-suc, suc-add}
 use native.Mathlib.Omega.{arith}
 use lib.ListN.{length, get_or, take, drop, set, length-drop, take-append-drop}
-use lib.Seq.{sets, sets-eq, get_or-set_other, take_at, drop_at, take-add, length-take-le}
+use borrow.Rule.Slice.PartMut.{put_mid}
+use lib.Seq.{sets, sets-eq, get_or-set_other, take_at, drop_at, drop-drop, take-add, length-take-le}
 
 module _ {ℓ} {A : Type ℓ} where
   pub sets-append :
@@ -45,3 +46,12 @@ module _ {ℓ} {A : Type ℓ} where
   sets-part l at n fits =
       let long : length (take n (drop at l)) ≡ n = length-take-le n (drop at l) (rw (length-drop at l) (omega arith)) in
       sets-eq (take n (drop at l)) l at (rw long fits) ∙ rw (long, ← take-add at n l) (take-append-drop (at + n) l)
+
+-- a run that is written over the part from a place on, as long as the part
+module _ {A : Type 0} where
+  pub part-stored :
+      (l : List A) (at n : ℕ) (now run : List A) → now ≡ run → length run ≡ n → at + n ≤ length l →
+      put_mid at (at + n - at) l now ≡ sets l at run
+  part-stored l at n now run is size fits =
+      let more : at + n - at ≡ n = omega arith in
+      rw (more, is, sets-eq run l at (rw size fits), size, drop-drop n at l) (sym (append_assoc (take at l) run (drop (at + n) l)))

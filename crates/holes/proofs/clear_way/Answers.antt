@@ -6,10 +6,10 @@ use Rattle.layout.proofs.Sectors.{primary-below}
 use Rattle.holes.proofs.clear_way.Goals as goal
 
 -- the primary of the block is a spare's place
-spare : (c : goal.After-primary-primary) → c.primary-primary.result < c.args.drive.spares
+spare : (c : goal.After-primary) → c.primary.result < c.args.layout.drive.spares
 spare c =
     let below = c.requires.numbered.homes c.args.place c.requires.place_in_bounds (sym c.is_allocated.ensures ∙ c.if-not-is_allocated.false) in
-    rw (c.primary-primary.ensures, c.number_of.ensures) (primary-below c.requires.laid below)
+    rw (c.primary.ensures, c.number_of.ensures) (primary-below c.args.layout.laid below)
 
 pub clear_before-requires-clause-primary_in_table : goal.clear_before-requires-clause-primary_in_table
 clear_before-requires-clause-primary_in_table c = omega (arith, spare c, c.requires.numbered.spares-in)

@@ -2,7 +2,7 @@ use native.Mathlib.Omega.{arith}
 use Prim.Native.Nat.{ℕ, ◌+◌, ◌-◌, ◌≤◌, ◌<◌}
 use mathlib.Core.Path.{◌≡◌, sym, ◌∙◌, ap}
 use mathlib.Core.List.{List}
-use lib.ListN.{length, get_or, set, length-set}
+use lib.ListN.{length, get_or, set}
 use lib.Seq.{get_or-set_same, get_or-set_other, drop-set-lt}
 use Rattle.paper.specs.Checks.{pick}
 use Rattle.paper.proofs.Cases.{by_eq}
@@ -33,8 +33,6 @@ pub loop-place-preserved : goal.loop-place-preserved
 loop-place-preserved c =
     let step = stepped c.args.table.now c.loop-place.place c.loop-place.next c.next_at-next.result (omega arith) (omega arith) c.loop-place.invariant.0 c.next_at-next.ensures in (
       step,
-      omega arith,
-      filled c.args.table.now c.loop-place.scratch c.args.count c.loop-place.place c.next_at-next.result (omega arith) step c.loop-place.invariant.2,
-      length-set c.loop-place.scratch (c.loop-place.place - 1) c.next_at-next.result ∙ c.loop-place.invariant.3,
-      drop-set-lt c.args.count c.loop-place.scratch (c.loop-place.place - 1) c.next_at-next.result (omega arith) ∙ c.loop-place.invariant.4,
+      filled c.args.table.now c.loop-place.scratch c.args.count c.loop-place.place c.next_at-next.result (omega arith) step c.loop-place.invariant.1,
+      drop-set-lt c.args.count c.loop-place.scratch (c.loop-place.place - 1) c.next_at-next.result (omega arith) ∙ c.loop-place.invariant.2,
     )

@@ -1,20 +1,19 @@
-use mathlib.Core.Path.{sym, ◌∙◌}
+use mathlib.Core.Path.{◌∙◌}
 use native.Mathlib.Omega.{arith}
+use Rattle.std.proofs.Common.{rules, tests}
+use Rattle.std.proofs.lemmas.Iterator.{YieldsList-from_range}
+use Rattle.std.proofs.lemmas.Iterator.Search.{all_from_yields_List}
 use lib.ListN.{length}
-use borrow.Author.Count.{below_more}
-use Rattle.seek.proofs.Everys.{here-every, every-fails}
 use Rattle.holes.specs.Steps.{clear_way}
+use Rattle.holes.proofs.Ranges.{range-all}
 use Rattle.holes.proofs.Runs.{next-none}
 use Rattle.holes.proofs.no_holes.Goals as goal
 
 pub fill_next-requires-clause-count_value : goal.fill_next-requires-clause-count_value
-fill_next-requires-clause-count_value c = next-none c.args.table.now c.args.drive.spares c.requires.numbered.tail
-
-pub returns-then-not-clear_way-clause-value : goal.returns-then-not-clear_way-clause-value
-returns-then-not-clear_way-clause-value c = sym (every-fails (clear_way c.args.drive c.args.table.now) (length c.args.table.now) c.loop-place.place c.loop-place-test.true (sym c.clear_way.ensures ∙ c.if-not-clear_way.true))
-
-pub loop-place-preserved : goal.loop-place-preserved
-loop-place-preserved c = (omega arith, below_more _ _ c.loop-place.invariant.1 (sym c.clear_way.ensures ∙ c.if-not-clear_way.false))
+fill_next-requires-clause-count_value c = next-none c.args.table.now c.args.layout.drive.spares c.requires.numbered.tail
 
 pub returns-clause-value : goal.returns-clause-value
-returns-clause-value c = sym (here-every (clear_way c.args.drive c.args.table.now) (length c.args.table.now) (λ k h. c.loop-place.invariant.1 k (omega arith)))
+returns-clause-value c =
+    let passes = clear_way c.args.layout.drive c.args.table.now in
+    all_from_yields_List passes _ _ c.all.result c.all.ensures.ran (YieldsList-from_range 0 (length c.args.table.now) (length c.args.table.now) (cc) (omega arith)) (λ x b q k. search (rules, tests))
+    ∙ range-all passes (length c.args.table.now)

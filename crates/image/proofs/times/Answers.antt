@@ -1,10 +1,16 @@
--- The sum of the four answers is the count of the definition, and each of them is at most one.
-use mathlib.Core.Path.{sym}
+-- The sum of the four answers is the count of the definition.
+use mathlib.Core.Path.{◌≡◌, refl, sym, ◌∙◌}
+use mathlib.Core.Bool.{Bool, true, false}
+use mir.Val.{bool_byte}
+use Rattle.paper.specs.Checks.{one_if}
 use Rattle.image.proofs.Copies.{times-are}
 use Rattle.image.proofs.times.Goals as goal
 
+byte-one : (test : Bool) → bool_byte test ≡ one_if test
+byte-one true = refl
+byte-one false = refl
+
 pub returns : goal.returns
 returns c =
-    let a = c.args in
-    rw (c.one_if-first.ensures.value, c.word32_at.ensures, c.one_if-second.ensures.value, c.word32_at-2.ensures, c.one_if-third.ensures.value, c.word32_at-3.ensures, c.one_if-fourth.ensures.value, c.word32_at-4.ensures)
-    (sym (times-are a.image.now a.number))
+    rw (c.from-first.ensures ∙ byte-one _, c.word32_at.ensures, c.from-second.ensures ∙ byte-one _, c.word32_at-2.ensures, c.from-third.ensures ∙ byte-one _, c.word32_at-3.ensures, c.from-fourth.ensures ∙ byte-one _, c.word32_at-4.ensures)
+    (sym (times-are c.args.image.now c.args.number))

@@ -1,5 +1,5 @@
 -- The loop's invariant: the lines of the entries passed are written, and each is short enough to leave room for the others.
-use Prim.Native.Nat.{◌+◌, ◌*◌, ◌-◌, ◌≤◌}
+use Prim.Native.Nat.{◌+◌, ◌*◌, ◌≤◌}
 use mathlib.Core.Path.{◌≡◌}
 use lib.ListN.{length}
 use Rattle.words.specs.Words.{entries_at}
@@ -10,10 +10,6 @@ use Rattle.listing_text.proofs.put_entries.Given as goal
 
 abbrev pub invariant-loop-i : goal.invariant-loop-i
 invariant-loop-i l =
-    (l.i ≤ l.count)
-    × (length l.room ≡ length l.initial.room)
+    (length l.room ≡ length l.initial.room)
     × (l.next ≤ l.at + line_most bad_word * l.i)
-    × Puts (entries_text (entries_at l.page entries_place l.i)) l.at l.initial.room l.next l.room
-
-abbrev pub decreases-loop-i : goal.decreases-loop-i
-decreases-loop-i l = l.count - l.i
+    × Puts (entries_text (entries_at l.entries.page.now entries_place l.i)) l.at l.initial.room l.next l.room

@@ -11,6 +11,3 @@ use Rattle.order.proofs.search_block.Given as goal
 abbrev pub invariant-loop-turn : goal.invariant-loop-turn
 invariant-loop-turn l =
     first_or table_block (stops_at l.held l.sought) (block_order l.o) ≡ first_or table_block (stops_at l.held l.sought) (tried l.o l.turn (turns - l.turn))
-
-abbrev pub decreases-loop-turn : goal.decreases-loop-turn
-decreases-loop-turn l = turns - l.turn

@@ -1,49 +1,31 @@
--- The page's fault and the comparison with the room are the chain of the definition, and a page without fault is laid out.
-use Prim.Native.Nat.{ℕ}
-use mathlib.Core.List.{List}
+-- A page that passes its check is laid out, and the comparison with the room is the last check of the chain.
 use mathlib.Core.Path.{◌≡◌, sym, ◌∙◌}
 use native.Mathlib.Omega.{arith}
 use borrow.Author.Tests.{lt-ltb, le-ltb}
 use lib.ListN.{length}
-use Rattle.paper.specs.Refusals.{no_room}
+use Rattle.paper.proofs.Kept.{refuses, accepts}
 use Rattle.words.proofs.Runs.{length-entries_at}
-use Rattle.page.specs.Pages.{page_fault}
 use Rattle.page.specs.Layout.{entries_of, entries_place, entry_count}
-use Rattle.page.proofs.Exact.{LaidOut, page-laid-out}
-use Rattle.page.proofs.Says.{read-refused, read-accepted}
+use Rattle.page.proofs.Bytes.{stored-written}
+use Rattle.page.proofs.Exact.{page-laid-out}
 use Rattle.page.proofs.read.Goals as goal
 
--- a page without fault is laid out
-passed : (page : List ℕ) {fault : ℕ} → fault ≡ page_fault page → fault ≡ 0 → LaidOut page
-passed page found none = page-laid-out page (sym found ∙ none)
+pub of-entries-requires : goal.of-entries-requires
+of-entries-requires c = (page-laid-out c.args.page.now c.in_ok-check_page.ensures).long.0
 
-pub entry_count-count-requires : goal.entry_count-count-requires
-entry_count-count-requires c = (passed c.args.page.now c.page_fault-fault.ensures c.if-fault-ne0.false).long.0
-
-pub returns-then-room-count : goal.returns-then-room-count
-returns-then-room-count c =
+pub returns-then-room-entries : goal.returns-then-room-entries
+returns-then-room-entries c =
     let page = c.args.page.now in
-    read-refused page c.args.room.now no_room
-    (rw (← c.page_fault-fault.ensures, c.if-fault-ne0.false, length-entries_at page entries_place (entry_count page), ← c.entry_count-count.ensures, lt-ltb _ _ c.if-room-count.true))
-    (λ e. omega arith)
-
-pub copy_entries-requires : goal.copy_entries-requires
-copy_entries-requires c = (omega (arith, (passed c.args.page.now c.page_fault-fault.ensures c.if-fault-ne0.false).whole, (passed c.args.page.now c.page_fault-fault.ensures c.if-fault-ne0.false).long.0, c.entry_count-count.ensures), c.if-room-count.false)
-
-pub kind_of-requires : goal.kind_of-requires
-kind_of-requires c = (passed c.args.page.now c.page_fault-fault.ensures c.if-fault-ne0.false).long.0
-
-pub units_of-requires : goal.units_of-requires
-units_of-requires c = (passed c.args.page.now c.page_fault-fault.ensures c.if-fault-ne0.false).long.0
+    refuses (rw (c.in_ok-check_page.ensures, length-entries_at page entries_place (entry_count page), ← c.of-entries.ensures.counted, lt-ltb _ _ c.if-room-entries.true))
 
 pub overflow_cast-result : goal.overflow_cast-result
-overflow_cast-result c = omega (arith, (passed c.args.page.now c.page_fault-fault.ensures c.if-fault-ne0.false).long.1, c.entry_count-count.ensures)
+overflow_cast-result c = omega (arith, (page-laid-out c.args.page.now c.in_ok-check_page.ensures).long.1, c.of-entries.ensures.counted)
 
 pub returns : goal.returns
 returns c =
     let page = c.args.page.now in
-    let long : length (entries_of page) ≡ entry_count page = length-entries_at page entries_place (entry_count page) in
-    rw (c.copy_entries.ensures, c.kind_of.ensures, c.units_of.ensures, c.entry_count-count.ensures)
-    (read-accepted page c.args.room.now (entry_count page) (sym long)
-    (rw (← c.page_fault-fault.ensures, c.if-fault-ne0.false, long, ← c.entry_count-count.ensures, le-ltb _ _ c.if-room-count.false))
-    (rw (← c.entry_count-count.ensures) c.if-room-count.false))
+    let counted : length (entries_of page) ≡ c.of-entries.result.count = length-entries_at page entries_place (entry_count page) ∙ sym c.of-entries.ensures.counted in
+    accepts
+    (rw (c.in_ok-check_page.ensures, counted, le-ltb _ _ c.if-room-entries.false))
+    (rw (c.kind.ensures, c.units.ensures, c.of-entries.ensures.same_page, counted))
+    (c.copy.ensures ∙ rw (c.of-entries.ensures.same_page, c.of-entries.ensures.counted) (stored-written (entries_of page) c.args.room.now (rw counted c.if-room-entries.false)))

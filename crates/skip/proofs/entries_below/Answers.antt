@@ -1,14 +1,20 @@
--- An entry below the sector has all before it below too, and one at or above the sector none after it, since the list rises.
-use Prim.Native.Nat.{◌-◌, ◌+◌, ◌/◌}
+-- In a rising list the entries below the sector come first.
 use native.Mathlib.Omega.{arith}
-use Rattle.skip.proofs.Passing.{below-le, below-at-least, below-at-most}
+use lib.Dec.{ltb}
+use borrow.Author.Tests.{lt-ltb, ltb-true, ltb-false}
+use Rattle.std.proofs.Common.{rules}
+use Rattle.std.proofs.lemmas.Grind.{get_or_default_zero}
+use Rattle.std.proofs.lemmas.List.Sorted.{IsPartitionPoint-from_clause}
+use Rattle.lists.proofs.Risings.{rising-order}
+use Rattle.skip.proofs.Passing.{below-count}
 use Rattle.skip.proofs.entries_below.Goals as goal
 
-pub loop-least-init : goal.loop-least-init
-loop-least-init c = omega (arith, below-le c.args.list.now c.args.sector)
-
-pub loop-least-preserved-then-sector-list : goal.loop-least-preserved-then-sector-list
-loop-least-preserved-then-sector-list c = omega (arith, below-at-most c.args.list.now c.args.sector (c.loop-least.least + (c.loop-least.most - c.loop-least.least) / 2) c.requires.rising (omega arith) (omega arith))
-
-pub loop-least-preserved : goal.loop-least-preserved
-loop-least-preserved c = omega (arith, below-at-least c.args.list.now c.args.sector (c.loop-least.least + (c.loop-least.most - c.loop-least.least) / 2) c.requires.rising (omega arith) (omega arith))
+pub returns : goal.returns
+returns c =
+    let parted = IsPartitionPoint-from_clause (λ x. ltb x c.args.sector) _ _ c.partition_point.ensures.partitioned
+    (λ i j d h inside less.
+    lt-ltb _ _ (omega (arith, get_or_default_zero c.args.list.entries.now i d, get_or_default_zero c.args.list.entries.now j d, ltb-true _ _ less, rising-order c.args.list.entries.now c.args.list.rising i j h inside)))
+    (λ a r q k. search rules) in
+    below-count c.args.list.entries.now c.args.sector c.partition_point.result c.args.list.rising c.partition_point.ensures.bound
+    (λ k h. ltb-true _ _ (parted.0 k 0 (omega arith) h))
+    (λ k h l. ltb-false _ _ (parted.1 k 0 h l))

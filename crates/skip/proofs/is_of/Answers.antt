@@ -8,5 +8,5 @@ use Rattle.skip.proofs.is_of.Goals as goal
 
 pub returns : goal.returns
 returns c =
-    let h : c.args.cursor.block ≤ blocks c.args.n c.args.list.now = omega (arith, c.block_count.ensures) in
-    rw (le-leb _ _ h, count-passes c.args.n c.args.list.now c.requires.proper c.args.cursor.block c.if-block-eq0.false h) c.passes_just.ensures
+    let h : c.args.cursor.block ≤ blocks c.args.n c.args.list.entries.now = omega (arith, c.block_count.ensures) in
+    rw (le-leb _ _ h, count-passes c.args.n c.args.list.entries.now c.requires.proper c.args.cursor.block c.if-cursor-eq0.false h) c.passes_just.ensures

@@ -5,7 +5,7 @@ use Rattle.skip.proofs.Passing.{passes-at-least, passes-at-most}
 use Rattle.skip.proofs.passed.Goals as goal
 
 pub loop-least-init : goal.loop-least-init
-loop-least-init c = omega (arith, c.requires.from_bound, passes-le c.args.list.now c.args.block)
+loop-least-init c = omega (arith, c.requires.from_bound, passes-le c.args.list.entries.now c.args.block)
 
 pub loop-least-preserved : goal.loop-least-preserved
-loop-least-preserved c = grind (arith, passes-at-most c.args.list.now c.args.block c.loop-least.at, passes-at-least c.args.list.now c.args.block c.loop-least.at c.requires.rising)
+loop-least-preserved c = grind (arith, passes-at-most c.args.list.entries.now c.args.block c.loop-least.at, passes-at-least c.args.list.entries.now c.args.block c.loop-least.at c.args.list.rising)

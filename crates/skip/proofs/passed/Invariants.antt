@@ -5,7 +5,7 @@ use Rattle.skip.specs.Walk.{passes}
 use Rattle.skip.proofs.passed.Given as goal
 
 abbrev pub invariant-loop-least : goal.invariant-loop-least
-invariant-loop-least l = (l.least ≤ passes l.list l.block) × (passes l.list l.block ≤ l.most) × (l.most ≤ length l.list) × (l.least ≤ l.at) × (2 * l.at ≤ l.least + l.most)
+invariant-loop-least l = (l.least ≤ passes l.list.entries.now l.block) × (passes l.list.entries.now l.block ≤ l.most) × (l.most ≤ length l.list.entries.now) × (l.least ≤ l.at) × (2 * l.at ≤ l.least + l.most)
 
 abbrev pub decreases-loop-least : goal.decreases-loop-least
 decreases-loop-least l = l.most - l.least

@@ -8,7 +8,7 @@ use Rattle.skip.proofs.Passing.{least-told}
 use Rattle.skip.proofs.passes_at_least.Goals as goal
 
 pub returns-then-list-at : goal.returns-then-list-at
-returns-then-list-at c = sym (lt-leb c.args.count (passes c.args.list.now c.args.block) (omega (arith, passes-le c.args.list.now c.args.block)))
+returns-then-list-at c = sym (lt-leb c.args.count (passes c.args.list.entries.now c.args.block) (omega (arith, passes-le c.args.list.entries.now c.args.block)))
 
 pub returns : goal.returns
-returns c = least-told c.args.list.now c.args.block c.args.count c.requires.rising c.if-at-eq0.false (omega arith)
+returns c = least-told c.args.list.entries.now c.args.block c.args.count c.args.list.rising c.if-at-eq0.false (omega arith)

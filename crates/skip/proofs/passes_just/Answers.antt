@@ -7,4 +7,4 @@ use Rattle.skip.proofs.Walks.{passes-le}
 use Rattle.skip.proofs.passes_just.Goals as goal
 
 pub overflow_add-count : goal.overflow_add-count
-overflow_add-count c = omega (arith, leb-true c.args.count (passes c.args.list.now c.args.block) (sym c.passes_at_least.ensures ∙ c.if-not-passes_at_least.false), passes-le c.args.list.now c.args.block)
+overflow_add-count c = omega (arith, leb-true c.args.count (passes c.args.list.entries.now c.args.block) (sym c.passes_at_least.ensures ∙ c.if-passes_at_least.true), passes-le c.args.list.entries.now c.args.block)

@@ -1,20 +1,17 @@
+use mathlib.Core.Path.{◌∙◌}
+use Prim.Native.Nat.{ℕ}
 use native.Mathlib.Omega.{arith}
-use mathlib.Core.Path.{sym, ◌∙◌}
+use Rattle.std.proofs.Common.{rules, tests}
+use Rattle.std.proofs.lemmas.Iterator.{YieldsList-from_range}
+use Rattle.std.proofs.lemmas.Iterator.Search.{all_from_yields_List}
 use lib.ListN.{length, get_or}
-use borrow.Author.Count.{below_more}
-use Rattle.seek.proofs.Everys.{here-every, every-fails}
+use Rattle.holes.proofs.Ranges.{range-all}
 use Rattle.table.specs.Steps.{may_stand}
 use Rattle.table.proofs.all_stand.Goals as goal
 
-pub returns-then-not-may_stand : goal.returns-then-not-may_stand
-returns-then-not-may_stand c =
-    let t = c.args.table.now in
-    sym (every-fails (λ q. may_stand c.args.drive q (get_or t q 0)) (length t) c.loop-place.place c.loop-place-test.true (sym c.may_stand.ensures ∙ c.if-not-may_stand.true))
-
-pub loop-place-preserved : goal.loop-place-preserved
-loop-place-preserved c = (omega arith, below_more _ _ c.loop-place.invariant.1 (sym c.may_stand.ensures ∙ c.if-not-may_stand.false))
-
 pub returns : goal.returns
 returns c =
-    let t = c.args.table.now in
-    sym (here-every (λ q. may_stand c.args.drive q (get_or t q 0)) (length t) (λ k h. c.loop-place.invariant.1 k (omega arith)))
+    let t = c.args.words.now in
+    let passes = λ (q : ℕ). may_stand c.args.layout.drive q (get_or t q 0) in
+    all_from_yields_List passes _ _ c.all.result c.all.ensures.ran (YieldsList-from_range 0 (length t) (length t) (cc) (omega arith)) (λ x b q k. search (rules, tests))
+    ∙ range-all passes (length t)

@@ -1,9 +1,13 @@
-use native.Mathlib.Omega.{arith}
-use Rattle.first_table.proofs.Bads.{counting_more, counting-all}
+-- The sectors of homes are counted, and the others are those of spares.
+use mathlib.Core.Path.{◌≡◌}
+use Rattle.std.proofs.Common.{rules}
+use Rattle.std.specs.Prelude.{count_by}
+use Rattle.layout.specs.Sides.{is_home}
+use Rattle.first_table.proofs.Bads.{counts-bad}
 use Rattle.first_table.proofs.marks.count_bad.Goals as goal
 
-pub loop-i-preserved : goal.loop-i-preserved
-loop-i-preserved c = rw c.count_one-bad.ensures (counting_more c.loop-i.invariant c.loop-i-test.true)
-
 pub returns : goal.returns
-returns c = counting-all c.loop-i.invariant c.requires.laid c.requires.proper (omega arith)
+returns c =
+    let a = c.args.bad in
+    let counted : c.count-homes.result ≡ count_by (is_home a.layout.drive) a.list.now = search rules in
+    counts-bad a.layout.laid a.proper counted

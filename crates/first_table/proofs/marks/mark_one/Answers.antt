@@ -5,4 +5,4 @@ use Rattle.first_table.proofs.Numbering.{spare-placed}
 use Rattle.first_table.proofs.marks.mark_one.Goals as goal
 
 pub bounds-room-place_of_spare : goal.bounds-room-place_of_spare
-bounds-room-place_of_spare c = omega (arith, c.place_of_spare.ensures, spare-placed c.requires.laid c.args.sector c.requires.sector_bound (sym c.is_home.ensures ∙ c.if-is_home.false))
+bounds-room-place_of_spare c = omega (arith, c.place_of_spare.ensures, spare-placed c.args.layout.laid c.args.sector c.requires.sector_bound (sym c.is_home.ensures ∙ c.if-is_home.false))

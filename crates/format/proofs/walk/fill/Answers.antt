@@ -1,9 +1,0 @@
-use Rattle.lists.proofs.Filling.{filled-all}
-use Rattle.format.proofs.Passes.{grown-none, listed-none}
-use Rattle.format.proofs.walk.fill.Goals as goal
-
-pub returns-clause-grown_after : goal.returns-clause-grown_after
-returns-clause-grown_after c = filled-all (grown-none c.args.over c.args.takes c.args.p.now c.args.g.now c.args.d.now c.loop-at.at c.loop-at.invariant.0 c.loop-at-test.false) c.loop-at.invariant.1
-
-pub returns-clause-listed_after : goal.returns-clause-listed_after
-returns-clause-listed_after c = filled-all (listed-none c.args.over c.args.takes c.args.p.now c.args.g.now c.args.d.now c.loop-at.at c.loop-at.invariant.0 c.loop-at-test.false) c.loop-at.invariant.2
