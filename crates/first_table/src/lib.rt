@@ -19,7 +19,7 @@ mod marks;
 use layout::Layout;
 use marks::BadSectors;
 use paper::Refusal;
-use shape::Shape;
+use shape::{Geometry, Shape};
 
 // That the table obeys stays a clause, as in `replacing`: the table is written.
 
@@ -81,7 +81,8 @@ fn check_first_table<'a>(
     ensures { GivesSuch (first_table_fault shape r list.now room.now) (λ bad. (bad.layout.drive ≡ drive_of shape r) × (bad.list.now ≡ list.now)) result }
 {
     let layout = Layout::new(shape, r)?;
-    lists::check_list(layout.geometry.size(), list)?;
+    let geometry = Geometry { shape };
+    lists::check_list(geometry.size(), list)?;
     let bad = BadSectors { layout, list };
     if room.len() < table::table_length(layout) {
         return Err(Refusal::NoRoom);

@@ -74,10 +74,9 @@ fn numbers(geometry: Geometry, r: u32) -> Drive
     }
 }
 
-// A revectored drive that has passed its check: its geometry and its numbers. Only other crates call its functions.
+// A revectored drive that has passed its check, by its numbers. Only other crates call its functions.
 #[derive(Clone, Copy)]
 pub struct Layout {
-    pub geometry: Geometry,
     pub drive: Drive,
     ghost laid: { Laid drive },
 }
@@ -85,12 +84,12 @@ pub struct Layout {
 impl Layout {
     // Check 1 of a revectored drive: a number of the shape, r or T × r outside its range.
     pub fn new(shape: Shape, r: u32) -> Result<Layout, Refusal>
-        ensures { GivesSuch (drive_fault shape r) (λ layout. (layout.geometry.shape ≡ shape) × (layout.drive ≡ drive_of shape r)) result }
+        ensures { GivesSuch (drive_fault shape r) (λ layout. Shaped shape × (layout.drive ≡ drive_of shape r)) result }
     {
         let geometry = Geometry::new(shape)?;
         check_spares(geometry, r)?;
         let drive = numbers(geometry, r);
-        Ok(Layout { geometry, drive })
+        Ok(Layout { drive })
     }
 
     // The place where the search for a block's spare starts.

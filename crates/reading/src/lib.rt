@@ -17,7 +17,7 @@ mod answers;
 
 pub use answers::{Pair, Spot, Track};
 use paper::{HEADER_SIZE, IMAGE_EXTRA, Refusal};
-use shape::Shape;
+use shape::{Geometry, Shape};
 use table::Table;
 
 // The tracks to fetch for a read of a block. Checks 1, 7, 11, 5.
@@ -32,7 +32,7 @@ pub fn tracks(
     ensures scratched { Scratched shape r scratch.old scratch.new }
 {
     let table = Table::check_block(shape, r, table, scratch, block)?;
-    let geometry = table.layout.geometry;
+    let geometry = Geometry { shape };
     let home = geometry.address_at(table.layout.home_sector(block));
     let there = geometry.address_at(table.lies_on(block));
     Ok(Pair {

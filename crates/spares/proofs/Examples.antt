@@ -36,9 +36,19 @@ shift-least {shift} shifts =
     let t = holding 0x30000006 0x40000000 0x40000000 0x40000000 in
     gives-accepted (block_fault small 1 t scratch 6) (shift_of (drive_of small 1) t 6) shift refl shifts
 
+-- and so much is answered
+pub shift-least-given : ShiftOf small 1 (holding 0x30000006 0x40000000 0x40000000 0x40000000) scratch 6 (Ok (negsuc 2))
+unfolding place_of first_below all_below first_or rising
+shift-least-given = (refl, refl)
+
 -- block 0 at the last place, with no free place: C − 1
 pub shift-most : {shift : Result ℤ Refusal} → ShiftOf small 1 (holding 0x40000000 0x40000000 0x40000000 0x30000000) scratch 0 shift → shift ≡ Ok (pos 3)
 unfolding place_of first_below all_below first_or rising
 shift-most {shift} shifts =
     let t = holding 0x40000000 0x40000000 0x40000000 0x30000000 in
     gives-accepted (block_fault small 1 t scratch 0) (shift_of (drive_of small 1) t 0) shift refl shifts
+
+-- and so much is answered
+pub shift-most-given : ShiftOf small 1 (holding 0x40000000 0x40000000 0x40000000 0x30000000) scratch 0 (Ok (pos 3))
+unfolding place_of first_below all_below first_or rising
+shift-most-given = (refl, refl)

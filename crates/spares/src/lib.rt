@@ -6,7 +6,7 @@ ghost use Rattle.first_table.specs.Promises.{FirstTable};
 ghost use Rattle.spares.specs.Promises.{SectorOf, AddressOf, ShiftOf, BlockOn, BlockAt, Replacement, CensusOf};
 
 use paper::Refusal;
-use shape::{Address, Shape};
+use shape::{Address, Geometry, Shape};
 use table::{Census, Table};
 
 // Shape, r, table and scratch stay one by one: the C interface lends them so, and each `tb_spare_` call hands them on as they are.
@@ -38,7 +38,8 @@ pub fn address_of(
     ensures scratched { Scratched shape r scratch.old scratch.new }
 {
     let table = Table::check_block(shape, r, table, scratch, block)?;
-    Ok(table.layout.geometry.address_at(table.lies_on(block)))
+    let geometry = Geometry { shape };
+    Ok(geometry.address_at(table.lies_on(block)))
 }
 
 // How far a block's spare is from its home. Checks 1, 7, 11, 5.
@@ -68,7 +69,8 @@ pub fn block_on(
     ensures scratched { Scratched shape r scratch.old scratch.new }
 {
     let table = Table::check(shape, r, table, scratch)?;
-    if table.layout.geometry.size() <= sector {
+    let geometry = Geometry { shape };
+    if geometry.size() <= sector {
         return Err(Refusal::NoSuchSector);
     }
     Ok(table.lying_on(sector))
@@ -88,7 +90,7 @@ pub fn block_at(
     ensures scratched { Scratched shape r scratch.old scratch.new }
 {
     let table = Table::check(shape, r, table, scratch)?;
-    let geometry = table.layout.geometry;
+    let geometry = Geometry { shape };
     shape.check_on_drive(cylinder, head, sector)?;
     Ok(table.lying_on(geometry.sector_at(cylinder, head, sector)))
 }

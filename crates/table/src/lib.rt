@@ -4,6 +4,7 @@
 ghost use Rattle.std.specs.Prelude.{◌≡◌, ◌<◌, ◌≤◌, ◌*◌, ◌^◌, length, get_or, drop};
 ghost use Rattle.seek.specs.Every.{all_below};
 ghost use Rattle.paper.specs.Promise.{GivesSuch};
+ghost use Rattle.shape.specs.Shapes.{Shaped};
 ghost use Rattle.layout.specs.Layouts.{drive_of, sectors_per_track};
 ghost use Rattle.order.specs.Steps.{Finds};
 ghost use Rattle.table.specs.Rules.{table_fault, block_fault};
@@ -102,7 +103,7 @@ impl<'a> Table<'a> {
         words: &'a [u32],
         scratch: &mut [u32],
     ) -> Result<Table<'a>, Refusal>
-        ensures value { GivesSuch (table_fault shape r words.now scratch.old) (λ table. (table.layout.geometry.shape ≡ shape) × (table.layout.drive ≡ drive_of shape r) × (table.words.now ≡ words.now)) result }
+        ensures value { GivesSuch (table_fault shape r words.now scratch.old) (λ table. Shaped shape × (table.layout.drive ≡ drive_of shape r) × (table.words.now ≡ words.now)) result }
         ensures scratch_after { scratch.new ≡ scratch_after shape r scratch.old }
     {
         let layout = Layout::new(shape, r)?;
@@ -125,7 +126,7 @@ impl<'a> Table<'a> {
         scratch: &mut [u32],
         block: u32,
     ) -> Result<Table<'a>, Refusal>
-        ensures value { GivesSuch (block_fault shape r words.now scratch.old block) (λ table. (table.layout.geometry.shape ≡ shape) × (table.layout.drive ≡ drive_of shape r) × (table.words.now ≡ words.now) × (block < table.layout.drive.blocks)) result }
+        ensures value { GivesSuch (block_fault shape r words.now scratch.old block) (λ table. Shaped shape × (table.layout.drive ≡ drive_of shape r) × (table.words.now ≡ words.now) × (block < table.layout.drive.blocks)) result }
         ensures scratched { Scratched shape r scratch.old scratch.new }
     {
         let table = Table::check(shape, r, words, scratch)?;

@@ -9,5 +9,5 @@ pub invariant_of-bad : goal.invariant_of-bad
 invariant_of-bad c =
     let a = c.args in
     let shown = drive-shows a.shape a.r c.in_ok-layout.ensures.0 in
-    let proper = list-shows (size_of a.shape) a.list.now (rw (c.size.ensures, c.in_ok-layout.ensures.1.0) at c.in_ok-check_list.ensures.0) in
+    let proper = list-shows (size_of a.shape) a.list.now (rw c.size.ensures at c.in_ok-check_list.ensures.0) in
     record { proper = rw c.in_ok-layout.ensures.1.1 (laid-proper shown.1 proper) }

@@ -1,5 +1,6 @@
 -- The difference of the two cylinders that the look-up finds is the shift.
 use Prim.Native.Nat.{◌<◌}
+use native.Mathlib.Omega.{arith}
 use mathlib.Core.Path.{◌≡◌, sym, ◌∙◌, ap}
 use lib.IntN.{pos, ◌-ℤ◌}
 use Rattle.paper.specs.Limits.{units_most}
@@ -21,23 +22,23 @@ few c =
     let same = c.in_ok-table.ensures.value.1 in
     let sound = block-sound a.shape a.r a.table.now a.scratch.now a.block none in
     let below = block-below a.shape a.r a.table.now a.scratch.now a.block none in
-    let home : c.address_at-home.result ≡ address_at a.shape (home_sector (drive_of a.shape a.r) a.block) = c.address_at-home.ensures ∙ rw (c.home_sector.ensures, same.0, same.1) in
-    let there : c.address_at-there.result ≡ address_at a.shape (lies_on (drive_of a.shape a.r) a.table.now a.block) = c.address_at-there.ensures ∙ rw (c.lies_on.ensures, same.0, same.1, same.2) in
+    let home : c.address_at-home.result ≡ address_at a.shape (home_sector (drive_of a.shape a.r) a.block) = c.address_at-home.ensures ∙ rw (c.home_sector.ensures, same.1) in
+    let there : c.address_at-there.result ≡ address_at a.shape (lies_on (drive_of a.shape a.r) a.table.now a.block) = c.address_at-there.ensures ∙ rw (c.lies_on.ensures, same.1, same.2) in
     (rw home (home-address-few sound a.block below), rw there (lying-address-few sound a.block below))
 
 pub cylinders_between-requires-clause-home_lt_units_most : goal.cylinders_between-requires-clause-home_lt_units_most
-cylinders_between-requires-clause-home_lt_units_most c = (few c).0
+cylinders_between-requires-clause-home_lt_units_most c = omega (arith, (few c).0, (few c).1)
 
 pub cylinders_between-requires-clause-there_lt_units_most : goal.cylinders_between-requires-clause-there_lt_units_most
-cylinders_between-requires-clause-there_lt_units_most c = (few c).1
+cylinders_between-requires-clause-there_lt_units_most c = omega (arith, (few c).0, (few c).1)
 
 pub returns-clause-tracks_of : goal.returns-clause-tracks_of
 returns-clause-tracks_of c =
     let a = c.args in
     let none = c.in_ok-table.ensures.value.0 in
     let same = c.in_ok-table.ensures.value.1 in
-    let home : c.address_at-home.result ≡ address_at a.shape (home_sector (drive_of a.shape a.r) a.block) = c.address_at-home.ensures ∙ rw (c.home_sector.ensures, same.0, same.1) in
-    let there : c.address_at-there.result ≡ address_at a.shape (lies_on (drive_of a.shape a.r) a.table.now a.block) = c.address_at-there.ensures ∙ rw (c.lies_on.ensures, same.0, same.1, same.2) in
+    let home : c.address_at-home.result ≡ address_at a.shape (home_sector (drive_of a.shape a.r) a.block) = c.address_at-home.ensures ∙ rw (c.home_sector.ensures, same.1) in
+    let there : c.address_at-there.result ≡ address_at a.shape (lies_on (drive_of a.shape a.r) a.table.now a.block) = c.address_at-there.ensures ∙ rw (c.lies_on.ensures, same.1, same.2) in
     let shift : c.cylinders_between.result ≡ shift_of (drive_of a.shape a.r) a.table.now a.block =
     c.cylinders_between.ensures
     ∙ ap (λ (at : Address). pos at.cylinder -ℤ pos c.address_at-home.result.cylinder) there

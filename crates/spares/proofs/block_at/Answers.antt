@@ -11,4 +11,4 @@ lying_on-requires c =
     let passed = c.in_ok-table.ensures.value in
     let sound = table-sound a.shape a.r a.table.now a.scratch.now passed.0 in
     let on-drive = place-shows a.shape a.cylinder a.head a.sector c.in_ok-check_on_drive.ensures in
-    rw (passed.1.1, c.sector_at.ensures, passed.1.0) (sector-within sound.spared (sector-below sound.shaped on-drive))
+    rw (passed.1.1, c.sector_at.ensures) (sector-within sound.spared (sector-below sound.shaped on-drive))
