@@ -1,14 +1,16 @@
 -- The laws of how many places of two rows differ: none exactly where they are the same row, and how many of those that both have, beside those that one lacks.
 -- Assumes nothing.
-use Prim.Native.Nat.{ℕ, ◌+◌, ◌-◌}
+use Prim.Native.Nat.{ℕ, ◌+◌, ◌-◌, ◌<◌}
 use mathlib.Core.Path.{◌≡◌, refl, sym, ◌∙◌, ap}
 use mathlib.Core.List.{List, [], ◌∷◌}
 use mathlib.Core.Bool.{Bool, not, cond}
 use native.Mathlib.Omega.{arith}
 use Rattle.std.specs.List.{count_by, zip}
 use Rattle.std.proofs.lemmas.List.Recursion.{is_count_by}
+use Rattle.std.proofs.lemmas.List.Sums.{sum_by_more}
+use Rattle.std.proofs.lemmas.Slice.Zip.{length-zip, get_or-zip}
 use lib.Dec.{eqb}
-use lib.ListN.{length, replicate}
+use lib.ListN.{length, get_or, replicate, take}
 use borrow.Author.Tests.{eq-eqb, ne_eqb}
 use Rattle.paper.proofs.Cases.{by_eq}
 use Rattle.comparing.specs.Differing.{unlike, differing}
@@ -62,3 +64,13 @@ unfolding differing
 changed-is [] before = refl
 changed-is (x ∷ room) before =
     count-first (λ x. not (eqb x before)) x room ∙ (not-same x before _ ∙ ap (λ (k : ℕ). unlike x before + k) (changed-is room before))
+
+-- the pairs of two rows that differ, counted from pair to pair
+pub pairs-more :
+    (a b : List ℕ) (i : ℕ) → i < length a → i < length b →
+    count_by (λ (both : ℕ × ℕ). not (eqb both.0 both.1)) (take (i + 1) (zip a b))
+    ≡ count_by (λ (both : ℕ × ℕ). not (eqb both.0 both.1)) (take i (zip a b)) + cond (not (eqb (get_or a i 0) (get_or b i 0))) 1 0
+pairs-more a b i left right =
+    let within : i < length (zip a b) = omega (arith, length-zip a b) in
+    sum_by_more (λ (both : ℕ × ℕ). cond (not (eqb both.0 both.1)) 1 0) (zip a b) i (0, 0) within
+    ∙ rw (get_or-zip a b i (0, 0) left right) refl

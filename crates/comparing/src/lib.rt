@@ -22,7 +22,11 @@ fn unlike(a: &[u32], b: &[u32]) -> usize
     ensures value { result ≡ count_by (λ both. not (both.0 == both.1)) (zip a.now b.now) }
     ensures upper_bound { result ≤ length a.now }
 {
-    a.iter().zip(b).filter(|(x, y)| **x != **y).count()
+    let mut count = 0;
+    for (x, y) in a.iter().zip(b) {
+        count += usize::from(*x != *y);
+    }
+    count
 }
 
 // At how many places two rows differ; a place that one of them lacks differs too. Only other crates call this.
@@ -36,7 +40,11 @@ pub fn differing(a: &[u32], b: &[u32]) -> usize
 pub fn changed<T: Copy + PartialEq>(room: &[T], before: T) -> usize
     ensures { result ≡ count_by (λ x. not (T.eq x before)) room.now }
 {
-    room.iter().filter(|x| **x != before).count()
+    let mut count = 0;
+    for x in room {
+        count += usize::from(*x != before);
+    }
+    count
 }
 
 // Of numbers and of bytes, these are the places where the room differs from one that is full of that value.
