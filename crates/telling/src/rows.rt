@@ -30,12 +30,15 @@ impl<'a> fmt::Display for Bytes<'a> {
     }
 }
 
-// Bytes that are characters of ASCII, as those characters. Only other crates make this.
+// Bytes that are text, as that text, in one piece; bytes that are none, each as the character of its number. Only other crates make this.
 #[derive(Clone, Copy)]
 pub struct Text<'a>(pub &'a [u8]);
 
 impl<'a> fmt::Display for Text<'a> {
     fn fmt<W: fmt::Write>(&self, f: &mut fmt::Formatter<W>) -> fmt::Result {
+        if let Ok(text) = str::from_utf8(self.0) {
+            return f.write_str(text);
+        }
         for byte in self.0 {
             let character = char::from(*byte);
             write!(f, "{character}")?;
