@@ -83,7 +83,7 @@ module _ (size block code : ℕ) (bytes : List ℕ) (long : length bytes ≡ siz
   image-names forced result promise = header-answers size (image_of number bytes forced) code block result promise (image-long forced) (head-says forced)
 
   -- for any other block or code it is refused 16
-  other-fault :
+  pub other-fault :
       (forced : Bool) (other-block other-code : ℕ) → ((other-block ≡ block) × (other-code ≡ code) → ⊥) →
       image_fault size (image_of number bytes forced) other-block other-code ≡ other_block
   other-fault forced other-block other-code other =
@@ -112,10 +112,10 @@ module _ (size block code : ℕ) (bytes : List ℕ) (long : length bytes ≡ siz
         ∙ pair-says (image_of number bytes forced) size block code number (word-says known below)
         ∙ (rw long at found)
 
-    good-fault : image_fault size (image_of number bytes false) block code ≡ 0
+    pub good-fault : image_fault size (image_of number bytes false) block code ≡ 0
     good-fault = pair-fault false (written-good number bytes fits h)
 
-    forced-fault : image_fault size (image_of number bytes true) block code ≡ forced_error
+    pub forced-fault : image_fault size (image_of number bytes true) block code ≡ forced_error
     forced-fault = pair-fault true (written-forced number bytes fits h)
 
     -- it is judged as it was written
