@@ -71,10 +71,10 @@ module _ (size block code : ℕ) (bytes : List ℕ) (long : length bytes ≡ siz
   fits : number < 2 ^ 32
   fits = word_fits (known-few known) below
 
-  image-long : (forced : Bool) → length (image_of number bytes forced) ≡ size + image_extra
+  pub image-long : (forced : Bool) → length (image_of number bytes forced) ≡ size + image_extra
   image-long forced = rw long at (length-image number bytes forced)
 
-  head-says : (forced : Bool) → HeadSays (image_of number bytes forced) code block
+  pub head-says : (forced : Bool) → HeadSays (image_of number bytes forced) code block
   head-says forced = record { number = number; stands = written_stands number bytes forced fits; says = word-says known below }
 
   -- its header answers them
