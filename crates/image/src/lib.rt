@@ -169,7 +169,7 @@ fn put_header(room: &mut [u8], number: u32)
     words::put32(room, 12, number);
 }
 
-// Writes bytes at a place. Only other crates call this.
+// Writes bytes at a place. Other crates may call this too.
 // A room and a place stay, as in `words`: the definitions write a list at a place.
 pub fn put_bytes(room: &mut [u8], at: usize, bytes: &[u8])
     requires { at + length bytes.now ≤ length room.old }

@@ -74,7 +74,7 @@ fn numbers(geometry: Geometry, r: u32) -> Drive
     }
 }
 
-// A revectored drive that has passed its check, by its numbers. Only other crates call its functions.
+// The numbers of a revectored drive, known to fit together as those of a drive that passes the check do. Only other crates call its functions.
 #[derive(Clone, Copy)]
 pub struct Layout {
     pub drive: Drive,
